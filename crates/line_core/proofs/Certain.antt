@@ -1,6 +1,6 @@
 -- Two tests at each cell, whether it can be filled and whether it can be blank, tell the deduction.
-use Rattle.line_core.proofs.Names.{rules, ◌≡◌, ℕ, Bool, true, false, not, List, get_or, refl, ap, false_from_ne_true, Cell, shared_at, agrees, runs, certain_by, true_from_ne_false}
-use Rattle.line_core.proofs.DeductionLaws.{IsPlacing, ListsPlacings, not_all, filled_at, blank_at, agrees-Extends, Extends-agrees}
+use Rattle.line_core.proofs.Names.{rules, ◌≡◌, ℕ, Bool, true, false, List, get_or, refl, false_from_ne_true, Cell, shared_at, agrees, runs, certain_by, true_from_ne_false}
+use Rattle.line_core.proofs.DeductionLaws.{IsPlacing, ListsPlacings, not_all, filled_at, blank_at, agrees_is}
 
 -- the line has a placing with a colour at a cell
 abbrev pub CanBe : List Cell → List ℕ → Bool → ℕ → Type 0
@@ -15,9 +15,5 @@ pub certain_is : (l : List Cell) (clue : List ℕ) (ps : List (List Bool)) (k : 
     → (f b : Bool) → Tells (CanBe l clue true k) f → Tells (CanBe l clue false k) b → shared_at ps k ≡ certain_by f b
 certain_is l clue ps k listed y p true true tf tb =
     let x = tf.to refl in
-    let z = tb.to refl in
-    rw (
-      not_all l clue ps listed (filled_at k) z.0 (record { extends = agrees-Extends l z.0 z.1; runs_are = z.2 }) z.3,
-      not_all l clue ps listed (blank_at k) x.0 (record { extends = agrees-Extends l x.0 x.1; runs_are = x.2 }) (ap not x.3),
-    ) refl
-certain_is l clue ps k listed y p f b tf tb = search (rules, true_from_ne_false, false_from_ne_true, not_all, agrees-Extends, Extends-agrees)
+    let z = tb.to refl in search (rules, not_all l clue ps listed (filled_at k) z.0, not_all l clue ps listed (blank_at k) x.0, agrees_is)
+certain_is l clue ps k listed y p f b tf tb = search (rules, true_from_ne_false, false_from_ne_true, not_all, agrees_is)

@@ -1,5 +1,5 @@
 -- Masks of both colours: what they have, and what they have once others are added.
-use Rattle.line_core.proofs.Names.{eqb-true, rules, ◌≡◌, ◌↔◌, ℕ, ◌+◌, ◌-◌, ◌<◌, Bool, true, false, List, length, get_or, sym, ap, subst, arith, ◌⊎◌, inl, inr, cases_lt, Has, IsMaskOf, has_of, join_of, none_has, nat_eq, get_or_read, cases_eq, IsMarked, ColourMasks, no_colours, AreBothSides, AreMasks, AreMore, HasColour}
+use Rattle.line_core.proofs.Names.{eqb-true, rules, ◌≡◌, ◌↔◌, ℕ, ◌+◌, ◌-◌, ◌<◌, Bool, true, false, List, length, get_or, sym, subst, arith, ◌⊎◌, inl, inr, cases_lt, Has, IsMaskOf, has_of, join_of, none_has, nat_eq, get_or_read, cases_eq, IsMarked, ColourMasks, no_colours, AreBothSides, AreMasks, AreMore, HasColour}
 
 -- what the masks have, colour by colour
 pub masks_are : (P : Bool → ℕ → Type 0) (m : ColourMasks) → AreMasks P m → (d : Bool) (k : ℕ) → HasColour m d k ↔ P d k
@@ -51,10 +51,7 @@ pub both_are : (len : ℕ) (near_view near far_view far : ColourMasks) (turned_f
     → IsMaskOf (λ i. Has near_view.blankable i ⊎ Has turned_blank i) blank
     → AreBothSides len near far (record { fillable = filled; blankable = blank })
 both_are len near_view near far_view far turned_filled turned_blank filled blank e f a b c d =
-    rw (sym e, sym f) (record {
-      fillable_is = join_of _ _ _ _ _ (has_of _) a b;
-      blankable_is = join_of _ _ _ _ _ (has_of _) c d;
-    })
+    rw (sym e, sym f) (record { fillable_is = join_of _ _ _ _ _ (has_of _) a b; blankable_is = join_of _ _ _ _ _ (has_of _) c d })
 
 -- ---- one more number
 
@@ -62,26 +59,18 @@ both_are len near_view near far_view far turned_filled turned_blank filled blank
 abbrev pub Below : ℕ → (ℕ → Bool → ℕ → Type 0) → Bool → ℕ → Type 0
 Below count P filled k = (j : ℕ) × (j < count) × P j filled k
 
--- no colours have no cell
-no_colour : (m : ColourMasks) (d : Bool) (k : ℕ) → m ≡ no_colours → HasColour m d k → ⊥
-no_colour m true k e h = none_has m.fillable k (ap (λ (c : ColourMasks). c.fillable) e) h
-no_colour m false k e h = none_has m.blankable k (ap (λ (c : ColourMasks). c.blankable) e) h
-
 pub no_below : (P : ℕ → Bool → ℕ → Type 0) (m : ColourMasks) → m ≡ no_colours → AreMasks (Below 0 P) m
-no_below P m e = masks_of (Below 0 P) m (λ d k. (λ h. absurd (no_colour m d k e h), λ h. absurd (omega (arith, h.1))))
+no_below P m e = rw e (masks_of (Below 0 P) no_colours (λ d k. search (rules, none_has)))
 
 pub one_below : (P : ℕ → Bool → ℕ → Type 0) (j : ℕ) (old new : ColourMasks) → AreMasks (Below j P) old → AreMore (P j) old new
     → AreMasks (Below (j + 1) P) new
-one_below P j old new a b = masks_same _ _ new b (λ d k. (to d k, from d k))
-  where
-    to : (d : Bool) (k : ℕ) → HasColour old d k ⊎ P j d k → Below (j + 1) P d k
-    to d k h = search (rules, masks_are _ old a d k)
-
-    from : (d : Bool) (k : ℕ) → Below (j + 1) P d k → HasColour old d k ⊎ P j d k
-    from d k (q, h, x) = elim (cases_lt q j) [
-      | inl low ↦ inl ((masks_are _ old a d k).1 (q, low, x))
-      | inr high ↦ (let e : q ≡ j = omega arith in inr (rw (sym e) x))
-    ]
+one_below P j old new a b = masks_same _ _ new b (λ d k. (
+  λ h. search (rules, masks_are _ old a d k),
+  λ (q, h, x). elim (cases_lt q j) [
+    | inl low ↦ inl ((masks_are _ old a d k).1 (q, low, x))
+    | inr high ↦ (let e : q ≡ j = omega arith in inr (rw (sym e) x))
+  ],
+))
 
 -- ---- a walk over the places of a mask
 
@@ -98,13 +87,7 @@ added_more places left next p P old sum new a here marked more = record {
   within = λ i h. elim (marked.to i h) [ inl x ↦ a.within i x.0 | inr x ↦ a.within i (rw x.0 here) ];
   to = λ d k h. elim ((masks_are _ new more d k).0 h) [ inl x ↦ a.to d k x | inr x ↦ inr (p, a.within p here, x) ];
   kept = λ d k h. (masks_are _ new more d k).1 (inl (a.kept d k h));
-  added = λ i d k h x. elim (a.added i d k h x) [
-    | inr y ↦ inr ((masks_are _ new more d k).1 (inl y))
-    | inl y ↦ elim (cases_eq i p) [
-      | inl e ↦ inr ((masks_are _ new more d k).1 (inr (rw (sym e) x)))
-      | inr ne ↦ inl (marked.from i (inl (y, ne)))
-    ]
-  ];
+  added = λ i d k h x. search (rules, a.added i d k h x, cases_eq i p, masks_are _ new more d k, marked.from i);
 }
 
 pub added_all : (places left : ℕ) (P : ℕ → Bool → ℕ → Type 0) (old new : ColourMasks) → AreAdded places left P old new → nat_eq left 0 ≡ true
@@ -112,8 +95,5 @@ pub added_all : (places left : ℕ) (P : ℕ → Bool → ℕ → Type 0) (old n
 added_all places left P old new a none =
     masks_of _ new (λ d k. (
       a.to d k,
-      λ h. elim h [
-        | inl x ↦ a.kept d k x
-        | inr x ↦ elim (a.added x.0 d k x.1 x.2) [ inl y ↦ absurd (none_has left x.0 (eqb-true left 0 none) y) | inr y ↦ y ]
-      ],
+      λ h. search (rules, h, a.kept d k, a.added, none_has left, eqb-true left 0 none),
     ))

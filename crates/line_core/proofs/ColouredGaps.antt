@@ -1,21 +1,18 @@
 -- What can be on a line before a gap, once one of its cells is coloured: step by step along the line.
-use Rattle.line_core.proofs.Names.{◌↔◌, HasColour, AreColoursBefore, rules, ◌≡◌, ◌≢◌, ℕ, zero, suc, ◌+◌, ◌-◌, ◌<◌, ◌≤◌, Bool, true, false, List, [], ◌∷◌, length, refl, sym, ap, ◌∙◌, subst, arith, add-one, ◌⊎◌, inl, inr, get_or, drop, cases_lt, and_from, and_parts, Cell, Unknown, allows, agrees, behind, MayBe, IsGapAfter, IsEndAfter, IsGap, IsGapAhead, IsWholeEnd, IsFlooded, AllFrom, Has, IsMaskOf, mask_same, length-set, get_or-set_other, get_or-set_same, replicate, ◌++◌, drop-cons, cases_eq, colour, ColourMasks, no_colours, coloured, CanBeBefore, IsWholeGap, IsReady}
+use Rattle.line_core.proofs.Names.{◌↔◌, HasColour, AreColoursBefore, rules, ◌≡◌, ◌≢◌, ℕ, zero, suc, ◌+◌, ◌-◌, ◌<◌, ◌≤◌, Bool, true, false, List, [], ◌∷◌, length, refl, sym, ap, ◌∙◌, arith, add-one, ◌⊎◌, inl, inr, get_or, drop, cases_lt, and_from, and_parts, Cell, Unknown, allows, agrees, behind, MayBe, IsGapAfter, IsEndAfter, IsGap, IsGapAhead, IsWholeEnd, IsFlooded, AllFrom, Has, IsMaskOf, mask_same, length-set, get_or-set_other, get_or-set_same, replicate, ◌++◌, drop-cons, cases_eq, colour, ColourMasks, no_colours, coloured, CanBeBefore, IsWholeGap, IsReady}
 use Rattle.line_core.proofs.Joining.{closed_behind_to, closed_behind_from, closed_ahead_from, agrees_span, runs_first}
 use Rattle.line_core.proofs.Reaching.{gap_after_to, gap_after_from, first_gap_to, first_gap_from}
 
-pub colour_allows : (v w : Bool) → allows (colour v) w ≡ true → v ≡ w
-colour_allows v w h = search rules
-
-pub colour_same : (v : Bool) → allows (colour v) v ≡ true
-colour_same v = search rules
+pub colour_is : (v w : Bool) → (allows (colour v) w ≡ true) ↔ (v ≡ w)
+colour_is v w = search rules
 
 -- a coloured cell has that colour alone
 pub coloured_one : (l : List Cell) (k : ℕ) (v w : Bool) → k < length l → MayBe (coloured l k v) w k → v ≡ w
-coloured_one l k v w h m = colour_allows v w (rw (get_or-set_same l k (colour v) Unknown h) at m.1)
+coloured_one l k v w h m = (colour_is v w).0 (rw (get_or-set_same l k (colour v) Unknown h) at m.1)
 
 -- and can have it
 pub coloured_same : (l : List Cell) (k : ℕ) (v : Bool) → k < length l → MayBe (coloured l k v) v k
-coloured_same l k v h = rw (length-set l k (colour v), get_or-set_same l k (colour v) Unknown h) (h, colour_same v)
+coloured_same l k v h = rw (length-set l k (colour v), get_or-set_same l k (colour v) Unknown h) (h, (colour_is v v).1 refl)
 
 -- another cell is as it was
 pub coloured_other : (l : List Cell) (k : ℕ) (v w : Bool) (x : ℕ) → x ≢ k → MayBe l w x → MayBe (coloured l k v) w x
@@ -24,10 +21,7 @@ coloured_other l k v w x ne m = rw (length-set l k (colour v), get_or-set_other 
 -- a cell may be no more than before another or it has a colour that it may have
 coloured_allows : (l : List Cell) (k : ℕ) (v : Bool) → MayBe l v k → (w : Bool) (x : ℕ)
     → allows (get_or (coloured l k v) x Unknown) w ≡ true → allows (get_or l x Unknown) w ≡ true
-coloured_allows l k v here w x m = elim (cases_eq x k) [
-  | inl e ↦ (let same = colour_allows v w (rw (e, get_or-set_same l k (colour v) Unknown here.0) at m) in rw (e, sym same) here.1)
-  | inr ne ↦ rw (get_or-set_other l k x (colour v) Unknown ne) at m
-]
+coloured_allows l k v here w x m = search (rules, cases_eq x k, colour_is v w, get_or-set_same, get_or-set_other)
 
 pub coloured_less : (l : List Cell) (k : ℕ) (v : Bool) → MayBe l v k → (w : Bool) (x : ℕ) → MayBe (coloured l k v) w x → MayBe l w x
 coloured_less l k v here w x m = (omega (arith, m.0, length-set l k (colour v)), coloured_allows l k v here w x m.1)
@@ -44,9 +38,7 @@ gap_less l k v here rs i g = search (rules, coloured_less, agrees_less)
 
 -- and so is an end
 pub end_less : (l : List Cell) (k : ℕ) (v : Bool) → MayBe l v k → (rs : List ℕ) (n e : ℕ) → IsEndAfter (coloured l k v) rs n e → IsEndAfter l rs n e
-end_less l k v here rs n e x =
-    let y = x.1.0 in
-    (x.0, ((y.0, agrees_less l k v here (e + 1 - n) y.0 y.1, y.2, y.3), (λ z b. coloured_less l k v here true (e + 1 - n + z) (x.1.1 z b))))
+end_less l k v here rs n e x = search (rules, agrees_less l k v here (e + 1 - n), coloured_less l k v here true, x.1.1)
 
 -- the cells behind a place are as they were if the colour is further on
 pub behind_coloured : (l : List Cell) (k : ℕ) (v : Bool) (i : ℕ) → i ≤ k → behind Unknown (coloured l k v) i ≡ behind Unknown l i
@@ -78,8 +70,7 @@ end_step_to l rs n e k v some here le x =
     elim (cases_lt k (e + 1 - n)) [
       | inl low ↦
           (let gap = closed_behind_to (coloured l k v) rs (e + 1 - n) (omega (arith, length-set l k (colour v))) x.1.0 in
-          let start : e + 1 - n - 1 ≡ e - n = omega arith in
-          search rules)
+          let start : e + 1 - n - 1 ≡ e - n = omega arith in search rules)
       | inr high ↦
           (let at : e + 1 - n + (k - (e + 1 - n)) ≡ k = omega arith in
           inl (coloured_one l k v true here.0 (rw at at (x.1.1 (k - (e + 1 - n)) (omega arith))), high, le))
@@ -90,10 +81,8 @@ pub end_step_from : (l : List Cell) (rs : List ℕ) (n e k : ℕ) (v : Bool) →
 end_step_from l rs n e k v x (inl (true_is, from, to)) =
     let at : e + 1 - n + (k - (e + 1 - n)) ≡ k = omega (arith, x.0) in
     let here = rw at at (x.1.1 (k - (e + 1 - n)) (omega (arith, x.0))) in
-    let cells : AllFrom (MayBe (coloured l k v) true) n (e + 1 - n) = λ z b. elim (cases_eq (e + 1 - n + z) k) [
-      | inl same ↦ rw (same, true_is) (coloured_same l k true here.0)
-      | inr ne ↦ coloured_other l k v true (e + 1 - n + z) ne (x.1.1 z b)
-    ] in
+    let cells : AllFrom (MayBe (coloured l k v) true) n (e + 1 - n) =
+    λ z b. search (rules, cases_eq (e + 1 - n + z) k, true_is, coloured_same l k true here.0, coloured_other, x.1.1 z b) in
     search (rules, behind_coloured)
 end_step_from l rs n e k v x (inr (enough, (low, may, gap))) =
     let start : e - n ≡ e + 1 - n - 1 = omega arith in
@@ -110,23 +99,20 @@ pub before_to : (l : List Cell) (rs : List ℕ) (n i : ℕ) (v : Bool) (k : ℕ)
 before_to l rs n i v k some h = elim (cases_eq k i) [
   | inl e ↦ inl (e, coloured_one l k v false h.1.0 (rw (sym e) at h.2.0))
   | inr ne ↦
-      (let le : k ≤ i = h.0 in
-      let s = gap_step_to (coloured l k v) rs n i some h.2 in
-      inr (
-        s.0,
-        elim s.1 [
-          | inl g ↦ inl (omega arith, h.1, g)
-          | inr x ↦ inr (end_less l k v h.1 rs n (i - 1) x, end_step_to l rs n (i - 1) k v some h.1 (omega arith) x)
-        ],
-      ))
+      (let s = gap_step_to (coloured l k v) rs n i some h.2 in
+      let le : k ≤ i - 1 = omega (arith, h.0, s.0) in
+      elim s.1 [
+        | inl g ↦ inr (s.0, inl (le, h.1, g))
+        | inr x ↦ inr (s.0, inr (end_less l k v h.1 rs n (i - 1) x, end_step_to l rs n (i - 1) k v some h.1 le x))
+      ])
 ]
 
 pub before_from : (l : List Cell) (rs : List ℕ) (n i : ℕ) (v : Bool) (k : ℕ) → 0 < n → IsGapAfter l (n ∷ rs) i → Step l rs n i v k
     → CanBeBefore l (n ∷ rs) i v k
 before_from l rs n i v k some g (inl (at, blank)) = search (rules, at, blank, behind_coloured, coloured_same)
 before_from l rs n i v k some g (inr (h, inl x)) = search (rules, gap_step_from (coloured l k v) rs n i some, coloured_other)
-before_from l rs n i v k some g (inr (h, inr x)) =
-    let y = end_step_from l rs n (i - 1) k v x.0 x.1 in search (rules, gap_step_from (coloured l k v) rs n i some, coloured_other)
+before_from l rs n i v k some g (inr (h, inr (x, y))) =
+    search (rules, end_step_from l rs n (i - 1) k v x y, gap_step_from (coloured l k v) rs n i some, coloured_other)
 
 -- ---- before the first run
 
@@ -147,29 +133,24 @@ first_to l i v k h = (h.0, coloured_one l k v false h.1.0 (blank_to (coloured l 
 
 pub first_from : (l : List Cell) (i k : ℕ) → IsGapAfter l [] i → k ≤ i → CanBeBefore l [] i false k
 first_from l i k g le =
-    let cells = blank_to l i (first_gap_from l i g) in (
-      le,
-      cells k le,
-      first_gap_to (coloured l k false) i (blank_from (coloured l k false) i (λ x b. elim (cases_eq x k) [
-        | inl e ↦ rw e (coloured_same l k false (cells k le).0)
-        | inr ne ↦ coloured_other l k false false x ne (cells x b)
-      ])),
-    )
+    let cells = blank_to l i (first_gap_from l i g) in
+    let gap = blank_from (coloured l k false) i
+    (λ x b. search (rules, cases_eq x k, coloured_same l k false (cells k le).0, coloured_other, cells x b)) in
+    (le, cells k le, first_gap_to (coloured l k false) i gap)
 
 -- ---- the gaps and ends of whole placings
 
 -- one cell before a gap of a whole placing is one too, if the cells before allow it
 pub whole_back : (l : List Cell) (clue : List ℕ) (j i : ℕ) → j ≤ length clue → 1 ≤ i → IsGapAhead l clue j i → IsGap l clue j (i - 1)
     → IsWholeGap l clue j (i - 1)
-whole_back l clue j zero jl some a g = absurd (omega arith)
-whole_back l clue j (suc i) jl some a g = let b = closed_ahead_from l clue j (suc i) (inr a) in search (rules, add-one)
+whole_back l clue j i jl some a g =
+    let same : i - 1 + 1 ≡ i = omega arith in let b = closed_ahead_from l clue j i (inr a) in search (rules, same)
 
 -- and so is the end of the run before
 pub whole_end_back : (l : List Cell) (clue : List ℕ) (j i : ℕ) → 1 ≤ i → IsGapAhead l clue (suc j) i
     → IsEndAfter l (behind 0 clue j) (get_or clue j 0) (i - 1) → IsWholeEnd l clue j (i - 1)
 whole_end_back l clue j i some a e =
-    let same : i - 1 + 1 ≡ i = omega arith in
-    (e, rw (same, add-one j) (closed_ahead_from l clue (suc j) i (inr a)))
+    let same : i - 1 + 1 ≡ i = omega arith in (e, rw (same, add-one j) (closed_ahead_from l clue (suc j) i (inr a)))
 
 -- a gap before a run of a whole placing is one of a whole placing
 pub whole_before_end : (l : List Cell) (clue : List ℕ) (j e : ℕ) → j < length clue → 0 < get_or clue j 0 → get_or clue j 0 ≤ e
@@ -180,15 +161,11 @@ whole_before_end l clue j e jl some far w =
     let start : s - 1 ≡ e - c = omega arith in
     let next : e - c + 1 ≡ s = omega arith in
     let first : s + 0 < length l = (w.0.1.1 0 some).0 in
-    elim (closed_behind_to l (behind 0 clue j) s (omega arith) w.0.1.0) [
-      | inl none ↦ absurd (omega (arith, none.0))
-      | inr gap ↦
-          (let g = subst (IsGapAfter l (behind 0 clue j)) start gap.1 in
-          let b = w.1 in
-          let agree = agrees_span l true c s (e + 1) b.0 (omega arith) w.0.1.1 b.1 in
-          let clue_at : c ∷ drop (j + 1) clue ≡ drop j clue = rw add-one (sym (drop-cons clue j 0 jl)) in
-          (g, (g.0, (replicate c true ++ b.0, rw next agree, runs_first c b.0 some b.3 ∙ ap (λ (rs : List ℕ). c ∷ rs) b.2 ∙ clue_at))))
-    ]
+    let g : IsGapAfter l (behind 0 clue j) (e - c) = search (rules, closed_behind_to l (behind 0 clue j) s (omega arith) w.0.1.0, start) in
+    let b = w.1 in
+    let agree = agrees_span l true c s (e + 1) b.0 (omega arith) w.0.1.1 b.1 in
+    let clue_at : c ∷ drop (j + 1) clue ≡ drop j clue = rw add-one (sym (drop-cons clue j 0 jl)) in
+    (g, (g.0, (replicate c true ++ b.0, rw next agree, runs_first c b.0 some b.3 ∙ ap (λ (rs : List ℕ). c ∷ rs) b.2 ∙ clue_at)))
 
 -- ---- masks of what can be before a gap, from those further back
 
@@ -215,29 +192,22 @@ told_is l rs n i longer ended before row some far r v k = (λ t. before_from l r
 
     to : Told n i longer ended before row v k → Step l rs n i v k
     to (inl at) = inl at
-    to (inr (inl (h, x))) = inr (far h, inl ((in_row h).0 x))
-    to (inr (inr (h, inl (f, a, b)))) = inr (omega arith, inr (r.ended_to h, inl (f, omega arith, omega arith)))
-    to (inr (inr (h, inr (a, x)))) = inr (omega arith, inr (r.ended_to h, inr (omega arith, (in_before h a).0 x)))
+    to (inr x) = search (rules, in_row, r.ended_to, in_before)
 
     from : Step l rs n i v k → Told n i longer ended before row v k
     from (inl at) = inl at
     from (inr (h, inl y)) = let x = r.longer_from h (gap_less l k v y.1 (n ∷ rs) (i - 1) y.2) in inr (inl (x, (in_row x).1 y))
-    from (inr (h, inr (e, inl (f, a, b)))) = inr (inr (r.ended_from h e, inl (f, omega arith, omega arith)))
-    from (inr (h, inr (e, inr (a, y)))) = inr (inr (r.ended_from h e, inr (omega arith, (in_before (r.ended_from h e) (omega arith)).1 y)))
+    from (inr (h, inr (e, y))) = let x = r.ended_from h e in search (rules, in_before x)
 
--- the masks of what can be filled
-pub filled_is : (l : List Cell) (rs : List ℕ) (n i longer ended : ℕ) (before row : List ColourMasks) (m : ℕ) → 0 < n → (Has longer i → 1 ≤ i)
-    → IsReady l rs n i longer ended before row → IsMaskOf (λ k. (Has longer i × Has (get_or row (i - 1) no_colours).fillable k)
-    ⊎ (Has ended i × (((i - n ≤ k) × (k < i)) ⊎ ((n < i) × Has (get_or before (i - n - 1) no_colours).fillable k)))) m
-    → IsMaskOf (CanBeBefore l (n ∷ rs) i true) m
-filled_is l rs n i longer ended before row m some far r p =
-    let told = told_is l rs n i longer ended before row some far r true in
-    mask_same _ _ m p (λ k h. (told k).0 (search rules)) (λ k h. let t = (told k).1 h in search rules)
-
--- and of what can be blank
-pub blank_is : (l : List Cell) (rs : List ℕ) (n i longer ended : ℕ) (before row : List ColourMasks) (m : ℕ) → 0 < n → (Has longer i → 1 ≤ i)
-    → IsReady l rs n i longer ended before row → IsMaskOf (λ k. ((k ≡ i) ⊎ (Has longer i × Has (get_or row (i - 1) no_colours).blankable k))
-    ⊎ (Has ended i × (n < i) × Has (get_or before (i - n - 1) no_colours).blankable k)) m → IsMaskOf (CanBeBefore l (n ∷ rs) i false) m
-blank_is l rs n i longer ended before row m some far r p =
-    let told = told_is l rs n i longer ended before row some far r false in
-    mask_same _ _ m p (λ k h. (told k).0 (search rules)) (λ k h. let t = (told k).1 h in search rules)
+-- the masks of what can be filled and of what can be blank
+pub colours_are : (l : List Cell) (rs : List ℕ) (n i longer ended : ℕ) (before row : List ColourMasks) (m : ColourMasks) → 0 < n
+    → (Has longer i → 1 ≤ i) → IsReady l rs n i longer ended before row
+    → IsMaskOf (λ k. (Has longer i × Has (get_or row (i - 1) no_colours).fillable k)
+    ⊎ (Has ended i × (((i - n ≤ k) × (k < i)) ⊎ ((n < i) × Has (get_or before (i - n - 1) no_colours).fillable k)))) m.fillable
+    → IsMaskOf (λ k. ((k ≡ i) ⊎ (Has longer i × Has (get_or row (i - 1) no_colours).blankable k))
+    ⊎ (Has ended i × (n < i) × Has (get_or before (i - n - 1) no_colours).blankable k)) m.blankable → AreColoursBefore l (n ∷ rs) i m
+colours_are l rs n i longer ended before row m some far r p q =
+    let told = told_is l rs n i longer ended before row some far r in record {
+      fillable_is = mask_same _ _ _ p (λ k h. (told true k).0 (search rules)) (λ k h. let t = (told true k).1 h in search rules);
+      blankable_is = mask_same _ _ _ q (λ k h. (told false k).0 (search rules)) (λ k h. let t = (told false k).1 h in search rules);
+    }

@@ -18,15 +18,14 @@ gap_next_is l runs w n free ends m short pos f e p =
     (λ i h. search (rules, f.to, e.to)) (λ i h. search (rules, f.from, e.from)) f.to f.from p)
     (λ i h. gap_after_to l runs n i pos h) (gap_after_from l runs n)
 
--- the ends of runs of `n` cells that start after a gap or at an opening, and within a window
-abbrev pub EndsAt : ℕ → ℕ → ℕ → ℕ → ℕ → ℕ → Type 0
-EndsAt w gap opening window n = IsShifted w (λ s. (IsShifted w (Has gap) 1 s ⊎ Has opening s) × Has window s) (n - 1)
-
--- the mask of a run's ends, from that of the gaps before it
+-- the mask of a run's ends: the run starts after a gap or at an opening, and within a window
 pub ends_are : (l : List Cell) (runs : List ℕ) (w n gap room opening window m : ℕ) → length l ≤ w → 0 < n → IsMaskOf (IsGapAfter l runs) gap
     → IsMaskOf (λ i. (i ≡ 0) × (length runs ≡ 0)) opening → IsMaskOf (MayBe l true) room → IsMaskOf (AllFrom (Has room) n) window
-    → IsMaskOf (EndsAt w gap opening window n) m → IsMaskOf (IsEndAfter l runs n) m
-ends_are l runs w n gap room opening window m short some g f a v p = mask_same _ _ m p to from
+    → IsMaskOf (IsShifted w (λ s. (IsShifted w (Has gap) 1 s ⊎ Has opening s) × Has window s) (n - 1)) m → IsMaskOf (IsEndAfter l runs n) m
+ends_are l runs w n gap room opening window m short some g f a v p = mask_same _ _ m p (λ e (short, far, h).
+    let same : e - (n - 1) ≡ e + 1 - n = omega arith in (omega arith, rw same at (start_to (e - (n - 1)) h))) (λ e (enough, start).
+    let same : e + 1 - n ≡ e - (n - 1) = omega arith in
+    let last = (start.1 (n - 1) (omega arith)).0 in (omega arith, omega arith, start_from (e - (n - 1)) (rw same at start)))
   where
     start_to : (s : ℕ) → (IsShifted w (Has gap) 1 s ⊎ Has opening s) × Has window s → IsStartAfter l runs n s
     start_to s h = (closed_behind_from l runs s (search (rules, g.to (s - 1), f.to s)), λ z b. a.to (s + z) (v.to s h.1 z b))
@@ -36,56 +35,34 @@ ends_are l runs w n gap room opening window m short some g f a v p = mask_same _
         let here : s + 0 < length l = (h.1 0 some).0 in
         (grind (arith, common_steps, closed_behind_to), v.from s (λ z b. a.from (s + z) (h.1 z b)))
 
-    to : (e : ℕ) → EndsAt w gap opening window n e → IsEndAfter l runs n e
-    to e h =
-        let far : n - 1 ≤ e = h.1 in
-        let same : e - (n - 1) ≡ e + 1 - n = omega arith in (omega arith, rw same at (start_to (e - (n - 1)) h.2))
-
-    from : (e : ℕ) → IsEndAfter l runs n e → EndsAt w gap opening window n e
-    from e h =
-        let enough : n ≤ e + 1 = h.0 in
-        let same : e + 1 - n ≡ e - (n - 1) = omega arith in
-        let last = (h.1.1 (n - 1) (omega arith)).0 in (omega arith, omega arith, start_from (e - (n - 1)) (rw same at h.1))
-
 -- the mask of the ends of a run in whole placings
 pub whole_is : (l : List Cell) (clue : List ℕ) (j ends ahead last m : ℕ) → j < length clue → 0 < get_or clue j 0 → IsMaskOf (IsEnd l clue j) ends
     → IsMaskOf (IsGapAhead l clue (j + 1)) ahead → IsMaskOf (λ i. (i ≡ length l - 1) × (j + 1 ≡ length clue)) last
     → IsMaskOf (λ i. Has ends i × (Has ahead (i + 1) ⊎ Has last i)) m → IsMaskOf (IsWholeEnd l clue j) m
-whole_is l clue j ends ahead last m jl cp e a z p =
-    mask_same (λ i. Has ends i × (Has ahead (i + 1) ⊎ Has last i)) (IsWholeEnd l clue j) m p to from
+whole_is l clue j ends ahead last m jl cp e a z p = mask_same (λ i. Has ends i × (Has ahead (i + 1) ⊎ Has last i)) (IsWholeEnd l clue j) m p
+    (λ i h. let end = e.to i h.0 in
+    let within = inside i end in (end, closed_ahead_from l clue (j + 1) (i + 1) (grind (arith, common_steps))))
+    (λ i h. let within = inside i h.0 in
+    let after = closed_ahead_to l clue (j + 1) (i + 1) (omega arith) (omega arith) h.1 in search (rules, e.from, a.from, z.from))
   where
     inside : (i : ℕ) → IsEnd l clue j i → i < length l
     inside i h = let far = (h.1.1 (get_or clue j 0 - 1) (omega arith)).0 in omega (arith, h.0)
-
-    to : (i : ℕ) → Has ends i × (Has ahead (i + 1) ⊎ Has last i) → IsWholeEnd l clue j i
-    to i h =
-        let end = e.to i h.0 in
-        let within : i < length l = inside i end in
-        (end, closed_ahead_from l clue (j + 1) (i + 1) (grind (arith, common_steps)))
-
-    from : (i : ℕ) → IsWholeEnd l clue j i → Has ends i × (Has ahead (i + 1) ⊎ Has last i)
-    from i h =
-        let within = inside i h.0 in
-        let after = closed_ahead_to l clue (j + 1) (i + 1) (omega arith) (omega arith) h.1 in search (rules, e.from, a.from, z.from)
 
 -- one more run's cells
 pub fill_more : (l : List Cell) (clue : List ℕ) (top j whole : ℕ) (old new : List ℕ) → IsMaskOf (IsWholeEnd l clue j) whole
     → AreLevelsOf (λ i. SomeLevel top old i ⊎ SomeFrom (Has whole) (get_or clue j 0) i) top new
     → AreLevelsOf (λ i. (q : ℕ) × (q < j) × SomeFrom (IsWholeEnd l clue q) (get_or clue q 0) i) top old
     → AreLevelsOf (λ i. (q : ℕ) × (q < j + 1) × SomeFrom (IsWholeEnd l clue q) (get_or clue q 0) i) top new
-fill_more l clue top j whole old new w s f = record { to = λ i x. to i (s.to i x); from = λ i x. s.from i (from i x) }
-  where
-    to : (i : ℕ) → SomeLevel top old i ⊎ SomeFrom (Has whole) (get_or clue j 0) i
-        → (q : ℕ) × (q < j + 1) × SomeFrom (IsWholeEnd l clue q) (get_or clue q 0) i
-    to i (inl x) = let y = f.to i x in (y.0, omega (arith, y.1), y.2)
-    to i (inr x) = (j, omega arith, (x.0, x.1, w.to (i + x.0) x.2))
-
-    from : (i : ℕ) → (q : ℕ) × (q < j + 1) × SomeFrom (IsWholeEnd l clue q) (get_or clue q 0) i
-        → SomeLevel top old i ⊎ SomeFrom (Has whole) (get_or clue j 0) i
-    from i (q, h, x) = elim (cases_lt q j) [
-      | inl low ↦ inl (f.from i (q, low, x))
-      | inr high ↦ (let e : q ≡ j = omega arith in let y = rw e at x in inr (y.0, y.1, w.from (i + y.0) y.2))
-    ]
+fill_more l clue top j whole old new w s f = record {
+  to = λ i x. elim (s.to i x) [
+    | inl y ↦ (let z = f.to i y in (z.0, omega (arith, z.1), z.2))
+    | inr y ↦ (j, omega arith, (y.0, y.1, w.to (i + y.0) y.2))
+  ];
+  from = λ i (q, h, x). s.from i (elim (cases_lt q j) [
+    | inl low ↦ inl (f.from i (q, low, x))
+    | inr high ↦ (let e : q ≡ j = omega arith in let y = rw e at x in inr (y.0, y.1, w.from (i + y.0) y.2))
+  ]);
+}
 
 -- one more place for a blank cell
 pub blank_first : (l : List Cell) (clue : List ℕ) (gap ahead m : ℕ) → IsMaskOf (IsGap l clue 0) gap → IsMaskOf (IsGapAhead l clue 0) ahead
@@ -98,11 +75,8 @@ pub blank_more : (l : List Cell) (clue : List ℕ) (j gap ahead blank part m : �
     → IsMaskOf (λ i. Has gap i × Has ahead i) part → IsMaskOf (λ i. Has blank i ⊎ Has part i) m
     → IsMaskOf (λ i. (q : ℕ) × (q ≤ j + 1) × IsGap l clue q i × IsGapAhead l clue q i) m
 blank_more l clue j gap ahead blank part m g a b p r =
-    mask_same _ _ m (join_of _ _ blank part m b (meet_of _ _ gap ahead part g a p) r) (λ i h. search rules) from
-  where
-    from : (i : ℕ) → (q : ℕ) × (q ≤ j + 1) × IsGap l clue q i × IsGapAhead l clue q i
-        → ((q : ℕ) × (q ≤ j) × IsGap l clue q i × IsGapAhead l clue q i) ⊎ (IsGap l clue (j + 1) i × IsGapAhead l clue (j + 1) i)
-    from i (q, h, g, a) = search (rules, cases_lt q (j + 1))
+    mask_same _ _ m (join_of _ _ blank part m b (meet_of _ _ gap ahead part g a p) r) (λ i h. search rules)
+    (λ i (q, h, g, a). search (rules, cases_lt q (j + 1)))
 
 -- the gaps ahead, from the reversed line's gaps
 pub ahead_of : (l : List Cell) (clue : List ℕ) (j p : ℕ) (reversed : List ℕ) (len m : ℕ) → length l ≡ len → p + j ≡ length clue → j ≤ length clue

@@ -1,5 +1,5 @@
 -- What the layers above cite of placings and of the deduced line.
-use Rattle.line_core.proofs.Names.{common_steps, ◌≡◌, ℕ, zero, suc, ◌<◌, Bool, true, false, not, cond, List, [], ◌∷◌, length, get_or, map, filter, Option, Some, None, refl, sym, ap, ◌∙◌, arith, true≢false, zero-add, rules, All, list_all, range_with_len, and_parts, both_ways, false_from_ne_true, not-true, All-weaker, filter_passes, list_all-from_AllPass, length-map-range_with_len, get_or-map-range_with_len, length-map, Cell, Unknown, Filled, Blank, CellExtends, Extends, agrees, colour, allows, runs, shared, shared_at, deduced, list_all-append, list_all-map, full_lines, is_placing, placings}
+use Rattle.line_core.proofs.Names.{◌↔◌, common_steps, ◌≡◌, ℕ, zero, suc, ◌<◌, Bool, true, false, not, cond, List, [], ◌∷◌, length, get_or, map, filter, Option, Some, None, refl, sym, ap, ◌∙◌, arith, true≢false, zero-add, rules, All, list_all, and_parts, both_ways, false_from_ne_true, not-true, All-weaker, filter_passes, list_all-from_AllPass, length-map-range_with_len, get_or-map-range_with_len, length-map, Cell, Unknown, Filled, Blank, CellExtends, Extends, agrees, colour, runs, shared, shared_at, deduced, list_all-append, list_all-map, full_lines, is_placing, placings}
 use Rattle.std.proofs.lemmas.Slice.Eq.{bytes_eq-Decides}
 pub use Rattle.line_core.specs.Order.{AtMost}
 
@@ -32,18 +32,10 @@ Extends-antisym a b h k = search rules
 
 -- ---- placings
 
-Extends-allows : (c : Cell) (b : Bool) → CellExtends c (colour b) → allows c b ≡ true
-Extends-allows c b h = search rules
-
 -- a full line agrees with a line exactly if it extends it
-pub agrees-Extends : (l : List Cell) (x : List Bool) → agrees l x ≡ true → Extends l (map colour x)
-agrees-Extends (c ∷ l) (b ∷ x) h = search (rules, agrees-Extends l x, and_parts)
-agrees-Extends l x h = search rules
-
--- and a full line that extends a line agrees with it
-pub Extends-agrees : (l : List Cell) (x : List Bool) → Extends l (map colour x) → agrees l x ≡ true
-Extends-agrees (c ∷ l) (b ∷ x) h = rw (Extends-allows c b h.0, Extends-agrees l x h.1) refl
-Extends-agrees l x h = search rules
+pub agrees_is : (l : List Cell) (x : List Bool) → (agrees l x ≡ true) ↔ Extends l (map colour x)
+agrees_is (c ∷ l) (b ∷ x) = (λ h. search (rules, agrees_is l x, and_parts), λ h. rw ((agrees_is l x).1 h.1) (search rules))
+agrees_is l x = search rules
 
 -- a full line with the clue's runs that has the line's colour wherever that is known
 pub record IsPlacing (l : List Cell) (clue : List ℕ) (x : List Bool) : Type 0 where
@@ -53,13 +45,12 @@ pub record IsPlacing (l : List Cell) (clue : List ℕ) (x : List Bool) : Type 0 
 pub length-IsPlacing : (l : List Cell) (clue : List ℕ) (x : List Bool) → IsPlacing l clue x → length x ≡ length l
 length-IsPlacing l clue x p = sym (length-map x colour) ∙ sym (length-Extends l (map colour x) p.extends)
 
--- a full line that passes the test is a placing
-pub test_IsPlacing : (l : List Cell) (clue : List ℕ) (x : List Bool) → is_placing l clue x ≡ true → IsPlacing l clue x
-test_IsPlacing l clue x h = search (rules, agrees-Extends, and_parts, bytes_eq-Decides)
-
--- a placing passes the test
-pub IsPlacing_test : (l : List Cell) (clue : List ℕ) (x : List Bool) → IsPlacing l clue x → is_placing l clue x ≡ true
-IsPlacing_test l clue x p = rw (Extends-agrees l x p.extends, (bytes_eq-Decides (runs x) clue).1 p.runs_are) refl
+-- a full line passes the test exactly if it is a placing
+pub test_is : (l : List Cell) (clue : List ℕ) (x : List Bool) → (is_placing l clue x ≡ true) ↔ IsPlacing l clue x
+test_is l clue x = (
+  λ h. search (rules, agrees_is, and_parts, bytes_eq-Decides),
+  λ p. rw ((agrees_is l x).1 p.extends, (bytes_eq-Decides (runs x) clue).1 p.runs_are) refl,
+)
 
 -- a list of all placings, as what tests say of it
 pub record ListsPlacings (l : List Cell) (clue : List ℕ) (ps : List (List Bool)) : Type 0 where
@@ -81,11 +72,11 @@ list_all-filter p q (x ∷ xs) = search (rules, list_all-filter p q xs)
 pub placings_listed : (l : List Cell) (clue : List ℕ) → ListsPlacings l clue (placings l clue)
 placings_listed l clue =
     let p = is_placing l clue in
-    let members : All (IsPlacing l clue) (placings l clue) = search (rules, All-weaker, test_IsPlacing, filter_passes) in
+    let members : All (IsPlacing l clue) (placings l clue) = search (rules, All-weaker, test_is, filter_passes) in
     record {
       each = λ q h x placing.
           let all = sym (list_all-filter p q (full_lines (length l))) ∙ h in
-          rw (IsPlacing_test l clue x placing) at (each_full (length l) (λ y. cond (p y) (q y) true) all x (length-IsPlacing l clue x placing));
+          rw ((test_is l clue x).1 placing) at (each_full _ (λ y. cond (p y) (q y) true) all x (length-IsPlacing l clue x placing));
       every = search (rules, list_all-from_AllPass, members);
       members = members;
     }
@@ -132,19 +123,10 @@ below_cell : (c : Cell) (filled blank : Bool) → (filled ≡ true → c ≡ Fil
     → CellExtends (cond filled Filled (cond blank Blank Unknown)) c
 below_cell c filled blank f b = search rules
 
-filled_of : (x : Bool) → CellExtends Filled (colour x) → x ≡ true
-filled_of x h = search rules
-
-length-shared : (n : ℕ) (ps : List (List Bool)) → length (map (shared_at ps) (range_with_len 0 n)) ≡ n
-length-shared n ps = length-map-range_with_len (shared_at ps) 0 n
-
-get_or-shared : (n : ℕ) (ps : List (List Bool)) (k : ℕ) → k < n → get_or (map (shared_at ps) (range_with_len 0 n)) k Unknown ≡ shared_at ps k
-get_or-shared n ps k h = get_or-map-range_with_len (shared_at ps) 0 n k k Unknown h (zero-add k)
-
 -- a cell that each placing has
 greatest_at : (l : List Cell) (clue : List ℕ) (ps : List (List Bool)) (k : ℕ) → ListsPlacings l clue ps → (y : List Bool) → IsPlacing l clue y
     → (c : Cell) → ((x : List Bool) → IsPlacing l clue x → CellExtends c (colour (get_or x k false))) → CellExtends c (shared_at ps k)
-greatest_at l clue ps k listed y p Filled h = rw (listed.every (filled_at k) (λ x q. filled_of (get_or x k false) (h x q))) tt
+greatest_at l clue ps k listed y p Filled h = search (rules, listed.every (filled_at k))
 greatest_at l clue ps k listed y p c h = search rules
 
 greatest_listed : (l : List Cell) (clue : List ℕ) (ps : List (List Bool)) → ListsPlacings l clue ps → (o : Option (List Cell))
@@ -155,8 +137,9 @@ greatest_listed l clue (y ∷ ys) listed (Some d) h =
     let ps = y ∷ ys in
     let p : IsPlacing l clue y = listed.members 0 y (omega arith) in
     let long : length d ≡ length l = length-Extends d (map colour y) (h y p) ∙ length-map y colour ∙ length-IsPlacing l clue y p in
-    Extends-from_places d (map (shared_at ps) (range_with_len 0 (length l))) (long ∙ sym (length-shared (length l) ps)) (λ k i.
-    rw (get_or-shared (length l) ps k (omega arith)) (greatest_at l clue ps k listed y p (get_or d k Unknown) (λ x q.
+    Extends-from_places d _ (long ∙ sym (length-map-range_with_len (shared_at ps) 0 (length l))) (λ k i.
+    rw (get_or-map-range_with_len (shared_at ps) 0 (length l) k k Unknown (omega arith) (zero-add k))
+    (greatest_at l clue ps k listed y p (get_or d k Unknown) (λ x q.
     rw (get_or-map_colour x k (omega (arith, length-IsPlacing l clue x q))) at (Extends-at d (map colour x) k (h x q)))))
 
 -- what each placing has is deduced
@@ -175,15 +158,13 @@ deduced-below l clue x p = by (placings l clue) (placings_listed l clue)
     by : (ps : List (List Bool)) → ListsPlacings l clue ps → AtMost (shared (length l) ps) (Some (map colour x))
     by [] listed = absurd (no_placing l clue listed x p)
     by (y ∷ ys) listed =
-        let ps = y ∷ ys in
-        let n = length l in
-        let long : length x ≡ n = length-IsPlacing l clue x p in
-        search (rules, Extends-from_places, length-shared, length-map, get_or-shared, get_or-map_colour, below_cell, not-true)
+        let long : length x ≡ length l = length-IsPlacing l clue x p in
+        let at = get_or-map-range_with_len (shared_at (y ∷ ys)) 0 (length l) in
+        search (rules, Extends-from_places, length-map-range_with_len, length-map, at, get_or-map_colour, below_cell, not-true)
 
 -- if more is known, no less is deduced
 pub deduced-monotone : (l m : List Cell) (clue : List ℕ) → Extends l m → AtMost (deduced l clue) (deduced m clue)
-deduced-monotone l m clue h =
-    deduced-greatest m clue (deduced l clue) (grind (arith, common_steps, deduced-below, Extends-trans))
+deduced-monotone l m clue h = deduced-greatest m clue (deduced l clue) (grind (arith, common_steps, deduced-below, Extends-trans))
 
 full_same : (x y : List Bool) → Extends (map colour x) (map colour y) → y ≡ x
 full_same [] [] h = refl

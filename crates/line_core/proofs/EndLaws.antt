@@ -1,6 +1,6 @@
 -- What the leftmost and the rightmost starts are.
 use Rattle.line_core.proofs.Names.{rules, ◌≡◌, ℕ, ◌<◌, Bool, true, List, [], ◌∷◌, length, map, Some, refl, sym, ◌∙◌, arith, inl, inr, ◌⊎◌, get_or, nat_le, filter, All-head, All-tail, All, list_all, find, range_with_len, cases_lt, leb-true, le-leb, length-map-range_with_len, get_or-map-range_with_len, Cell, runs, is_positive, placings, run_starts, all_starts, ArePositive, Side, Left, Right, outermost, IsAsFar, cases_Bool, AreStarts, common_steps}
-use Rattle.line_core.proofs.DeductionLaws.{IsPlacing, placings_listed, test_IsPlacing, IsPlacing_test}
+use Rattle.line_core.proofs.DeductionLaws.{IsPlacing, placings_listed, test_is}
 use Rattle.line_core.proofs.Outermost.{all_as_far, laid_placing, outermost_found, outermost_of, placed, pass_all}
 
 -- the first that passes is a member, and passes
@@ -17,8 +17,7 @@ pub outermost-furthest : (side : Side) (l : List Cell) (clue m : List ℕ) → o
     → AreStarts l clue m × ((other : List ℕ) → AreStarts l clue other → all_as_far side m other ≡ true)
 outermost-furthest side l clue m e =
     let f = found (IsPlacing l clue) (λ starts. list_all (all_as_far side starts) (all_starts l clue)) m (placings l clue)
-    (placings_listed l clue).members (sym (outermost_found side l clue) ∙ e) in
-    search (rules, IsPlacing_test, pass_all, test_IsPlacing)
+    (placings_listed l clue).members (sym (outermost_found side l clue) ∙ e) in search (rules, pass_all, test_is)
 
 -- ---- there are such starts
 
@@ -32,9 +31,6 @@ positive_runs x clue e = search (rules, kept_positive)
 abbrev as_far : Side → ℕ → ℕ → Bool
 as_far Left = nat_le
 as_far Right = λ i other. nat_le other i
-
-is_far : (side : Side) (i other : ℕ) → as_far side i other ≡ true → IsAsFar side i other
-is_far side i other h = search (rules, leb-true)
 
 far_is : (side : Side) (i other : ℕ) → IsAsFar side i other → as_far side i other ≡ true
 far_is side i other h = search (rules, le-leb)
@@ -53,8 +49,7 @@ outer_member side P f x (y ∷ ps) p all =
     elim (either_far side (f x) (f y)) [
       | inl far ↦ search (rules, All-tail, far_is, far_then, outer_member side P f x ps p)
       | inr far ↦
-          (let r = outer_member side P f y ps (All-head P y ps all) (All-tail P y ps all) in
-          search (rules, far_is, far_then, r))
+          (let r = outer_member side P f y ps (All-head P y ps all) (All-tail P y ps all) in search (rules, far_is, far_then, r))
     ]
 
 -- the furthest start of a run among all placings
@@ -64,7 +59,7 @@ outer_at : (side : Side) (l : List Cell) (clue : List ℕ) (x : List Bool) (j : 
 outer_at side l clue x j p =
     let start = λ (y : List Bool). get_or (run_starts y) j 0 in
     let r = outer_member side (IsPlacing l clue) start x (placings l clue) p (placings_listed l clue).members in
-    (r.0, r.1, search (rules, is_far, placings_listed))
+    (r.0, r.1, search (rules, leb-true, placings_listed))
 
 -- if there is a placing, there are outermost starts
 pub outermost-exists : (side : Side) (l : List Cell) (clue : List ℕ) (x : List Bool) → IsPlacing l clue x →

@@ -1,7 +1,7 @@
 -- A line whose cells are all known: one full line agrees with it, whose runs a walk compares with the clue.
-use Rattle.line_core.proofs.Names.{rules, ◌≡◌, ◌≢◌, ◌↔◌, ℕ, zero, suc, ◌+◌, ◌<◌, ◌≤◌, Bool, true, false, not, cond, List, [], ◌∷◌, length, map, Option, Some, None, refl, sym, ap, ◌∙◌, subst, arith, add-one, drop, get_or, drop-cons, drop_of_length-le, ext_get_or, false_from_ne_true, Cell, Unknown, allows, agrees, is_filled, runs, has_by, runs_after, Has, has, IsMaskOf, has_true, true_has, mask_same, MayBe, runs_after-zero, runs_after-true, runs_after-close, runs_after-nil, none_has, none_in, add_comm, get_or-drop, common_steps}
+use Rattle.line_core.proofs.Names.{ArePositive, rules, ◌≡◌, ◌≢◌, ◌↔◌, ℕ, zero, suc, ◌+◌, ◌<◌, ◌≤◌, Bool, true, false, not, cond, List, [], ◌∷◌, length, map, Option, Some, None, refl, sym, ap, ◌∙◌, subst, arith, add-one, drop, get_or, drop-cons, drop_of_length-le, ext_get_or, false_from_ne_true, Cell, Unknown, allows, agrees, is_filled, runs, has_by, runs_after, Has, has, IsMaskOf, has_true, true_has, mask_same, MayBe, runs_after-zero, runs_after-true, runs_after-close, runs_after-nil, none_has, none_in, add_comm, get_or-drop, common_steps}
 use Rattle.line_core.specs.steps.Full.{IsFull, IsFilled}
-use Rattle.line_core.proofs.Certain.{CanBe}
+use Rattle.line_core.proofs.WholeEnds.{IsTold, told_mask, none_told}
 use Rattle.line_core.proofs.Joining.{length-agrees}
 use Rattle.line_core.proofs.RunStarts.{covered}
 use Rattle.line_core.proofs.Painting.{agrees_at}
@@ -9,7 +9,7 @@ use Rattle.line_core.proofs.Painting.{agrees_at}
 -- ---- the one full line that agrees
 
 -- a full line that agrees has colours that the cells may have
-pub may_be : (l : List Cell) (x : List Bool) (v : Bool) (i : ℕ) → agrees l x ≡ true → i < length l → get_or x i false ≡ v → MayBe l v i
+may_be : (l : List Cell) (x : List Bool) (v : Bool) (i : ℕ) → agrees l x ≡ true → i < length l → get_or x i false ≡ v → MayBe l v i
 may_be l x v i agree h e = (h, subst (λ (b : Bool). allows (get_or l i Unknown) b ≡ true) e (agrees_at l x i agree h))
 
 -- and no others
@@ -21,17 +21,23 @@ agrees_filled : (l : List Cell) → agrees l (map is_filled l) ≡ true
 agrees_filled [] = refl
 agrees_filled (c ∷ l) = search (rules, agrees_filled l)
 
--- if its runs are the clue, each cell can be what it may be
-pub can_be : (l : List Cell) (clue : List ℕ) (v : Bool) (i : ℕ) → IsFull l → runs (map is_filled l) ≡ clue → MayBe l v i → CanBe l clue v i
-can_be l clue v i full is m = (map is_filled l, agrees_filled l, is, only_be l (map is_filled l) v i full (agrees_filled l) m)
+-- no other agrees
+full_is : (l : List Cell) (x : List Bool) → IsFull l → agrees l x ≡ true → x ≡ map is_filled l
+full_is l x full agree = ext_get_or false x (map is_filled l) (search (rules, length-agrees, agrees_filled)) (λ k h.
+    sym (only_be l (map is_filled l) _ k full (agrees_filled l) (may_be l x _ k agree (omega (arith, length-agrees l x agree)) refl)))
 
--- and each placing has its runs
-pub placing_runs : (l : List Cell) (clue : List ℕ) (v : Bool) (i : ℕ) → IsFull l → CanBe l clue v i → runs (map is_filled l) ≡ clue
-placing_runs l clue v i full (x, agree, is, at) =
-    let y = map is_filled l in
-    let long : length x ≡ length l = length-agrees l x agree in
-    ap runs (sym (ext_get_or false x y (long ∙ sym (length-agrees l y (agrees_filled l))) (λ k h.
-    sym (only_be l y (get_or x k false) k full (agrees_filled l) (may_be l x (get_or x k false) k agree (omega arith) refl))))) ∙ is
+-- if its runs are the clue, each cell can be what it may be
+pub full_told : (l : List Cell) (clue : List ℕ) (v : Bool) (m : ℕ) → ArePositive clue → IsFull l → runs (map is_filled l) ≡ clue
+    → IsMaskOf (MayBe l v) m → IsMaskOf (IsTold l clue v) m
+full_told l clue v m pos full is p = told_mask l clue v _ m pos p (λ i. (
+  λ h. (h.0, (map is_filled l, agrees_filled l, is, only_be l (map is_filled l) v i full (agrees_filled l) h)),
+  λ (within, (x, agree, _, at)). may_be l x v i agree within at,
+))
+
+-- and else there is no placing
+pub dead_told : (l : List Cell) (clue : List ℕ) (v : Bool) (m : ℕ) → ArePositive clue → IsFull l → (runs (map is_filled l) ≡ clue → ⊥)
+    → m ≡ 0 → IsMaskOf (IsTold l clue v) m
+dead_told l clue v m pos full other e = none_told l clue v m pos e (λ x agree is. other (ap runs (sym (full_is l x full agree)) ∙ is))
 
 -- ---- the walk over its runs
 
@@ -52,7 +58,6 @@ pub record IsWalked (cells : List Bool) (clue : List ℕ) (j least left : ℕ) :
 
 -- runs after blank cells
 past_blanks : (least n : ℕ) (y : List Bool) → least ≤ n → ((i : ℕ) → i < n → get_or y i false ≡ false) → runs_past least y ≡ Some (runs (drop n y))
-past_blanks zero (suc n) [] h blank = refl
 past_blanks zero (suc n) (b ∷ y) h blank = search (rules, blank 0, past_blanks zero n y (omega arith) (λ i b. blank (suc i) (omega arith)))
 past_blanks (suc least) (suc n) (b ∷ y) h blank = search (rules, blank 0, past_blanks least n y (omega arith) (λ i b. blank (suc i) (omega arith)))
 past_blanks least n y h blank = search rules
@@ -86,8 +91,7 @@ crossed_at n i y low a b = grind arith
 
 crossed_is : (n : ℕ) (y : List Bool) (filled ones next : ℕ) → IsMaskOf (IsFilled y) filled → IsMaskOf (λ i. i < n) ones
     → IsMaskOf (λ i. has filled i ≢ has ones i) next → IsMaskOf (IsFilled (crossed n y)) next
-crossed_is n y filled ones next p q r =
-    mask_same _ _ next r (λ i differ. grind (arith, at i)) (λ i e. grind (arith, at i))
+crossed_is n y filled ones next p q r = mask_same _ _ next r (λ i differ. grind (arith, at i)) (λ i e. grind (arith, at i))
   where
     at : (i : ℕ) → get_or (crossed n y) i false ≡ cond (has ones i) (not (has filled i)) (has filled i)
     at i = search (rules, has_by, crossed_at, true_has, has_true)
@@ -144,8 +148,7 @@ module _ (cells : List Bool) (clue : List ℕ) (j least left : ℕ) (p : IsWalke
   pub walk_last : length clue ≤ j → (left ≡ 0) ↔ (runs cells ≡ clue)
   walk_last h =
       let all = drop_of_length-le clue {i = j} h in (
-        (λ e. p.from (past_none least left p.rest p.rest_is e ∙ ap (λ (ns : List ℕ). Some ns) (sym all))),
+        (λ e. p.from (rw all (past_none least left p.rest p.rest_is e))),
         (λ is. none_in _ left p.rest_is (λ i f.
-            let c = covered p.rest [] i (past_runs least p.rest [] (p.to is ∙ ap (λ (ns : List ℕ). Some ns) all)) f in
-            absurd (omega (arith, c.inside)))),
+            let c = covered p.rest [] i (past_runs least p.rest [] (rw all at (p.to is))) f in absurd (omega (arith, c.inside)))),
       )

@@ -9,8 +9,7 @@ bit_less zero a b h none same =
     omega (arith, sym (bit_at_lowest a) ∙ h, sym (bit_at_lowest b) ∙ none)
 bit_less (suc p) a b h none same =
     let less = bit_less p (a / 2) (b / 2) (sym (bit_at-suc a p) ∙ h) (sym (bit_at-suc b p) ∙ none)
-    (λ i ne. sym (bit_at-suc b i) ∙ same (suc i) (omega (arith, ne)) ∙ bit_at-suc a i) in
-    omega arith
+    (λ i ne. sym (bit_at-suc b i) ∙ same (suc i) (omega (arith, ne)) ∙ bit_at-suc a i) in omega arith
 
 -- a mask with one place taken out is less
 pub mask_less : (a b p : ℕ) → Has a p → IsMaskOf (IsMarked (Has a) p false) b → b < a
@@ -28,10 +27,7 @@ pub walk_more : {A : Type 0} (all left next p q : ℕ) (Q : ℕ → A → Type 0
     → IsMaskOf (IsMarked (Has left) p false) next → Q p v → IsWalk all left Q none row → IsWalk all next Q none (set row q v)
 walk_more all left next p q Q none row v inside at m here w = record {
   within = λ i h. elim (m.to i h) [ inl x ↦ w.within i x.0 | inr x ↦ absurd (true≢false (sym x.1)) ];
-  done = λ i h lacks. elim (cases_eq i p) [
-    | inl e ↦ rw (at, e, get_or-set_same row p v none inside) here
-    | inr ne ↦ rw (at, get_or-set_other row p i v none ne) (w.done i h (λ l. lacks (m.from i (inl (l, ne)))))
-  ];
+  done = λ i h lacks. search (rules, cases_eq i p, get_or-set_same row p v none inside, get_or-set_other, w.done i h, m.from i);
 }
 
 pub walk_last : {A : Type 0} (all left : ℕ) (Q : ℕ → A → Type 0) (none : A) (row : List A) → nat_eq left 0 ≡ true → IsWalk all left Q none row
@@ -63,8 +59,7 @@ pub ready_is : (l : List Cell) (clue : List ℕ) (j w gaps ends longer ended p :
     → IsReady l (behind 0 clue j) (get_or clue j 0) p longer ended before row
 ready_is l clue j w gaps ends longer ended p before row jl some gs es lm em within here told last =
     let whole = gs.to p here in
-    let c = get_or clue j 0 in
-    record {
+    let c = get_or clue j 0 in record {
       gap = whole.0;
       longer_to = λ h. let x = lm.to p h in last x.1 x.2;
       longer_from = λ first g. search (rules, lm.from, gs.from, whole_back);
@@ -94,15 +89,11 @@ pub part_is : (a : ℕ) (xs : List ColourMasks) → take (length xs - a) (drop a
 part_is a xs = take_all (length xs - a) (drop a xs) (omega (arith, length-drop a xs))
 
 pub put_back : (a : ℕ) (xs ys : List ColourMasks) → take a xs ++ (ys ++ drop (length xs - a) (drop a xs)) ≡ take a xs ++ ys
-put_back a xs ys =
-    let none : length (drop a xs) ≤ length xs - a = omega (arith, length-drop a xs) in
-    rw (drop_of_length-le (drop a xs) {i = length xs - a} none, append-nil) refl
+put_back a xs ys = rw (drop_of_length-le (drop a xs) {i = length xs - a} (omega (arith, length-drop a xs)), append-nil) refl
 
 -- the last of them, seen from its place
 pub row_at : (l : List Cell) (clue : List ℕ) (j : ℕ) (table : List ColourMasks) → AreRowsTo l clue j table → IsRow l clue j 0 (drop (128 * j) table)
-row_at l clue j table told i whole =
-    let e : 128 * j + (0 + i) ≡ 128 * j + i = omega arith in
-    rw (get_or-drop (128 * j) table (0 + i) no_colours, e) (told j (omega arith) i whole)
+row_at l clue j table told i whole = rw (get_or-drop (128 * j) table (0 + i) no_colours, zero-add i) (told j (omega arith) i whole)
 
 -- one more row, written behind the last of them
 pub rows_more : (l : List Cell) (clue : List ℕ) (j : ℕ) (table new : List ColourMasks) → length l ≤ 128 → 128 * j ≤ length table
@@ -116,14 +107,11 @@ rows_more l clue j table new short room told next same q le i whole =
     let back : (k : ℕ) → get_or (front ++ new) (128 * j + k) no_colours ≡ get_or new k no_colours = λ k. rw size at (get_or-append-add front new k no_colours) in
     elim (cases_lt q j) [
       | inl low ↦
-          (let inside : 128 * q + i < 128 * j = omega arith in
-          rw (get_or_append_left front new no_colours (128 * q + i) (omega arith), get_or-take (128 * j) table (128 * q + i) no_colours inside)
-          (told q (omega arith) i whole))
+          (let inside : 128 * q + i < 128 * j = omega arith in search (rules, get_or_append_left, get_or-take, told q))
       | inr high ↦ elim (cases_eq q j) [
         | inl e ↦ rw (e, back i, same i within, get_or-drop (128 * j) table i no_colours) (told j (omega arith) i (rw e at whole))
         | inr ne ↦
             (let e : q ≡ j + 1 = omega arith in
-            let at : 128 * (j + 1) + i ≡ 128 * j + (128 + i) = omega arith in
-            rw (e, at, back (128 + i)) (next i (rw e at whole)))
+            let at : 128 * (j + 1) + i ≡ 128 * j + (128 + i) = omega arith in rw (e, at, back (128 + i)) (next i (rw e at whole)))
       ]
     ]

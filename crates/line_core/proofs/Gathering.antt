@@ -1,10 +1,10 @@
 -- What can be on a line with a cell coloured, told by what can be before and after that cell, or the run that covers it.
-use Rattle.line_core.proofs.Names.{rules, ◌≡◌, ℕ, zero, suc, ◌+◌, ◌-◌, ◌<◌, ◌≤◌, Bool, true, false, List, ◌∷◌, length, map, get_or, set, drop, reverse, refl, ◌∙◌, subst, arith, add-one, ◌⊎◌, inl, inr, ◌↔◌, cases_lt, and_from, and_parts, length-set, mask_same, ext_get_or, get_or-reverse, Has, IsMaskOf, IsShifted, Cell, Unknown, agrees, runs, SomeFrom, behind, MayBe, IsGap, IsGapAhead, IsWholeEnd, ArePositive, ◌*◌, get_or-set_other, get_or-set_at, get_or_default, length-reverse, reverse-reverse, drop-set-lt, colour, ColourMasks, no_colours, coloured, AreWholeEnds, AreColours, AreColoursBefore, CanBeBefore, IsWholeGap, IsUnknownAt, AreMasks, AreMore, AreToldOf, AreBothSides, HasColour, AreLengths, number_at, length_at}
+use Rattle.line_core.proofs.Names.{allows, rules, ◌≡◌, ℕ, zero, suc, ◌+◌, ◌-◌, ◌<◌, ◌≤◌, Bool, true, false, List, ◌∷◌, length, map, get_or, set, drop, reverse, refl, ◌∙◌, arith, add-one, ◌⊎◌, inl, inr, ◌↔◌, cases_lt, and_from, and_parts, length-set, mask_same, ext_get_or, get_or-reverse, Has, IsMaskOf, IsShifted, Cell, Unknown, agrees, runs, SomeFrom, behind, MayBe, IsGapAhead, IsWholeEnd, ArePositive, ◌*◌, get_or-set_other, get_or-set_at, get_or_default, length-reverse, reverse-reverse, drop-set-lt, colour, ColourMasks, no_colours, coloured, AreWholeEnds, AreColours, AreColoursBefore, CanBeBefore, IsWholeGap, IsUnknownAt, AreMasks, AreMore, AreToldOf, AreBothSides, HasColour, AreLengths, number_at}
 use Rattle.line_core.proofs.ColourMasks.{Below, masks_are, masks_same, more_same, more_more, each_more}
-use Rattle.line_core.proofs.ColouredGaps.{before_are, EndWith, colour_allows, colour_same, coloured_less, coloured_other, behind_coloured, gap_less, end_less, end_step_to, end_step_from, whole_before_end}
+use Rattle.line_core.proofs.ColouredGaps.{before_are, EndWith, colour_is, coloured_less, coloured_other, behind_coloured, gap_less, end_less, end_step_to, end_step_from, whole_before_end}
 use Rattle.line_core.proofs.Certain.{CanBe}
-use Rattle.line_core.proofs.Joining.{closed_ahead_to, closed_ahead_from, filled_agrees, blankable_to, blankable_from, reversed_gap}
-use Rattle.line_core.proofs.WholeEnds.{fillable_to, fillable_from}
+use Rattle.line_core.proofs.Joining.{closed_ahead_to, closed_ahead_from, blankable_to, blankable_from, reversed_gap}
+use Rattle.line_core.proofs.WholeEnds.{fillable_to, fillable_from, IsTold, told_mask}
 use Rattle.line_core.proofs.Reaching.{run_from_end}
 
 -- ---- what goes with a gap, and with a run
@@ -42,22 +42,21 @@ IsAfterRun line clue x j filled k =
 -- placings of a coloured line are those of the line with that colour
 agrees_coloured : (l : List Cell) (k : ℕ) (d : Bool) (y : List Bool) → k < length l
     → (MayBe l d k × (agrees (coloured l k d) y ≡ true)) ↔ ((agrees l y ≡ true) × (get_or y k false ≡ d))
-agrees_coloured (c ∷ l) zero d (b ∷ y) within =
-    (λ h. search (rules, and_parts, and_from, colour_allows), λ h. search (rules, and_parts, and_from, colour_same))
-agrees_coloured (c ∷ l) (suc k) d (b ∷ y) within =
-    let same = agrees_coloured l k d y (omega arith) in
-    (λ h. search (rules, and_parts, and_from, same), λ h. search (rules, and_parts, and_from, same))
+agrees_coloured (c ∷ l) zero d (b ∷ y) within = search (rules, and_parts, and_from, colour_is)
+agrees_coloured (c ∷ l) (suc k) d (b ∷ y) within = search (rules, and_parts, and_from, agrees_coloured l k d y)
 agrees_coloured l k d y within = search rules
 
--- two cells coloured in either order
-can_be_swap : (l : List Cell) (clue : List ℕ) (x k : ℕ) (c d : Bool) → MayBe l c x → k < length l → CanBe (coloured l x c) clue d k
-    → MayBe l d k × CanBe (coloured l k d) clue c x
-can_be_swap l clue x k c d may within (y, agree, is, at) =
-    let before = (agrees_coloured l x c y may.0).0 (may, agree) in
-    let after = (agrees_coloured l k d y within).1 (before.0, at) in
-    (after.0, (y, after.1, is, before.1))
+-- a cell can have a colour on the line with x coloured c
+abbrev GoesWith : List Cell → List ℕ → ℕ → Bool → Bool → ℕ → Type 0
+GoesWith l clue x c d k = MayBe l d k × CanBe (coloured l k d) clue c x
 
--- ---- parts of a coloured line
+-- two cells coloured in either order
+can_be_swap : (l : List Cell) (clue : List ℕ) (x k : ℕ) (c d : Bool) → MayBe l c x
+    → ((k < length l) × CanBe (coloured l x c) clue d k) ↔ GoesWith l clue x c d k
+can_be_swap l clue x k c d may = (
+  λ (within, (y, agree, is, at)). search (rules, agrees_coloured l x c y, agrees_coloured l k d y),
+  λ (free, (y, agree, is, at)). search (rules, agrees_coloured l x c y, agrees_coloured l k d y),
+)
 
 -- full cells from a place on agree with the line if they do so with the coloured one
 ahead_before : (l : List Cell) (k i : ℕ) (d : Bool) (y : List Bool) → MayBe l d k → agrees (drop i (coloured l k d)) y ≡ true
@@ -75,79 +74,40 @@ reverse-set : (l : List Cell) (k : ℕ) (c : Cell) → k < length l → set (rev
 reverse-set l k c within = ext_get_or Unknown _ _ (search (rules, length-set, length-reverse))
     (λ z h. grind (arith, get_or-set_at, get_or-set_other, get_or-reverse, length-reverse, length-set))
 
-may_turned : (l : List Cell) (d : Bool) (k : ℕ) → k < length l → MayBe (reverse l) d (length l - 1 - k) ↔ MayBe l d k
-may_turned l d k within = search (rules, get_or-reverse, length-reverse)
-
 -- what is before a gap of the reversed line is after that gap
 after_turned : (l : List Cell) (clue : List ℕ) (j i k : ℕ) (d : Bool) → j ≤ length clue → i < length l → k < length l
     → CanBeBefore (reverse l) (behind 0 (reverse clue) (length clue - j)) (length l - 1 - i) d (length l - 1 - k) ↔ CanBeAfter l clue j i d k
-after_turned l clue j i k d jl il kl = (
-  λ (near, may, gap). (omega arith, (may_turned l d k kl).0 may, ahead.0 (rw (reverse-set l k (colour d) kl) at gap)),
-  λ (far, may, gap). (omega arith, (may_turned l d k kl).1 may, rw (reverse-set l k (colour d) kl) (ahead.1 gap)),
-)
-  where
-    ahead : IsGap (reverse (coloured l k d)) (reverse clue) (length clue - j) (length l - 1 - i) ↔ IsGapAhead (coloured l k d) clue j i
-    ahead = subst (λ (n : ℕ). IsGap (reverse (coloured l k d)) (reverse clue) (length clue - j) (n - 1 - i) ↔ IsGapAhead (coloured l k d) clue j i)
-        (length-set l k (colour d)) (reversed_gap (coloured l k d) clue j i jl (omega (arith, length-set l k (colour d))))
+after_turned l clue j i k d jl il kl =
+    let ahead = rw (length-set l k (colour d)) at (reversed_gap (coloured l k d) clue j i jl (omega (arith, length-set l k (colour d)))) in
+    rw (reverse-set l k (colour d) kl) (search (rules, get_or-reverse, length-reverse, ahead))
 
 -- a gap of whole placings, seen from the other end
 pub whole_turned : (l : List Cell) (clue : List ℕ) (j i : ℕ) → j ≤ length clue → i < length l → IsWholeGap l clue j i
     → IsWholeGap (reverse l) (reverse clue) (length clue - j) (length l - 1 - i)
-whole_turned l clue j i jl il (gap, ahead) =
-    let back = reversed_gap (reverse l) (reverse clue) (length clue - j) (length l - 1 - i) (omega (arith, length-reverse clue)) (omega (arith, length-reverse l)) in
-    ((reversed_gap l clue j i jl il).1 ahead, search (rules, back, length-reverse, reverse-reverse))
+whole_turned l clue j i jl il whole =
+    let back = reversed_gap (reverse l) (reverse clue) (length clue - j) (length l - 1 - i) in
+    search (rules, reversed_gap l clue j i jl il, back, length-reverse, reverse-reverse)
 
 -- ---- what goes with a cell of some colour
 
 -- a cell that leaves both colours open is unknown
 pub unknown_is : (l : List Cell) (x : ℕ) → IsUnknownAt l x ↔ (MayBe l false x × MayBe l true x)
-unknown_is l x = (λ u. (left false u, left true u), λ (free, room). record { inside = free.0; unknown = is l x free room })
+unknown_is l x = (
+  λ u. let e = get_or_default l x Unknown (colour true) u.inside ∙ u.unknown in ((u.inside, rw e refl), (u.inside, rw e refl)),
+  λ (free, room). record { inside = free.0; unknown = get_or_default l x (colour true) Unknown free.0 ∙ both _ free.1 room.1 },
+)
   where
-    left : (c : Bool) → IsUnknownAt l x → MayBe l c x
-    left c u = (u.inside, rw (get_or_default l x Unknown (colour true) u.inside, u.unknown) refl)
-
-    is : (l : List Cell) (x : ℕ) → MayBe l false x → MayBe l true x → get_or l x (colour true) ≡ Unknown
-    is (Unknown ∷ l) zero free room = refl
-    is (u ∷ l) (suc x) free room = is l x (omega (arith, free.0), free.1) (omega (arith, room.0), room.1)
-    is l x free room = search rules
-
--- a cell can have a colour on the line with x coloured c
-abbrev GoesWith : List Cell → List ℕ → ℕ → Bool → Bool → ℕ → Type 0
-GoesWith l clue x c d k = MayBe l d k × CanBe (coloured l k d) clue c x
+    both : (c : Cell) → allows c false ≡ true → allows c true ≡ true → c ≡ Unknown
+    both c free room = search rules
 
 -- the masks of what can be on the line with x coloured
 colours_of : (l : List Cell) (clue : List ℕ) (x : ℕ) (c : Bool) (m : ColourMasks) → ArePositive clue → IsUnknownAt l x
     → AreMasks (GoesWith l clue x c) m → AreColours (coloured l x c) clue m
-colours_of l clue x c m pos unknown a = record {
-  fillable_is = mask_same _ _ m.fillable a.fillable_is (λ k h. fillable_from (coloured l x c) clue k (back k true h)) (λ k h.
-      let (y, agree, is, at) = fillable_to (coloured l x c) clue k pos h in
-      let within = rw (length-set l x (colour c)) at (filled_agrees (coloured l x c) y k agree at) in there k true within (y, agree, is, at));
-  blankable_is = mask_same _ _ m.blankable a.blankable_is
-      (λ k h. blankable_from (coloured l x c) clue k (omega (arith, length-set l x (colour c), h.0.0)) (back k false h))
-      (λ k h. there k false (omega (arith, length-set l x (colour c), h.2.0.0)) (blankable_to (coloured l x c) clue k h));
-}
+colours_of l clue x c m pos unknown a = record { fillable_is = mask true _ a.fillable_is; blankable_is = mask false _ a.blankable_is }
   where
-    back : (k : ℕ) (d : Bool) → GoesWith l clue x c d k → CanBe (coloured l x c) clue d k
-    back k d h = (can_be_swap l clue k x d c h.0 unknown.inside h.1).1
-
-    there : (k : ℕ) (d : Bool) → k < length l → CanBe (coloured l x c) clue d k → GoesWith l clue x c d k
-    there k d inside can = can_be_swap l clue x k c d (search (rules, unknown_is l x)) inside can
-
--- with a blank cell goes what goes before it, and after it
-blank_is : (l : List Cell) (clue : List ℕ) (x k : ℕ) (d : Bool) → x < length l → GoesWith l clue x false d k
-    ↔ ((j : ℕ) × (j ≤ length clue) × IsWholeGap l clue j x × (CanBeBefore l (behind 0 clue j) x d k ⊎ CanBeAfter l clue j x d k))
-blank_is l clue x k d within = (to, λ (j, jl, whole, sides). from j jl whole sides)
-  where
-    to : GoesWith l clue x false d k
-        → (j : ℕ) × (j ≤ length clue) × IsWholeGap l clue j x × (CanBeBefore l (behind 0 clue j) x d k ⊎ CanBeAfter l clue j x d k)
-    to (may, can) =
-        let (j, jl, gap, ahead) = blankable_from (coloured l k d) clue x (omega (arith, length-set l k (colour d))) can in
-        (j, jl, search (rules, gap_less, coloured_less, ahead_before), search (rules, cases_lt x k))
-
-    from : (j : ℕ) → j ≤ length clue → IsWholeGap l clue j x → CanBeBefore l (behind 0 clue j) x d k ⊎ CanBeAfter l clue j x d k
-        → GoesWith l clue x false d k
-    from j jl (gap, ahead) (inl y) = search (rules, blankable_to (coloured l k d) clue x, drop-set-lt)
-    from j jl (gap, ahead) (inr y) = search (rules, blankable_to (coloured l k d) clue x, behind_coloured)
+    mask : (d : Bool) (n : ℕ) → IsMaskOf (GoesWith l clue x c d) n → IsMaskOf (IsTold (coloured l x c) clue d) n
+    mask d n p = told_mask (coloured l x c) clue d _ n pos p (λ k.
+        rw (length-set l x (colour c)) (let swap = can_be_swap l clue x k c d (search (rules, unknown_is l x)) in (swap.1, swap.0)))
 
 -- with a filled cell goes what goes with the ends of the run that covers it
 abbrev IsBesideRun : List Cell → List ℕ → ℕ → ℕ → Bool → ℕ → Type 0
@@ -156,29 +116,22 @@ IsBesideRun l clue j e d k = EndWith l (behind 0 clue j) (get_or clue j 0) d e k
 run_to : (l : List Cell) (clue : List ℕ) (x k : ℕ) (d : Bool) → GoesWith l clue x true d k
     → (j : ℕ) × (j < length clue) × (e : ℕ) × IsEndOver l clue x j e × IsBesideRun l clue j e d k
 run_to l clue x k d (may, can) =
-    let (j, jl, (z, zb, end)) = fillable_from (coloured l k d) clue x can in
-    (j, jl, x + z, (omega arith, omega arith, search (rules, end_less, ahead_before)), beside j (x + z) jl (omega arith) end)
-  where
-    beside : (j e : ℕ) → j < length clue → 0 < get_or clue j 0 → IsWholeEnd (coloured l k d) clue j e → IsBesideRun l clue j e d k
-    beside j e jl some (end, back) =
-        let last = (end.1.1 (get_or clue j 0 - 1) (omega arith)).0 in
-        let size = length-set l k (colour d) in
-        elim (cases_lt e k) [
-          | inr inside ↦ inl (end_step_to l (behind 0 clue j) (get_or clue j 0) e k d some may inside end)
-          | inl past ↦
-              (let after = closed_ahead_to (coloured l k d) clue (j + 1) (e + 1) (omega arith) (omega (arith, end.0)) back in search rules)
-        ]
+    let (j, jl, (z, zb, (end, back))) = fillable_from (coloured l k d) clue x can in
+    let size = length-set l k (colour d) in
+    let beside : IsBesideRun l clue j (x + z) d k = elim (cases_lt (x + z) k) [
+      | inr inside ↦ inl (end_step_to l (behind 0 clue j) (get_or clue j 0) (x + z) k d (omega arith) may inside end)
+      | inl past ↦ search (rules, closed_ahead_to (coloured l k d) clue (j + 1) (x + z + 1) (omega arith) (omega (arith, end.0)) back)
+    ] in
+    (j, jl, x + z, (omega arith, omega arith, search (rules, end_less, ahead_before)), beside)
 
 run_from : (l : List Cell) (clue : List ℕ) (x k j e : ℕ) (d : Bool) → ArePositive clue → j < length clue → IsEndOver l clue x j e
     → IsBesideRun l clue j e d k → GoesWith l clue x true d k
 run_from l clue x k j e d pos jl (from, to, whole) beside =
     let same : x + (e - x) ≡ e = omega arith in
-    let (may, end) = kept whole beside in
-    (may, fillable_to (coloured l k d) clue x pos (j, jl, (e - x, omega arith, rw same end)))
+    let (may, end) = kept whole beside in (may, fillable_to (coloured l k d) clue x pos (j, jl, (e - x, omega arith, rw same end)))
   where
     kept : IsWholeEnd l clue j e → IsBesideRun l clue j e d k → MayBe l d k × IsWholeEnd (coloured l k d) clue j e
-    kept (end, back) (inl near) =
-        let here = end_step_from l (behind 0 clue j) (get_or clue j 0) e k d end near in search (rules, drop-set-lt)
+    kept (end, back) (inl near) = search (rules, end_step_from l (behind 0 clue j) (get_or clue j 0) e k d end near, drop-set-lt)
     kept ((enough, (front, cells)), back) (inr (next, (le, may, gap))) = search (rules, behind_coloured, coloured_other, closed_ahead_from)
 
 -- ---- what the tables tell
@@ -191,10 +144,9 @@ told_more line runs i P m old new holds told more = more_same _ _ old new more (
 -- after an end of a run in whole placings that is not at the line's end there is a gap of whole placings
 gap_after_end : (l : List Cell) (clue : List ℕ) (j e : ℕ) → 0 < get_or clue j 0 → j < length clue → e + 1 < length l → IsWholeEnd l clue j e
     → IsWholeGap l clue (j + 1) (e + 1)
-gap_after_end l clue j e some jl within (end, back) = elim (closed_ahead_to l clue (j + 1) (e + 1) (omega arith) (omega arith) back) [
-  | inl none ↦ absurd (omega (arith, none.0))
-  | inr gap ↦ search (rules, add-one, run_from_end l (behind 0 clue j) (get_or clue j 0) e some end)
-]
+gap_after_end l clue j e some jl within (end, back) =
+    let after = closed_ahead_to l clue (j + 1) (e + 1) (omega arith) (omega arith) back in
+    search (rules, after, add-one, run_from_end l _ (get_or clue j 0) e some end)
 
 -- the ends of run j, as a list keeps them, with which it covers a place
 pub end_over_is : {A : Type 0} (number : A → ℕ) (l : List Cell) (clue : List ℕ) (kept : List A) (default : A) (x j w ends over : ℕ)
@@ -202,12 +154,9 @@ pub end_over_is : {A : Type 0} (number : A → ℕ) (l : List Cell) (clue : List
     → ends ≡ number (get_or kept j default)
     → IsMaskOf (λ e. (e < w) × (x ≤ e) × (e < x + get_or clue j 0) × Has ends e) over → IsMaskOf (IsEndOver l clue x j) over
 end_over_is number l clue kept default x j w ends over lengths wholes short jl fits same p =
+    let are : IsMaskOf (IsWholeEnd l clue j) ends = rw (same ∙ number_at number kept j default (omega arith)) (wholes j jl) in
     mask_same _ _ over p (λ e h. search (rules, are.to)) (λ e h.
-    let some = (length_at w clue j lengths jl).0 in
     let last = (h.2.0.1.1 (get_or clue j 0 - 1) (omega arith)).0 in search (rules, are.from))
-  where
-    are : IsMaskOf (IsWholeEnd l clue j) ends
-    are = rw (same ∙ number_at number kept j default (omega arith)) (wholes j jl)
 
 -- the gaps before those ends
 pub gaps_before_are : (l : List Cell) (clue : List ℕ) (j x over low gaps : ℕ) → 0 < get_or clue j 0 → IsMaskOf (IsEndOver l clue x j) over
@@ -241,19 +190,17 @@ pub run_before_more : (l : List Cell) (clue : List ℕ) (before after : List Col
 run_before_more l clue before after j x over part gaps old mid new told some jl are are_gaps parts run rows =
     more_same _ _ old new (more_more _ _ old mid new run (each_more gaps before (λ i. 128 * j + i) (CanBeBefore l (behind 0 clue j)) mid new
     (λ i h. before_are l _ i _ (told.before_is j i (omega arith) (gap_before_is l clue j x i some jl (are_gaps.to i h)))) rows))
-    (λ d k. (to d k, from d k))
-  where
-    to : (d : Bool) (k : ℕ) → (Has part k × (d ≡ true)) ⊎ ((i : ℕ) × Has gaps i × CanBeBefore l (behind 0 clue j) i d k) → IsBeforeRun l clue x j d k
-    to d k (inl (has_part, fill)) =
-        let (z, zl, has_end) = parts.to k has_part in inl (fill, k + z, are.to (k + z) has_end, omega arith, omega arith)
-    to d k (inr (i, has_gap, can)) = inr (i, are_gaps.to i has_gap, can)
-
-    from : (d : Bool) (k : ℕ) → IsBeforeRun l clue x j d k
-        → (Has part k × (d ≡ true)) ⊎ ((i : ℕ) × Has gaps i × CanBeBefore l (behind 0 clue j) i d k)
-    from d k (inl (fill, e, end, past, le)) =
-        let same : k + (e - k) ≡ e = omega arith in
-        inl (parts.from k (e - k, omega arith, rw same (are.from e end)), fill)
-    from d k (inr (i, end, can)) = inr (i, are_gaps.from i end, can)
+    (λ d k. (
+      λ h. elim h [
+        | inl (has_part, fill) ↦ (let x = parts.to k has_part in inl (fill, k + x.0, are.to (k + x.0) x.2, omega (arith, x.1), omega arith))
+        | inr (i, has_gap, can) ↦ inr (i, are_gaps.to i has_gap, can)
+      ],
+      λ h. elim h [
+        | inl (fill, e, end, past, le) ↦ (let same : k + (e - k) ≡ e = omega arith in
+            inl (parts.from k (e - k, omega arith, rw same (are.from e end)), fill))
+        | inr (i, end, can) ↦ inr (i, are_gaps.from i end, can)
+      ],
+    ))
 
 -- and what is after it
 pub run_after_more : (l : List Cell) (clue : List ℕ) (before after : List ColourMasks) (j x gaps : ℕ) (old new : ColourMasks)
@@ -290,54 +237,49 @@ gathered l clue x c near far new P Q pos unknown a b both same =
 pub gathered_blank : (l : List Cell) (clue : List ℕ) (x : ℕ) (near far new : ColourMasks) → ArePositive clue → IsUnknownAt l x
     → AreMasks (Below (length clue + 1) (IsBeforeGap l clue x)) near → AreMasks (Below (length clue + 1) (IsAfterGap l clue x)) far
     → AreBothSides (length l) near far new → AreColours (coloured l x false) clue new
-gathered_blank l clue x near far new pos unknown a b both =
-    gathered l clue x false near far new _ _ pos unknown a b both (λ d k. (to d k, from d k))
-  where
-    Sides : Bool → ℕ → Type 0
-    Sides d k = Below (length clue + 1) (IsBeforeGap l clue x) d k
-        ⊎ ((k < length l) × Below (length clue + 1) (IsAfterGap l clue x) d (length l - 1 - k))
-
-    to : (d : Bool) (k : ℕ) → Sides d k → GoesWith l clue x false d k
-    to d k (inl (j, jl, (gap, can))) = (blank_is l clue x k d unknown.inside).1 (j, omega arith, gap, inl can)
-    to d k (inr (kl, (j, jl, (gap, can)))) =
-        (blank_is l clue x k d unknown.inside).1 (j, omega arith, gap, inr ((after_turned l clue j x k d (omega arith) unknown.inside kl).0 can))
-
-    from : (d : Bool) (k : ℕ) → GoesWith l clue x false d k → Sides d k
-    from d k goes =
-        let (j, jl, gap, sides) = (blank_is l clue x k d unknown.inside).0 goes in
-        elim sides [
-          | inl y ↦ inl (j, omega arith, (gap, y))
-          | inr y ↦ inr (goes.0.0, (j, omega arith, (gap, (after_turned l clue j x k d jl unknown.inside goes.0.0).1 y)))
-        ]
+gathered_blank l clue x near far new pos unknown a b both = gathered l clue x false near far new _ _ pos unknown a b both (λ d k. (
+  λ h. elim h [
+    | inl (j, jl, ((gap, ahead), y)) ↦
+        (let le : j ≤ length clue = omega arith in search (rules, blankable_to (coloured l k d) clue x, drop-set-lt))
+    | inr (kl, (j, jl, ((gap, ahead), can))) ↦
+        (let le : j ≤ length clue = omega arith in
+        let y = (after_turned l clue j x k d le unknown.inside kl).0 can in
+        search (rules, blankable_to (coloured l k d) clue x, behind_coloured))
+  ],
+  λ (may, can).
+      let (j, jl, gap, ahead) = blankable_from (coloured l k d) clue x (omega (arith, length-set l k (colour d), unknown.inside)) can in
+      let whole : IsWholeGap l clue j x = search (rules, gap_less, coloured_less, ahead_before) in
+      elim (cases_lt x k) [
+        | inl after ↦ (let turned = (after_turned l clue j x k d jl unknown.inside may.0).1 (omega arith, may, ahead) in
+            inr (may.0, (j, omega arith, (whole, turned))))
+        | inr before ↦ inl (j, omega arith, (whole, (before, may, gap)))
+      ],
+))
 
 -- and if it is filled
 pub gathered_filled : (l : List Cell) (clue : List ℕ) (x : ℕ) (near far new : ColourMasks) → ArePositive clue → IsUnknownAt l x
     → AreMasks (Below (length clue) (IsBeforeRun l clue x)) near → AreMasks (Below (length clue) (IsAfterRun l clue x)) far
     → AreBothSides (length l) near far new → AreColours (coloured l x true) clue new
-gathered_filled l clue x near far new pos unknown a b both =
-    gathered l clue x true near far new _ _ pos unknown a b both (λ d k. (to d k, from d k))
-  where
-    Sides : Bool → ℕ → Type 0
-    Sides d k = Below (length clue) (IsBeforeRun l clue x) d k ⊎ ((k < length l) × Below (length clue) (IsAfterRun l clue x) d (length l - 1 - k))
-
-    to : (d : Bool) (k : ℕ) → Sides d k → GoesWith l clue x true d k
-    to d k (inl (j, jl, inl (fill, e, over, past, le))) = run_from l clue x k j e d pos jl over (inl (inl (fill, past, le)))
-    to d k (inl (j, jl, inr (i, over, can))) =
-        let same : i + get_or clue j 0 - get_or clue j 0 ≡ i = omega arith in
-        run_from l clue x k j (i + get_or clue j 0) d pos jl over (inl (inr (omega arith, rw same can)))
-    to d k (inr (kl, (j, jl, (i, (first, inside, over), can)))) =
-        let back : i - 1 + 1 ≡ i = omega arith in
-        run_from l clue x k j (i - 1) d pos jl over (inr (rw back (inside, (after_turned l clue (j + 1) i k d (omega arith) inside kl).0 can)))
-
-    from : (d : Bool) (k : ℕ) → GoesWith l clue x true d k → Sides d k
-    from d k goes =
-        let (j, jl, e, over, sides) = run_to l clue x k d goes in
-        elim sides [
-          | inl (inl (fill, past, le)) ↦ inl (j, jl, inl (fill, e, over, past, le))
-          | inl (inr (far, can)) ↦ (let same : e - get_or clue j 0 + get_or clue j 0 ≡ e = omega arith in
-              inl (j, jl, inr (e - get_or clue j 0, rw same over, can)))
-          | inr (next, y) ↦
-              (let back : e + 1 - 1 ≡ e = omega arith in
-              let turned = (after_turned l clue (j + 1) (e + 1) k d (omega arith) next goes.0.0).1 y in
-              inr (goes.0.0, (j, jl, (e + 1, (omega arith, next, rw back over), turned))))
-        ]
+gathered_filled l clue x near far new pos unknown a b both = gathered l clue x true near far new _ _ pos unknown a b both (λ d k. (
+  λ h. elim h [
+    | inl (j, jl, inl (fill, e, over, past, le)) ↦ run_from l clue x k j e d pos jl over (inl (inl (fill, past, le)))
+    | inl (j, jl, inr (i, over, can)) ↦
+        (let same : i + get_or clue j 0 - get_or clue j 0 ≡ i = omega arith in
+        run_from l clue x k j (i + get_or clue j 0) d pos jl over (inl (inr (omega arith, rw same can))))
+    | inr (kl, (j, jl, (i, (first, inside, over), can))) ↦
+        (let back : i - 1 + 1 ≡ i = omega arith in
+        let turned = (after_turned l clue (j + 1) i k d (omega arith) inside kl).0 can in
+        run_from l clue x k j (i - 1) d pos jl over (inr (rw back (inside, turned))))
+  ],
+  λ goes.
+      let (j, jl, e, over, sides) = run_to l clue x k d goes in
+      elim sides [
+        | inl (inl (fill, past, le)) ↦ inl (j, jl, inl (fill, e, over, past, le))
+        | inl (inr (far, can)) ↦ (let same : e - get_or clue j 0 + get_or clue j 0 ≡ e = omega arith in
+            inl (j, jl, inr (e - get_or clue j 0, rw same over, can)))
+        | inr (next, y) ↦
+            (let back : e + 1 - 1 ≡ e = omega arith in
+            let turned = (after_turned l clue (j + 1) (e + 1) k d (omega arith) next goes.0.0).1 y in
+            inr (goes.0.0, (j, jl, (e + 1, (omega arith, next, rw back over), turned))))
+      ],
+))

@@ -14,8 +14,6 @@ filled_within x i h = grind (arith, common_steps)
 pub filled_agrees : (l : List Cell) (x : List Bool) (i : ℕ) → agrees l x ≡ true → get_or x i false ≡ true → i < length l
 filled_agrees l x i agree filled = omega (arith, filled_within x i filled, length-agrees l x agree)
 
--- ---- a list reversed in front of another
-
 -- a list reversed in front of another
 abbrev pub onto : {A : Type 0} → List A → List A → List A
 onto [] after = after
@@ -62,19 +60,16 @@ onto_split (r ∷ p) q clue e = search (rules, drop_head, onto_split p (r ∷ q)
 
 -- ---- the runs of a line that is cut at a blank cell
 
-runs_after-more : (m n : ℕ) (y : List Bool) → runs_after m (replicate n true ++ y) ≡ runs_after (m + n) y
-runs_after-more m zero y = search rules
-runs_after-more m (suc n) y = search (rules, runs_after-true, runs_after, runs_after-more (suc m) n y)
-
 -- a run, if it doesn't go on after its cells
-pub runs_closed : (n : ℕ) (b : List Bool) → get_or b 0 false ≡ false → runs_after (suc n) b ≡ suc n ∷ runs b
-runs_closed n [] h = runs_after-nil n
-runs_closed n (c ∷ b) h = search (rules, runs_after-close, runs_after-zero)
+runs_closed : (n c : ℕ) (b : List Bool) → 0 < n + c → get_or b 0 false ≡ false → runs_after n (replicate c true ++ b) ≡ (n + c) ∷ runs b
+runs_closed n (suc c) b p k = grind (arith, runs_after-true, runs_closed (suc n) c b)
+runs_closed (suc n) zero [] p k = grind (arith, runs_after-nil n)
+runs_closed (suc n) zero (false ∷ b) p k = grind (arith, runs_after-close n b, runs_after-zero b)
+runs_closed n c b p k = search rules
 
 -- the runs of a line that begins with one
 pub runs_first : (c : ℕ) (b : List Bool) → 0 < c → get_or b 0 false ≡ false → runs (replicate c true ++ b) ≡ c ∷ runs b
-runs_first zero b p k = absurd (omega arith)
-runs_first (suc n) b p k = grind (arith, runs_after-zero, runs_after-more 0 (suc n) b, runs_closed n b)
+runs_first c b p k = grind (arith, runs_after-zero, runs_closed 0 c b)
 
 runs_onto : (a : List Bool) (n : ℕ) (b : List Bool) → runs (onto a (replicate n true ++ (false ∷ b))) ≡ onto (runs_after n a) (runs b)
 runs_onto [] n b = search (rules, runs_after-nil, runs_after-zero, runs_first)
@@ -90,8 +85,6 @@ pub runs_about : (a : List Bool) (c : ℕ) (b : List Bool) → 0 < c → get_or 
     → runs (onto a (replicate c true ++ b)) ≡ onto (runs a) (c ∷ runs b)
 runs_about [] c b p h k = runs_first c b p k
 runs_about (x ∷ a) c b p h k = search (rules, runs_cut, runs_first)
-
--- ---- parts of a clue
 
 -- each number of a clue is positive
 pub positive_at : (clue : List ℕ) → ArePositive clue → (j : ℕ) → j < length clue → 0 < get_or clue j 0
@@ -151,40 +144,33 @@ pub blankable_to : (l : List Cell) (clue : List ℕ) (i : ℕ) → IsBlankable l
 blankable_to l clue i (j, jl, gap, ahead) =
     let a = gap.1 in
     let b = ahead.1 in
-    let within : i < length l = gap.0.0 in
-    let long : length a.0 ≡ i = length-agrees (behind Unknown l i) a.0 a.1 ∙ length_behind Unknown l i in
+    let at : length a.0 + 0 ≡ i = omega (arith, length-agrees (behind Unknown l i) a.0 a.1, length_behind Unknown l i) in
     let here : agrees (drop i l) (false ∷ b.0) ≡ true = search (rules, drop-cons, and_from, add-one) in
-    let at : length a.0 + 0 ≡ i = omega arith in
     let whole = agrees_onto (behind Unknown l i) (drop i l) a.0 (false ∷ b.0) a.1 here in
     (onto a.0 (false ∷ b.0), search (rules, onto_behind), search (rules, runs_cut, onto_behind), search (rules, get_or-onto))
 
 -- and a cell that is blank in a placing is told so
 pub blankable_from : (l : List Cell) (clue : List ℕ) (i : ℕ) → i < length l → CanBe l clue false i → IsBlankable l clue i
 blankable_from l clue i h (x, agree, is, at) =
-    let long : length x ≡ length l = length-agrees l x agree in
     let a = behind false x i in
     let b = drop (suc i) x in
-    let whole : onto a (false ∷ b) ≡ x = grind (arith, common_steps, onto_behind, drop-cons) in
+    let whole : onto a (false ∷ b) ≡ x = grind (arith, common_steps, onto_behind, drop-cons, length-agrees l x agree) in
     let parts = onto_split (runs a) (runs b) clue (sym (runs_cut a b) ∙ ap runs whole ∙ is) in
     let cut = onto_agrees (behind Unknown l i) (drop i l) a (false ∷ b) in
     grind (arith, common_steps, drop_past, add-one, cut, length_behind, onto_behind)
 
 -- ---- no run at an end: the end of the line, or a gap
 
--- a placing whose first cell is blank has no run there
-pub closed_none : (cs : List ℕ) → MayBeginBlank [] cs → length cs ≡ 0
-closed_none cs x = search rules
+-- a placing of no cells has no run
+closed_none : (cs : List ℕ) → MayBeginBlank [] cs ↔ (length cs ≡ 0)
+closed_none [] = search rules
+closed_none (c ∷ cs) = search rules
 
-pub closed_first : (c : Cell) (cells : List Cell) (cs : List ℕ) → MayBeginBlank (c ∷ cells) cs → (allows c false ≡ true) × HasPlacing cells cs
-closed_first c cells cs x = search rules
-
--- a placing goes on with a blank cell before it
-pub first_closed : (c : Cell) (cells : List Cell) (cs : List ℕ) → allows c false ≡ true → HasPlacing cells cs → MayBeginBlank (c ∷ cells) cs
-first_closed c cells cs a (y, agree, is) = (false ∷ y, and_from (allows c false) (agrees cells y) a agree, is, refl)
-
-pub none_closed : (cs : List ℕ) → length cs ≡ 0 → MayBeginBlank [] cs
-none_closed [] h = ([], refl, refl, refl)
-none_closed (c ∷ cs) h = absurd (omega arith)
+-- and one whose first cell is blank is one of the other cells
+pub closed_first : (c : Cell) (cells : List Cell) (cs : List ℕ)
+    → MayBeginBlank (c ∷ cells) cs ↔ ((allows c false ≡ true) × HasPlacing cells cs)
+closed_first c cells cs =
+    (λ x. search rules, λ (a, (y, agree, is)). (false ∷ y, and_from (allows c false) (agrees cells y) a agree, is, refl))
 
 -- no run touches a place from behind: it is the first place, or one after a gap
 pub closed_behind_to : (l : List Cell) (runs : List ℕ) (s : ℕ) → s ≤ length l → MayBeginBlank (behind Unknown l s) runs
@@ -194,8 +180,8 @@ closed_behind_to l runs s sl h = search rules
 -- and back
 pub closed_behind_from : (l : List Cell) (runs : List ℕ) (s : ℕ) → ((s ≡ 0) × (length runs ≡ 0)) ⊎ ((1 ≤ s) × IsGapAfter l runs (s - 1))
     → MayBeginBlank (behind Unknown l s) runs
-closed_behind_from l runs zero h = search (rules, none_closed)
-closed_behind_from l runs (suc s) h = search (rules, first_closed)
+closed_behind_from l runs zero h = search (rules, closed_none)
+closed_behind_from l runs (suc s) h = search (rules, (closed_first (get_or l s Unknown) (behind Unknown l s) runs).1)
 
 -- ---- a line and a clue seen from the other end
 
@@ -212,13 +198,13 @@ reversed_gap l clue j i jl il = search (rules, get_or-reverse, behind_reversed, 
 pub closed_ahead_to : (l : List Cell) (clue : List ℕ) (j p : ℕ) → j ≤ length clue → p ≤ length l → MayBeginBlank (drop p l) (drop j clue)
     → ((p ≡ length l) × (j ≡ length clue)) ⊎ IsGapAhead l clue j p
 closed_ahead_to l clue j p jl pl h = elim (cases_lt p (length l)) [
-  | inr past ↦ (let none = closed_none (drop j clue) (rw (drop_of_length-le l {i = p} past) at h) in search (rules, length-drop j clue))
-  | inl within ↦ grind (arith, common_steps, closed_first, drop-cons, add-one)
+  | inr past ↦ (let none = (closed_none (drop j clue)).0 (rw (drop_of_length-le l {i = p} past) at h) in search (rules, length-drop j clue))
+  | inl within ↦ inr (let x = (closed_first _ _ _).0 (rw (drop-cons l p Unknown within) at h) in search (rules, add-one))
 ]
 
 -- and back
 pub closed_ahead_from : (l : List Cell) (clue : List ℕ) (j p : ℕ) → ((p ≡ length l) × (j ≡ length clue)) ⊎ IsGapAhead l clue j p
     → MayBeginBlank (drop p l) (drop j clue)
-closed_ahead_from l clue j p (inl h) = search (rules, drop_of_length-le, none_closed)
+closed_ahead_from l clue j p (inl h) = search (rules, drop_of_length-le, closed_none)
 closed_ahead_from l clue j p (inr g) =
-    rw (drop-cons l p Unknown g.0.0) (first_closed (get_or l p Unknown) (drop (suc p) l) (drop j clue) g.0.1 (rw (add-one p) at g.1))
+    rw (drop-cons l p Unknown g.0.0) ((closed_first (get_or l p Unknown) (drop (suc p) l) (drop j clue)).1 (g.0.1, rw (add-one p) at g.1))

@@ -1,5 +1,5 @@
 -- The cells of a line that may have a colour, and the lengths of runs.
-use Rattle.std.proofs.Common.{◌≡◌, ℕ, ◌+◌, ◌<◌, ◌≤◌, true, false, List, length, get_or, set, sym, subst, arith, rules, inl, inr}
+use Rattle.std.proofs.Common.{◌↔◌, ◌≡◌, ℕ, ◌+◌, ◌<◌, ◌≤◌, true, false, List, length, get_or, set, sym, subst, arith, rules, inl, inr}
 use Rattle.grid_core.specs.declared.cells.Cell.{Cell}
 use Rattle.grid_core.specs.declared.cells.Cell.TheVariants.{Unknown}
 use Rattle.grid_core.specs.Cells.{allows, is_filled}
@@ -10,16 +10,13 @@ use Rattle.std.proofs.lemmas.Bool.{false_from_ne_true, cases_lt}
 use Rattle.std.proofs.lemmas.Nat.Bits.{bit_at-zero}
 use Rattle.line_core.specs.steps.Reach.{MayBe, AreLengths}
 
-free_to : (c : Cell) → is_filled c ≡ false → allows c false ≡ true
-free_to c e = search rules
-
-free_from : (c : Cell) → allows c false ≡ true → is_filled c ≡ false
-free_from c e = search rules
+free_cell : (c : Cell) → (is_filled c ≡ false) ↔ (allows c false ≡ true)
+free_cell c = search rules
 
 -- the cells that may be blank are those that the set of filled ones lacks
 pub free_is : (line : List Cell) (filled m : ℕ) → ((i : ℕ) → i < length line → has filled i ≡ is_filled (get_or line i Unknown))
     → IsMaskOf (λ i. (i < length line) × (has filled i ≡ false)) m → IsMaskOf (MayBe line false) m
-free_is line filled m same lacking = search (rules, free_to, free_from)
+free_is line filled m same lacking = search (rules, free_cell)
 
 -- a mask of nothing
 pub none_is : (P : ℕ → Type 0) (m : ℕ) → m ≡ 0 → ((i : ℕ) → P i → ⊥) → IsMaskOf P m

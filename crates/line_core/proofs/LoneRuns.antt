@@ -1,8 +1,8 @@
 -- A clue of one run: its starts tell which cells can be filled and which can be blank.
-use Rattle.line_core.proofs.Names.{false_from_ne_true, rules, ◌≡◌, ℕ, ◌+◌, ◌-◌, ◌<◌, ◌≤◌, Bool, true, false, List, [], ◌∷◌, length, ap, arith, ◌⊎◌, inl, inr, get_or, cases_lt, Cell, agrees, runs, Has, has, IsMaskOf, IsShifted, AllFrom, SomeFrom, has_true, mask_same, MayBe, IsFillable, IsBlankable, ArePositive, lacks, none_has, none_is, common_steps, true_has, true_from_ne_false}
+use Rattle.line_core.proofs.Names.{false_from_ne_true, rules, ◌≡◌, ℕ, ◌+◌, ◌-◌, ◌<◌, ◌≤◌, Bool, true, false, List, [], ◌∷◌, length, ap, arith, ◌⊎◌, inl, inr, get_or, cases_lt, Cell, agrees, runs, Has, has, IsMaskOf, IsShifted, AllFrom, SomeFrom, has_true, mask_same, MayBe, IsFillable, IsBlankable, ArePositive, lacks, none_has, common_steps, true_has, true_from_ne_false}
 use Rattle.line_core.specs.steps.Lone.{IsLoneStart}
 use Rattle.line_core.proofs.Joining.{blankable_to, blankable_from}
-use Rattle.line_core.proofs.WholeEnds.{fillable_to, fillable_from}
+use Rattle.line_core.proofs.WholeEnds.{fillable_to, fillable_from, IsTold, none_told}
 use Rattle.line_core.proofs.RunStarts.{starts_from, in_run, covered}
 use Rattle.line_core.proofs.Painting.{laid, placing_of}
 
@@ -19,8 +19,7 @@ module _ (l : List Cell) (clue : List ℕ) (one : length clue ≡ 1) where
   -- a placing of the run that starts here
   lone_placing : (s : ℕ) → ArePositive clue → IsLoneStart l number s → (x : List Bool) × (agrees l x ≡ true) × (runs x ≡ clue) × (start_of x ≡ s)
   lone_placing s pos start =
-      let p = placing_of l clue (s ∷ []) pos (search rules) in
-      (p.0, p.1, p.2, ap (λ (ss : List ℕ). get_or ss 0 0) p.3)
+      let p = placing_of l clue (s ∷ []) pos (search rules) in (p.0, p.1, p.2, ap (λ (ss : List ℕ). get_or ss 0 0) p.3)
 
   lone_start : (x : List Bool) → agrees l x ≡ true → runs x ≡ clue → IsLoneStart l number (start_of x)
   lone_start x agree is =
@@ -31,17 +30,7 @@ module _ (l : List Cell) (clue : List ℕ) (one : length clue ≡ 1) where
   of_run : (x : List Bool) (i : ℕ) → runs x ≡ clue → get_or x i false ≡ true → (start_of x ≤ i) × (i < start_of x + number)
   of_run x i is filled = let c = covered x clue i is filled in let e : c.index ≡ 0 = omega (arith, c.inside) in search (rules, e)
 
-  -- a start from which the run fills the cell
-  fills_to : (i : ℕ) → ArePositive clue → IsFillable l clue i → (s : ℕ) × IsLoneStart l number s × (s ≤ i) × (i < s + number)
-  fills_to i pos h = let x = fillable_to l clue i pos h in search (rules, of_run x.0 i, lone_start x.0)
-
-  fills_from : (i s : ℕ) → ArePositive clue → IsLoneStart l number s → s ≤ i → i < s + number → IsFillable l clue i
-  fills_from i s pos start low high = let p = lone_placing s pos start in search (rules, fillable_from, in_run p.0 clue 0 i)
-
   -- a start from which the run leaves the cell blank
-  leaves_to : (i : ℕ) → IsBlankable l clue i → (s : ℕ) × IsLoneStart l number s × ((i < s) ⊎ (s + number ≤ i))
-  leaves_to i h = let x = blankable_to l clue i h in (start_of x.0, lone_start x.0 x.1 x.2, grind (arith, in_run x.0 clue 0 i x.2))
-
   leaves_from : (i s : ℕ) → ArePositive clue → i < length l → IsLoneStart l number s → (i < s) ⊎ (s + number ≤ i) → IsBlankable l clue i
   leaves_from i s pos within start out =
       let p = lone_placing s pos start in grind (arith, common_steps, blankable_from, false_from_ne_true, of_run)
@@ -50,51 +39,36 @@ module _ (l : List Cell) (clue : List ℕ) (one : length clue ≡ 1) where
 
   module _ (starts : ℕ) (s : IsMaskOf (IsLoneStart l number) starts) where
     -- no start, no placing
-    pub lone_unfillable : (m : ℕ) → ArePositive clue → starts ≡ 0 → m ≡ 0 → IsMaskOf (IsFillable l clue) m
-    lone_unfillable m pos none e =
-        none_is (IsFillable l clue) m e (λ i h. let f = fills_to i pos h in none_has starts f.0 none (s.from f.0 f.1))
-
-    -- no start, no blank cell in a placing
-    pub lone_unblankable : (m : ℕ) → starts ≡ 0 → m ≡ 0 → IsMaskOf (IsBlankable l clue) m
-    lone_unblankable m none e =
-        none_is (IsBlankable l clue) m e (λ i h. let f = leaves_to i h in none_has starts f.0 none (s.from f.0 f.1))
+    pub lone_none : (v : Bool) (m : ℕ) → ArePositive clue → starts ≡ 0 → m ≡ 0 → IsMaskOf (IsTold l clue v) m
+    lone_none v m pos none e = none_told l clue v m pos e (λ x agree is. none_has starts _ none (s.from _ (lone_start x agree is)))
 
     -- each cell among as many from a start on
     pub lone_fillable : (w ends m : ℕ) → ArePositive clue → 0 < number → length l ≤ w → IsMaskOf (IsShifted w (Has starts) (number - 1)) ends
         → IsMaskOf (SomeFrom (Has ends) number) m → IsMaskOf (IsFillable l clue) m
-    lone_fillable w ends m pos some short p q = mask_same _ _ m q to from
-      where
-        to : (i : ℕ) → SomeFrom (Has ends) number i → IsFillable l clue i
-        to i (z, below, has_end) =
-            let (within, enough, start) = p.to (i + z) has_end in
-            fills_from i (i + z - (number - 1)) pos (s.to (i + z - (number - 1)) start) (omega arith) (omega arith)
-
-        from : (i : ℕ) → IsFillable l clue i → SomeFrom (Has ends) number i
-        from i h =
-            let (at, start, low, high) = fills_to i pos h in
-            let last = (start.window (number - 1) (omega arith)).0 in
-            let has_start = s.from at start in (at + (number - 1) - i, omega arith, grind (arith, common_steps, p.from))
+    lone_fillable w ends m pos some short p q = mask_same _ _ m q (λ i (z, below, has_end).
+        let (within, enough, start) = p.to (i + z) has_end in
+        let (x, agree, is, at) = lone_placing (i + z - (number - 1)) pos (s.to _ start) in
+        fillable_from l clue i (x, agree, is, in_run x clue 0 i is (omega arith) (omega (arith, at)) (omega (arith, at)))) (λ i h.
+        let (x, agree, is, filled) = fillable_to l clue i pos h in
+        let (low, high) = of_run x i is filled in
+        let start = lone_start x agree is in
+        let last = (start.window (number - 1) (omega arith)).0 in
+        let has_start = s.from _ start in (start_of x + (number - 1) - i, omega arith, grind (arith, common_steps, p.from)))
 
     -- each cell but those that the run fills from each start
     pub lone_blankable : (w len line first last certain m : ℕ) → ArePositive clue → len ≡ length l → length l ≤ w → Has starts first
         → ((i : ℕ) → Has starts i → first ≤ i) → Has starts last → ((i : ℕ) → Has starts i → i ≤ last)
         → IsMaskOf (λ i. (i < w) × (last ≤ i) × (i < first + number)) certain → IsMaskOf (λ i. i < len) line
         → IsMaskOf (λ i. Has line i × (has certain i ≡ false)) m → IsMaskOf (IsBlankable l clue) m
-    lone_blankable w len line first last certain m pos e short at_first least at_last greatest c a p = mask_same _ _ m p to from
-      where
-        to : (i : ℕ) → Has line i × (has certain i ≡ false) → IsBlankable l clue i
-        to i h =
-            let within = a.to i h.0 in
-            elim (cases_lt i last) [
-              | inl before ↦ leaves_from i last pos (omega arith) (s.to last at_last) (inl before)
-              | inr from ↦ leaves_from i first pos (omega arith) (s.to first at_first) (inr (grind (arith, c.from i, has_true)))
-            ]
-
-        from : (i : ℕ) → IsBlankable l clue i → Has line i × (has certain i ≡ false)
-        from i h =
-            let within : i < length l = h.2.0.0 in
-            let (at, start, out) = leaves_to i h in
-            (a.from i (omega arith), lacks certain i (λ x. grind (arith, c.to i x, greatest at (s.from at start), least at (s.from at start))))
+    lone_blankable w len line first last certain m pos e short at_first least at_last greatest c a p = mask_same _ _ m p (λ i h.
+        let within = a.to i h.0 in
+        elim (cases_lt i last) [
+          | inl before ↦ leaves_from i last pos (omega arith) (s.to last at_last) (inl before)
+          | inr from ↦ leaves_from i first pos (omega arith) (s.to first at_first) (inr (grind (arith, c.from i, has_true)))
+        ]) (λ i h.
+        let (x, agree, is, blank) = blankable_to l clue i h in
+        let start = s.from _ (lone_start x agree is) in
+        (a.from i (omega arith), lacks certain i (λ y. grind (arith, c.to i y, greatest _ start, least _ start, in_run x clue 0 i is))))
 
 -- ---- the mask of the starts
 
@@ -118,27 +92,20 @@ module _ (l : List Cell) (number free room len line filled starts : ℕ) (e : le
       → Has filled last → ((i : ℕ) → Has filled i → i ≤ last) → first < w → IsMaskOf (λ i. i < first + 1) before
       → IsMaskOf (λ i. Has starts i × Has before i) some → IsMaskOf (λ i. i < w) all → IsMaskOf (IsShifted w (Has all) (last + 1 - number)) after
       → IsMaskOf (λ i. Has some i × Has after i) m → IsMaskOf (IsLoneStart l number) m
-  starts_about w first last before some all after m pos at_first least at_last greatest short b q c d t = mask_same _ _ m t to from
+  starts_about w first last before some all after m pos at_first least at_last greatest short b q c d t = mask_same _ _ m t (λ i h.
+      let two = q.to i h.0 in
+      let low : i < first + 1 = b.to i two.1 in
+      let high : last + 1 - number ≤ i = (d.to i h.1).1 in
+      record {
+        window = λ z b. r.to (i + z) (s.to i two.0 z b);
+        blanks = λ k within out. free_unless k (λ x. let l0 = least k x in let g0 = greatest k x in out (omega arith) (omega arith)) within;
+      }) (λ i start.
+      let x = must i first start at_first in
+      let y = must i last start at_last in
+      let has = s.from i (λ z b. r.from (i + z) (start.window z b)) in
+      let none = c.from (i - (last + 1 - number)) (omega arith) in
+      (q.from i (has, b.from i (omega arith)), d.from i (omega arith, omega arith, none)))
     where
-      to : (i : ℕ) → Has some i × Has after i → IsLoneStart l number i
-      to i h =
-          let two = q.to i h.0 in
-          let low : i < first + 1 = b.to i two.1 in
-          let high : last + 1 - number ≤ i = (d.to i h.1).1 in
-          record {
-            window = λ z b. r.to (i + z) (s.to i two.0 z b);
-            blanks = λ k within out.
-                free_unless k (λ x. let l0 = least k x in let g0 = greatest k x in out (omega arith) (omega arith)) within;
-          }
-
       -- a cell that must be filled is in the run
       must : (i k : ℕ) → IsLoneStart l number i → Has filled k → (i ≤ k) × (k < i + number)
       must i k start x = let y = p.to k x in let within : k < len = a.to k y.0 in search (rules, f.from k, start.blanks k)
-
-      from : (i : ℕ) → IsLoneStart l number i → Has some i × Has after i
-      from i start =
-          let x = must i first start at_first in
-          let y = must i last start at_last in (
-            q.from i (s.from i (λ z b. r.from (i + z) (start.window z b)), b.from i (omega arith)),
-            d.from i (omega arith, omega arith, c.from (i - (last + 1 - number)) (omega arith)),
-          )

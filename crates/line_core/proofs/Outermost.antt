@@ -1,9 +1,9 @@
 -- The placing whose starts are all least, and the one whose starts are all greatest.
-use Rattle.line_core.proofs.Names.{inl, inr, false_from_ne_true, rules, ◌≡◌, ℕ, suc, ◌+◌, ◌-◌, ◌<◌, ◌≤◌, Bool, true, false, not, List, [], ◌∷◌, length, map, Some, None, refl, sym, ap, ◌∙◌, arith, get_or, ext_get_or, nat_le, set, take, MatchBool, All, list_all, find, All-head, All-tail, All-weaker, and_parts, leb-true, le-leb, list_all-map, length-take-le, get_or-take, Cell, placings, run_starts, all_starts, Side, Left, Right, outermost, IsAsFar, IsOuterStart, Has, IsMaskOf, written_more, IsWholeEnd, IsGap, IsGapAhead, HasPlacing, ArePositive, cases_Bool, common_steps}
+use Rattle.line_core.proofs.Names.{◌↔◌, inl, inr, false_from_ne_true, rules, ◌≡◌, ℕ, suc, ◌+◌, ◌-◌, ◌<◌, ◌≤◌, Bool, true, false, not, List, [], ◌∷◌, length, map, Some, None, refl, sym, ap, ◌∙◌, arith, get_or, ext_get_or, nat_le, take, MatchBool, All, list_all, find, All-head, All-tail, All-weaker, and_parts, leb-true, le-leb, list_all-map, length-take-le, get_or-take, Cell, placings, run_starts, all_starts, Side, Left, Right, outermost, IsAsFar, IsOuterStart, Has, IsMaskOf, IsWholeEnd, IsGap, IsGapAhead, HasPlacing, ArePositive, cases_Bool, common_steps}
 use lib.Pointwise.{pointwise}
 use Rattle.line_core.proofs.Joining.{positive_at, blankable_to, blankable_from}
 use Rattle.line_core.proofs.WholeEnds.{whole_of, placing_with}
-use Rattle.line_core.proofs.DeductionLaws.{IsPlacing, placings_listed, none_listed, not_all, agrees-Extends, Extends-agrees}
+use Rattle.line_core.proofs.DeductionLaws.{IsPlacing, placings_listed, none_listed, not_all, agrees_is}
 use Rattle.line_core.proofs.RunStarts.{starts_from, run_starts-from, covered}
 use Rattle.line_core.proofs.Painting.{IsLaid, AreFurthest, laid, placing_of, furthest_laid}
 
@@ -20,9 +20,7 @@ pointwise_to xs ys h = search rules
 
 pub pointwise_antisym : (xs ys : List ℕ) → pointwise nat_le xs ys ≡ true → pointwise nat_le ys xs ≡ true → xs ≡ ys
 pointwise_antisym xs ys h k =
-    let a = pointwise_to xs ys h in
-    let b = pointwise_to ys xs k in
-    ext_get_or 0 xs ys a.0 (λ j l. let p = a.1 j in let q = b.1 j in omega arith)
+    ext_get_or 0 xs ys (pointwise_to xs ys h).0 (λ j l. omega (arith, (pointwise_to xs ys h).1 j, (pointwise_to ys xs k).1 j))
 
 -- each of some starts is as far to a side as the other there, or further
 abbrev pub all_as_far : Side → List ℕ → List ℕ → Bool
@@ -45,10 +43,6 @@ find_only p m (x ∷ ps) only h = elim (cases_Bool (p (run_starts x))) [
   | inr e ↦ rw e (find_only p m ps (All-tail (λ y. p (run_starts y) ≡ true → run_starts y ≡ m) x ps only) (rw e at h))
 ]
 
-as_far_start : (side : Side) (some end other start : ℕ) → 0 < some → start ≡ end + 1 - some → IsAsFar side end (other + some - 1)
-    → IsAsFar side start other
-as_far_start side some end other start s at far = search rules
-
 -- what follows of either answer
 pub match_more : (b : Bool) (P Q R S : Type 0) → (P → R) → (Q → S) → MatchBool b P Q → MatchBool b R S
 match_more true P Q R S f g h = f h
@@ -57,7 +51,7 @@ match_more false P Q R S f g h = g h
 module _ (l : List Cell) (clue : List ℕ) where
   -- the starts of a placing lay the clue
   pub laid_placing : (x : List Bool) → IsPlacing l clue x → IsLaid l clue (run_starts x)
-  laid_placing x p = search (rules, run_starts-from, laid, Extends-agrees)
+  laid_placing x p = rw run_starts-from (laid l clue x ((agrees_is l x).1 p.extends) p.runs_are)
 
   -- a test that passes for the starts of all placings
   all_pass : (p : List ℕ → Bool) → ((ss : List ℕ) → IsLaid l clue ss → p ss ≡ true) → list_all p (all_starts l clue) ≡ true
@@ -69,15 +63,9 @@ module _ (l : List Cell) (clue : List ℕ) where
   pub pass_all : (p : List ℕ → Bool) → list_all p (all_starts l clue) ≡ true → (x : List Bool) → IsPlacing l clue x → p (run_starts x) ≡ true
   pass_all p h x q = (placings_listed l clue).each (λ x. p (run_starts x)) (sym (list_all-map p run_starts (placings l clue)) ∙ h) x q
 
-  found_is : (m : List ℕ) (p : List ℕ → Bool) (x : List Bool) → IsPlacing l clue x → run_starts x ≡ m → p m ≡ true
-      → ((y : List Bool) → IsPlacing l clue y → p (run_starts y) ≡ true → run_starts y ≡ m) → find p (all_starts l clue) ≡ Some m
-  found_is m p x q at pass only =
-      let listed = placings_listed l clue in
-      find_only p m (placings l clue) (grind (arith, common_steps, All-weaker, listed.members)) (grind (arith, common_steps, not_all, listed))
-
   -- starts that lay the clue are those of a placing
   pub placed : (m : List ℕ) → ArePositive clue → IsLaid l clue m → (x : List Bool) × IsPlacing l clue x × (run_starts x ≡ m)
-  placed m pos d = let x = placing_of l clue m pos d in search (rules, agrees-Extends, run_starts-from, x)
+  placed m pos d = let x = placing_of l clue m pos d in search (rules, agrees_is, run_starts-from, x)
 
   -- each run ends somewhere in whole placings, if there is one
   pub some_end : (j : ℕ) → ArePositive clue → HasPlacing l clue → j < length clue → (e : ℕ) × IsWholeEnd l clue j e
@@ -90,26 +78,16 @@ module _ (l : List Cell) (clue : List ℕ) where
       let (x, agree, is, starts) = placing_of l clue ss pos d in
       whole_of l clue x j (get_or ss j 0 + get_or clue j 0 - 1) agree is h (rw starts (omega (arith, positive_at clue pos j h)))
 
-  -- if a run ends somewhere in a whole placing, there is a placing
-  pub some_placing : (j e : ℕ) → ArePositive clue → j < length clue → IsWholeEnd l clue j e → HasPlacing l clue
-  some_placing j e pos h w = let x = placing_with l clue j e pos h w in (x.0, x.1, x.2)
-
-  -- ---- a line with no run
-
-  -- its first cell is blank in each placing
-  pub no_run_to : (gap ahead m : ℕ) → IsMaskOf (IsGap l clue 0) gap → IsMaskOf (IsGapAhead l clue 0) ahead
-      → IsMaskOf (λ i. Has gap i × Has ahead i) m → Has m 0 → HasPlacing l clue
-  no_run_to gap ahead m g a p h =
-      let both = p.to 0 h in let can = blankable_to l clue 0 (0, omega arith, g.to 0 both.0, a.to 0 both.1) in search (rules, can)
-
-  -- and a clue with no run that has a placing leaves it blank
-  pub no_run_from : (gap ahead m : ℕ) → length clue ≡ 0 → 0 < length l → IsMaskOf (IsGap l clue 0) gap
-      → IsMaskOf (IsGapAhead l clue 0) ahead → IsMaskOf (λ i. Has gap i × Has ahead i) m → HasPlacing l clue → Has m 0
-  no_run_from gap ahead m none some g a q (x, agree, is) =
-      let blank = false_from_ne_true (get_or x 0 false) (λ e. let c = covered x clue 0 is e in omega (arith, c.inside)) in
-      let (j, jl, before, after) = blankable_from l clue 0 some (x, agree, is, blank) in
-      let first : j ≡ 0 = omega arith in
-      q.from 0 (g.from 0 (rw first at before), a.from 0 (rw first at after))
+  -- a placing with no run is there exactly if the first cell is blank in one
+  pub no_run_is : (gap ahead m : ℕ) → length clue ≡ 0 → 0 < length l → IsMaskOf (IsGap l clue 0) gap → IsMaskOf (IsGapAhead l clue 0) ahead
+      → IsMaskOf (λ i. Has gap i × Has ahead i) m → Has m 0 ↔ HasPlacing l clue
+  no_run_is gap ahead m none some g a q = (
+    λ h. let both = q.to 0 h in search (rules, blankable_to l clue 0 (0, omega arith, g.to 0 both.0, a.to 0 both.1)),
+    λ (x, agree, is).
+        let blank = false_from_ne_true (get_or x 0 false) (λ e. let c = covered x clue 0 is e in omega (arith, c.inside)) in
+        let (j, jl, before, after) = blankable_from l clue 0 some (x, agree, is, blank) in
+        let first : j ≡ 0 = omega arith in q.from 0 (g.from 0 (rw first at before), a.from 0 (rw first at after)),
+  )
 
 -- ---- either side
 
@@ -124,7 +102,10 @@ module _ (side : Side) (l : List Cell) (clue : List ℕ) where
       let x = placed l clue m pos (furthest_laid side l clue m f) in
       let test = λ (starts : List ℕ). list_all (all_as_far side starts) (all_starts l clue) in
       let pass : test m ≡ true = grind (arith, common_steps, all_pass, as_far_from) in
-      outermost_found ∙ found_is l clue m test x.0 x.1 x.2 pass (λ y q t. grind (arith, common_steps, as_far_antisym, pass_all))
+      let listed = placings_listed l clue in
+      let only = All-weaker (IsPlacing l clue) (λ y. test (run_starts y) ≡ true → run_starts y ≡ m)
+      (λ y q t. grind (arith, common_steps, as_far_antisym, pass_all)) _ listed.members in
+      outermost_found ∙ find_only test m (placings l clue) only (grind (arith, common_steps, not_all, listed))
 
   -- the starts that are furthest to a side are those of one placing, which is the outermost
   outermost_is : (m : List ℕ) → ArePositive clue → HasPlacing l clue → length m ≡ length clue
@@ -140,23 +121,14 @@ module _ (side : Side) (l : List Cell) (clue : List ℕ) where
             record { starts = starts_from 0 false x.0; laid_so = laid l clue x.0 x.1 x.2; at = x.3 ∙ sym o.start_is };
         furthest = λ ss d j h.
             let o = each j h in
-            let far = o.outermost_so _ (laid_end l clue ss j pos d h) in search (rules, as_far_start, positive_at, o.start_is);
+            let far = o.outermost_so _ (laid_end l clue ss j pos d h) in search (rules, positive_at clue pos j h, o.start_is);
       })
 
   outermost_none : (HasPlacing l clue → ⊥) → outermost side l clue ≡ None
   outermost_none none =
       outermost_found
       ∙ ap (λ (ps : List (List Bool)). find (λ starts. list_all (all_as_far side starts) (map run_starts ps)) (map run_starts ps))
-      (none_listed l clue (placings l clue) (placings_listed l clue) (λ x p. none (x, Extends-agrees l x p.extends, p.runs_are)))
-
-  -- one more run's start
-  pub outer_more : (list : List ℕ) (j whole place start : ℕ) → j < length list → IsMaskOf (IsWholeEnd l clue j) whole → Has whole place
-      → ((i : ℕ) → Has whole i → IsAsFar side place i) → start ≡ place + 1 - get_or clue j 0
-      → ((k : ℕ) → k < j → IsOuterStart side l clue k (get_or list k 0)) → (k : ℕ) → k < j + 1
-      → IsOuterStart side l clue k (get_or (set list j start) k 0)
-  outer_more list j whole place start h mask in_mask far at below =
-      written_more (IsOuterStart side l clue) list j start h
-      (record { end = place; whole = mask.to place in_mask; start_is = at; outermost_so = λ e w. far e (mask.from e w) }) below
+      (none_listed l clue (placings l clue) (placings_listed l clue) (λ x p. none (x, (agrees_is l x).1 p.extends, p.runs_are)))
 
   -- the starts of a search are the outermost ones, or there are none
   pub answered : (list : List ℕ) (b : Bool) → ArePositive clue → length clue ≤ length list

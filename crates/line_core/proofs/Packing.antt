@@ -1,8 +1,8 @@
 -- Placings on a line of which nothing is known: the runs packed to the left, and from one on moved right.
-use Rattle.line_core.proofs.Names.{common_steps, rules, ◌≡◌, ℕ, zero, suc, ◌+◌, ◌-◌, ◌*◌, ◌<◌, ◌≤◌, ◌≢◌, Bool, true, false, cond, List, length, replicate, map, nat_le, nat_lt, sym, ap, ◌∙◌, arith, add-one, true≢false, ◌⊎◌, inl, inr, get_or, ext_get_or, range_with_len, false_from_ne_true, cases_lt, take_all, length-replicate, length-map-range_with_len, get_or-map-range_with_len, sum_by_more, sum_by-take-le, Cell, Unknown, agrees, runs, Has, has, IsMaskOf, IsShifted, has_true, true_has, mask_same, AreLengths, MayBe, IsFillable, IsBlankable, has_by, ArePositive, length_at, lacks, none_has, none_in, none_is, needed, least_start, IsOverlapBefore, IsOverlap}
+use Rattle.line_core.proofs.Names.{◌↔◌, common_steps, rules, ◌≡◌, ℕ, zero, suc, ◌+◌, ◌-◌, ◌*◌, ◌<◌, ◌≤◌, ◌≢◌, Bool, true, false, cond, List, length, replicate, map, nat_le, nat_lt, sym, ap, ◌∙◌, arith, add-one, true≢false, ◌⊎◌, inl, inr, get_or, ext_get_or, range_with_len, false_from_ne_true, cases_lt, take_all, length-replicate, length-map-range_with_len, get_or-map-range_with_len, sum_by_more, sum_by-take-le, Cell, Unknown, agrees, runs, Has, has, IsMaskOf, IsShifted, has_true, true_has, mask_same, AreLengths, MayBe, IsFillable, IsBlankable, has_by, ArePositive, length_at, lacks, none_has, none_in, needed, least_start, IsOverlapBefore, IsOverlap}
 use Rattle.std.proofs.lemmas.Bool.Decides.{nat_tests}
-use Rattle.line_core.proofs.Joining.{positive_at, filled_agrees, blankable_to, blankable_from}
-use Rattle.line_core.proofs.WholeEnds.{fillable_to, fillable_from}
+use Rattle.line_core.proofs.Joining.{positive_at, filled_agrees}
+use Rattle.line_core.proofs.WholeEnds.{IsTold, told_mask, none_told}
 use Rattle.line_core.proofs.RunStarts.{starts_from, in_run, covered}
 use Rattle.line_core.proofs.Painting.{IsLaid, laid, placing_of}
 use Rattle.line_core.proofs.Certain.{CanBe}
@@ -53,18 +53,12 @@ module _ (l : List Cell) (clue : List ℕ) (pos : ArePositive clue) where
 
   -- a clue that has a placing needs no more than there is
   fits : (x : List Bool) → agrees l x ≡ true → runs x ≡ clue → needed clue ≤ length l + 1
-  fits x agree is = elim (cases_lt 0 (length clue)) [
-    | inl some ↦ omega (arith, starts_within (starts_from 0 false x) 0 (laid l clue x agree is) some)
-    | inr none ↦ (let e : length clue ≡ 0 = omega arith in omega (arith, rw e at (start_last clue)))
-  ]
+  fits x agree is =
+      grind (arith, cases_lt 0 (length clue), starts_within (starts_from 0 false x) 0 (laid l clue x agree is), start_last clue)
 
-  -- if it needs more, no cell can be filled
-  pub unfit_fillable : (m : ℕ) → length l + 1 < needed clue → m ≡ 0 → IsMaskOf (IsFillable l clue) m
-  unfit_fillable m long e = none_is (IsFillable l clue) m e (λ i h. let x = fillable_to l clue i pos h in omega (arith, fits x.0 x.1 x.2))
-
-  -- nor blank
-  pub unfit_blankable : (m : ℕ) → length l + 1 < needed clue → m ≡ 0 → IsMaskOf (IsBlankable l clue) m
-  unfit_blankable m long e = none_is (IsBlankable l clue) m e (λ i h. let x = blankable_to l clue i h in omega (arith, fits x.0 x.1 x.2))
+  -- if it needs more, no cell can have a colour
+  pub unfit : (v : Bool) (m : ℕ) → length l + 1 < needed clue → m ≡ 0 → IsMaskOf (IsTold l clue v) m
+  unfit v m long e = none_told l clue v m pos e (λ x agree is. omega (arith, fits x agree is))
 
 -- ---- placings on a line of which nothing is known
 
@@ -76,10 +70,6 @@ AnyColour l = (v : Bool) (i : ℕ) → i < length l → MayBe l v i
 pub unknown_any : (len : ℕ) → AnyColour (replicate len Unknown)
 unknown_any len v i h = grind (arith, common_steps)
 
--- a run keeps to its least start if its greatest one is no further than the cell
-abbrev away_from : List ℕ → ℕ → ℕ → ℕ → ℕ
-away_from clue slack i j = cond (nat_le (least_start clue j + slack) i) 0 slack
-
 -- a run that fills the cell from one of its starts
 abbrev Reaches : List ℕ → ℕ → ℕ → Type 0
 Reaches clue slack i = (j : ℕ) × (j < length clue) × (least_start clue j ≤ i) × (i < least_start clue j + get_or clue j 0 + slack)
@@ -90,11 +80,9 @@ reaches clue slack i (suc j) some h to = search (rules, cases_lt, start_next, re
 
 module _ (l : List Cell) (clue : List ℕ) (slack : ℕ) (any_cell : AnyColour l) (pos : ArePositive clue) (e : needed clue + slack ≡ length l + 1) where
   -- a placing whose runs start after their least starts by what `shift` tells
-  abbrev Shifted : (ℕ → ℕ) → Type 0
-  Shifted shift = (x : List Bool) × (agrees l x ≡ true) × (runs x ≡ clue)
+  shifted : (shift : ℕ → ℕ) → ((j : ℕ) → shift j ≤ slack) → ((j : ℕ) → suc j < length clue → shift j ≤ shift (suc j))
+      → (x : List Bool) × (agrees l x ≡ true) × (runs x ≡ clue)
       × ((j : ℕ) → j < length clue → get_or (starts_from 0 false x) j 0 ≡ least_start clue j + shift j)
-
-  shifted : (shift : ℕ → ℕ) → ((j : ℕ) → shift j ≤ slack) → ((j : ℕ) → suc j < length clue → shift j ≤ shift (suc j)) → Shifted shift
   shifted shift most up =
       let start = λ (j : ℕ). least_start clue j + shift j in
       let at = λ (j : ℕ) (h : j < length clue). get_or-map-range_with_len start 0 (length clue) j j 0 h (omega arith) in
@@ -102,24 +90,22 @@ module _ (l : List Cell) (clue : List ℕ) (slack : ℕ) (any_cell : AnyColour l
       (grind (arith, common_steps, length-map-range_with_len, start_next, start_within)) in
       (x.0, x.1, x.2, λ j h. ap (λ (z : List ℕ). get_or z j 0) x.3 ∙ at j h)
 
-  -- a cell that is no overlap can be blank
+  -- a cell that is no overlap can be blank: a run moves only if its greatest start is past the cell
   can_be_blank : (i : ℕ) → (IsOverlap clue slack i → ⊥) → CanBe l clue false i
   can_be_blank i none =
-      let (y, agree, is, starts) = shifted (away_from clue slack i) (λ j. grind (arith, nat_tests))
+      let (y, agree, is, starts) = shifted (λ j. cond (nat_le (least_start clue j + slack) i) 0 slack) (λ j. grind (arith, nat_tests))
       (λ j h. let next = start_next clue j (omega arith) in grind (arith, nat_tests)) in (
         y,
         agree,
         is,
         false_from_ne_true (get_or y i false) (λ f.
             let c = covered y clue i is f in
-            let at = starts c.index c.inside in
             none (c.index, c.inside, grind (arith, nat_tests, c.from), grind (arith, nat_tests, c.to))),
       )
 
   -- if there is a run that can move, each cell can be filled
   filled_by : (i : ℕ) → Reaches clue slack i → CanBe l clue true i
   filled_by i (j, jl, low, high) =
-      let some = positive_at clue pos j jl in
       let by = i + 1 - (least_start clue j + get_or clue j 0) in
       let (y, agree, is, starts) = shifted (λ k. cond (nat_lt k j) 0 by) (λ j. grind (arith, nat_tests)) (λ j h. grind (arith, nat_tests)) in
       grind (arith, common_steps, nat_tests, in_run)
@@ -136,62 +122,44 @@ module _ (l : List Cell) (clue : List ℕ) (slack : ℕ) (any_cell : AnyColour l
   -- the cells of the line without the overlaps
   pub blankable_is : (certain line m : ℕ) → IsMaskOf (IsOverlap clue slack) certain → IsMaskOf (λ i. i < length l) line
       → IsMaskOf (λ i. Has line i × (has certain i ≡ false)) m → IsMaskOf (IsBlankable l clue) m
-  blankable_is certain line m c a p = mask_same _ _ m p
-      (λ i h. blankable_from l clue i (a.to i h.0) (can_be_blank i (λ o. true≢false (sym (has_true certain i (c.from i o)) ∙ h.1))))
-      (λ i h. let x = blankable_to l clue i h in
-      (a.from i h.2.0.0, lacks certain i (λ o. true≢false (sym (overlap_filled l clue pos x.0 slack i x.1 x.2 e (c.to i o)) ∙ x.3))))
+  blankable_is certain line m c a p = told_mask l clue false _ m pos p (λ i. (
+    λ h. (a.to i h.0, can_be_blank i (λ o. true≢false (sym (has_true certain i (c.from i o)) ∙ h.1))),
+    λ (within, (x, agree, is, at)).
+        (a.from i within, lacks certain i (λ o. true≢false (sym (overlap_filled l clue pos x slack i agree is e (c.to i o)) ∙ at))),
+  ))
 
   -- each cell of the line, if there is a run that can move
   pub all_fillable : (line : ℕ) → 0 < slack → 0 < length clue → IsMaskOf (λ i. i < length l) line → IsMaskOf (IsFillable l clue) line
-  all_fillable line some any a = mask_same _ _ line a
-      (λ i h. search (rules, fillable_from, can_be_filled)) (λ i h. let x = fillable_to l clue i pos h in search (rules, filled_agrees))
+  all_fillable line some any a = told_mask l clue true _ line pos a (λ i. (λ h. (h, can_be_filled i some any h), λ h. h.0))
 
   -- and else the overlaps alone
   pub overlaps_fillable : (certain : ℕ) → (slack ≡ 0) ⊎ (length clue ≡ 0) → IsMaskOf (IsOverlap clue slack) certain
       → IsMaskOf (IsFillable l clue) certain
-  overlaps_fillable certain still c = mask_same (IsOverlap clue slack) (IsFillable l clue) certain c
-      (λ i o. let x = shifted (λ j. 0) (λ j. omega arith) (λ j h. omega arith) in search (rules, fillable_from, overlap_filled))
-      (λ i h.
-      let (y, agree, is, filled) = fillable_to l clue i pos h in
-      let at = covered y clue i is filled in
-      let low = at_least l clue pos (starts_from 0 false y) at.index (laid l clue y agree is) at.inside in
-      let high = starts_within l clue pos (starts_from 0 false y) at.index (laid l clue y agree is) at.inside in
-      let none : slack ≡ 0 = grind (arith, at.inside) in search (rules, at))
-
--- ---- the overlaps, run by run
+  overlaps_fillable certain still c = told_mask l clue true _ certain pos c (λ i. (
+    λ o. let x = shifted (λ j. 0) (λ j. omega arith) (λ j h. omega arith) in search (rules, filled_agrees, overlap_filled),
+    λ (within, (y, agree, is, filled)).
+        let at = covered y clue i is filled in
+        let low = at_least l clue pos (starts_from 0 false y) at.index (laid l clue y agree is) at.inside in
+        let high = starts_within l clue pos (starts_from 0 false y) at.index (laid l clue y agree is) at.inside in
+        let none : slack ≡ 0 = grind (arith, at.inside) in search (rules, at),
+  ))
 
 -- one more run's overlap: the cells from its greatest start on that it fills from its least start
 pub overlap_more : (clue : List ℕ) (w slack j start old some shifted new : ℕ) → needed clue + slack ≤ w + 1 → j < length clue
     → slack < get_or clue j 0 → start ≡ least_start clue j + slack → IsMaskOf (IsOverlapBefore j clue slack) old
     → IsMaskOf (λ i. i < get_or clue j 0 - slack) some → IsMaskOf (IsShifted w (Has some) start) shifted
     → IsMaskOf (λ i. Has old i ⊎ Has shifted i) new → IsMaskOf (IsOverlapBefore (j + 1) clue slack) new
-overlap_more clue w slack j start old some shifted new within h long at o p q r = mask_same _ _ new r to from
-  where
-    to : (i : ℕ) → Has old i ⊎ Has shifted i → IsOverlapBefore (j + 1) clue slack i
-    to i (inl x) = search (rules, o.to i x)
-    to i (inr x) = search (rules, q.to i x, p.to (i - start))
-
-    from : (i : ℕ) → IsOverlapBefore (j + 1) clue slack i → Has old i ⊎ Has shifted i
-    from i (k, kl, low, high) = elim (cases_lt k j) [
+overlap_more clue w slack j start old some shifted new within h long at o p q r =
+    mask_same _ _ new r (λ i h. search (rules, o.to i, q.to i, p.to (i - start))) (λ i (k, kl, low, high). elim (cases_lt k j) [
       | inl before ↦ inl (o.from i (k, before, low, high))
       | inr last ↦ grind (arith, common_steps, start_next, start_within)
-    ]
+    ])
 
--- a run that isn't longer than the slack has none
-pub overlap_same : (clue : List ℕ) (slack j m : ℕ) → get_or clue j 0 ≤ slack → IsMaskOf (IsOverlapBefore j clue slack) m
-    → IsMaskOf (IsOverlapBefore (j + 1) clue slack) m
-overlap_same clue slack j m short o = search rules
-
--- ---- a line of which nothing is known
-
--- if the masks of both colours are the same, nothing is known of the line
-pub unknown_to : (l : List Cell) (len free room known : ℕ) → len ≡ length l → IsMaskOf (MayBe l false) free → IsMaskOf (MayBe l true) room
-    → IsMaskOf (λ i. has free i ≢ has room i) known → known ≡ 0 → l ≡ replicate len Unknown
-unknown_to l len free room known long f r p e =
-    ext_get_or Unknown l (replicate len Unknown) (sym long ∙ sym (length-replicate len Unknown))
-    (λ i h. grind (arith, common_steps, none_has known i e, p.from i, f.to i, r.to i, f.from i, r.from i, has_true, true_has, has_by))
-
--- and if nothing is known, they are the same
-pub unknown_from : (l : List Cell) (len free room known : ℕ) → IsMaskOf (MayBe l false) free → IsMaskOf (MayBe l true) room
-    → IsMaskOf (λ i. has free i ≢ has room i) known → l ≡ replicate len Unknown → known ≡ 0
-unknown_from l len free room known f r p e = search (rules, none_in, has_by, has_true, true_has, unknown_any)
+-- the masks of both colours are the same exactly if nothing is known of the line
+pub unknown_is : (l : List Cell) (len free room known : ℕ) → len ≡ length l → IsMaskOf (MayBe l false) free → IsMaskOf (MayBe l true) room
+    → IsMaskOf (λ i. has free i ≢ has room i) known → (known ≡ 0) ↔ (l ≡ replicate len Unknown)
+unknown_is l len free room known long f r p = (
+  λ e. ext_get_or Unknown l (replicate len Unknown) (sym long ∙ sym (length-replicate len Unknown))
+      (λ i h. grind (arith, common_steps, none_has known i e, p.from i, f.to i, r.to i, f.from i, r.from i, has_true, true_has, has_by)),
+  λ e. search (rules, none_in, has_by, has_true, true_has, unknown_any),
+)

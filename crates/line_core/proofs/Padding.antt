@@ -1,10 +1,8 @@
 -- A line with blank cells behind it has the placings of the line alone.
-use Rattle.line_core.proofs.Names.{common_steps, rules, ◌≡◌, ℕ, zero, suc, ◌<◌, Bool, true, false, List, [], ◌∷◌, ◌++◌, length, replicate, get_or, refl, sym, ap, ◌∙◌, arith, length-append, and_from, and_parts, get_or_append_left, Cell, Blank, allows, agrees, runs, runs_after, Has, IsMaskOf, mask_same, IsBlankable, IsFillable, ArePositive, runs_after-zero, runs_after-true, runs_after-false, runs_after-close, runs_after-nil}
+use Rattle.line_core.proofs.Names.{◌↔◌, common_steps, rules, ◌≡◌, ℕ, zero, suc, ◌<◌, Bool, true, false, List, [], ◌∷◌, ◌++◌, length, replicate, get_or, refl, sym, ap, ◌∙◌, arith, length-append, and_from, and_parts, get_or_append_left, Cell, Blank, allows, agrees, runs, runs_after, Has, IsMaskOf, IsBlankable, IsFillable, ArePositive, runs_after-zero, runs_after-true, runs_after-false, runs_after-close, runs_after-nil}
 use Rattle.line_core.proofs.Certain.{CanBe}
-use Rattle.line_core.proofs.Joining.{length-agrees, filled_agrees, blankable_to, blankable_from}
-use Rattle.line_core.proofs.WholeEnds.{fillable_to, fillable_from}
-
--- ---- placings
+use Rattle.line_core.proofs.Joining.{length-agrees}
+use Rattle.line_core.proofs.WholeEnds.{told_is, told_mask}
 
 runs_after-blanks : (x : List Bool) (n m : ℕ) → runs_after n (x ++ replicate m false) ≡ runs_after n x
 runs_after-blanks [] n zero = refl
@@ -40,34 +38,27 @@ module _ (l : List Cell) (clue : List ℕ) (m : ℕ) where
   abbrev longer : List Cell
   longer = l ++ replicate m Blank
 
-  inside : (k : ℕ) → k < length l → k < length longer
-  inside k within = omega (arith, length-append l (replicate m Blank), within)
-
   -- what a cell of the line can be
-  with_blanks : (c : Bool) (k : ℕ) → k < length l → CanBe l clue c k → CanBe longer clue c k
-  with_blanks c k within (x, agree, is, at) =
-      let long : k < length x = omega (arith, length-agrees l x agree) in search (rules, agrees_more l x m, runs-blanks x m, get_or_append_left)
+  alone : (c : Bool) (k : ℕ) → k < length l → CanBe longer clue c k ↔ CanBe l clue c k
+  alone c k within = (
+    λ (y, agree, is, at). search (rules, agrees_cut, length-agrees, runs-blanks, get_or_append_left),
+    λ (x, agree, is, at).
+        let long = length-agrees l x agree in search (rules, agrees_more l x m, runs-blanks x m, get_or_append_left),
+  )
 
-  without_blanks : (c : Bool) (k : ℕ) → k < length l → CanBe longer clue c k → CanBe l clue c k
-  without_blanks c k within (y, agree, is, at) = search (rules, agrees_cut, length-agrees, runs-blanks, get_or_append_left)
-
-  -- the cells behind it can't be filled
-  filled_before : (k : ℕ) → CanBe longer clue true k → k < length l
-  filled_before k (y, agree, is, at) = search (rules, agrees_cut, filled_within, length-agrees)
-
-  -- so the same cells are filled in a placing
+  -- the cells behind it can't be filled, so the same cells are filled in a placing
   pub fillable_alone : (f : ℕ) → ArePositive clue → IsMaskOf (IsFillable longer clue) f → IsMaskOf (IsFillable l clue) f
-  fillable_alone f pos are =
-      mask_same _ _ f are (λ i h. let can = fillable_to longer clue i pos h in search (rules, fillable_from, without_blanks, filled_before))
-      (λ i h. let can = fillable_to l clue i pos h in search (rules, fillable_from, with_blanks, filled_agrees))
+  fillable_alone f pos are = told_mask l clue true _ f pos are (λ i. (
+    λ h. let (y, agree, is, at) = ((told_is longer clue true i pos).0 h).1 in
+        let within : i < length l = search (rules, agrees_cut, filled_within, length-agrees) in
+        (within, (alone true i within).0 (y, agree, is, at)),
+    λ h. search (rules, told_is longer clue true i pos, alone true i, length-append),
+  ))
 
   -- and of the line's cells the same are blank in one
-  pub blankable_alone : (b p n : ℕ) → IsMaskOf (IsBlankable longer clue) b → IsMaskOf (λ i. i < length l) p
+  pub blankable_alone : (b p n : ℕ) → ArePositive clue → IsMaskOf (IsBlankable longer clue) b → IsMaskOf (λ i. i < length l) p
       → IsMaskOf (λ i. Has b i × Has p i) n → IsMaskOf (IsBlankable l clue) n
-  blankable_alone b p n are first both =
-      mask_same _ _ n both (λ i h. let within = first.to i h.1 in
-      blankable_from l clue i within (without_blanks false i within (blankable_to longer clue i (are.to i h.0)))) (λ i h.
-      let within : i < length l = h.2.0.0 in (
-        are.from i (blankable_from longer clue i (inside i within) (with_blanks false i within (blankable_to l clue i h))),
-        first.from i within,
-      ))
+  blankable_alone b p n pos are first both = told_mask l clue false _ n pos both (λ i. (
+    λ h. let within = first.to i h.1 in (within, (alone false i within).0 ((told_is longer clue false i pos).0 (are.to i h.0)).1),
+    λ h. search (rules, told_is longer clue false i pos, alone false i, length-append, are.from, first.from),
+  ))

@@ -1,5 +1,5 @@
 -- Full lines made of starts.
-use Rattle.line_core.proofs.Names.{◌≡◌, ℕ, zero, suc, ◌+◌, ◌-◌, ◌<◌, ◌≤◌, Bool, true, false, List, [], ◌∷◌, ◌++◌, length, replicate, refl, sym, ap, ◌∙◌, arith, inl, inr, add-zero, drop, get_or, drop_of_length-le, rules, cases_lt, and_parts, Cell, Unknown, allows, agrees, runs, AllFrom, Side, Left, Right, IsAsFar, MayBe, ArePositive, common_steps, cases_Bool}
+use Rattle.line_core.proofs.Names.{false_from_ne_true, ◌≡◌, ℕ, zero, suc, ◌+◌, ◌-◌, ◌<◌, ◌≤◌, Bool, true, false, List, [], ◌∷◌, ◌++◌, length, replicate, refl, sym, ap, ◌∙◌, arith, inl, inr, add-zero, drop, get_or, drop_of_length-le, rules, cases_lt, and_parts, Cell, Unknown, allows, agrees, runs, AllFrom, Side, Left, Right, IsAsFar, MayBe, ArePositive, common_steps}
 use Rattle.line_core.proofs.Joining.{filled_agrees, agrees_span, runs_first}
 use Rattle.line_core.proofs.RunStarts.{starts_from, length-run_starts, run_of, filled_in_run, runs_apart, covered}
 
@@ -29,10 +29,9 @@ laid l clue x agree is = record {
   count = length-run_starts x ∙ ap length is;
   windows = λ j h z b. let filled = filled_in_run x clue j (run_of x clue j is h) z b in grind (arith, common_steps, filled_agrees, agrees_at);
   apart = λ j h. runs_apart x clue j is h;
-  blanks = λ i h free. elim (cases_Bool (get_or x i false)) [
-    | inl e ↦ (let c = covered x clue i is e in absurd (free c.index c.inside c.from c.to))
-    | inr e ↦ search (rules, agrees_at, sym e)
-  ];
+  blanks = λ i h free.
+      let blank = false_from_ne_true (get_or x i false) (λ e. let c = covered x clue i is e in free c.index c.inside c.from c.to) in
+      search (rules, agrees_at, sym blank);
 }
 
 -- ---- and back: a line painted by starts
@@ -51,8 +50,8 @@ starts_past v (suc m) p q y e = search (rules, starts_past v m (suc p) q y)
 
 starts_first : (m c p s : ℕ) (y : List Bool) (ss : List ℕ) → p + m ≡ s → 0 < c → get_or y 0 false ≡ false
     → starts_from (s + c) false y ≡ ss → starts_from p false (replicate m false ++ (replicate c true ++ y)) ≡ s ∷ ss
-starts_first m zero p s y ss e h k r = absurd (omega arith)
 starts_first m (suc n) p s y ss e h k r = grind (arith, common_steps, starts_past)
+starts_first m zero p s y ss e h k r = absurd (omega arith)
 
 -- the cells from place `p` on of a line with runs at the starts
 record Painted (l : List Cell) (p : ℕ) (clue ss : List ℕ) : Type 0 where
@@ -102,8 +101,8 @@ placing_of l clue ss pos d =
 
 -- each run ends before all later ones
 ends_before : (clue ss : List ℕ) → StandApart clue ss → (i j : ℕ) → i < j → j < length clue → get_or ss i 0 + get_or clue i 0 < get_or ss j 0
-ends_before clue ss apart i zero h k = absurd (omega arith)
 ends_before clue ss apart i (suc j) h k = grind (arith, apart j, ends_before clue ss apart i j)
+ends_before clue ss apart i zero h k = absurd (omega arith)
 
 -- some starts that lay the clue, with a given start of one run
 pub record Witness (l : List Cell) (clue : List ℕ) (j s : ℕ) : Type 0 where
@@ -119,9 +118,6 @@ pub record AreFurthest (side : Side) (l : List Cell) (clue m : List ℕ) : Type 
   pub each : (j : ℕ) → j < length clue → Witness l clue j (get_or m j 0)
   pub furthest : (ss : List ℕ) → IsLaid l clue ss → (j : ℕ) → j < length clue → IsAsFar side (get_or m j 0) (get_or ss j 0)
 
-from_more : (P : ℕ → Type 0) (n : ℕ) → P n → ((q : ℕ) → n < q → P q) → (q : ℕ) → n ≤ q → P q
-from_more P n here later q h = search (rules, cases_lt)
-
 -- so many runs end before a cell, and all others start after it
 abbrev Cut : List ℕ → List ℕ → ℕ → ℕ → Type 0
 Cut clue ss i n = ((q : ℕ) → q < n → get_or ss q 0 + get_or clue q 0 ≤ i) × ((q : ℕ) → n ≤ q → q < length clue → i < get_or ss q 0)
@@ -132,40 +128,35 @@ cut_of : (clue ss : List ℕ) (i n : ℕ) → StandApart clue ss → IsFree clue
 cut_of clue ss i zero apart free h later = search rules
 cut_of clue ss i (suc n) apart free h later =
     elim (cases_lt i (get_or ss n 0)) [
-      | inl low ↦ search (rules, apart, from_more, cut_of clue ss i n apart free (omega arith))
+      | inl low ↦ cut_of clue ss i n apart free (omega arith)
+          (λ q a b. elim (cases_lt n q) [ inl more ↦ later q more b | inr near ↦ (let e : q ≡ n = omega arith in rw e low) ])
       | inr high ↦ (suc n, h, ((λ q a. grind (arith, free n, ends_before clue ss apart q n)), later))
     ]
 
 -- and such a cell may be blank
-blank_at : (l : List Cell) (clue ss : List ℕ) (i n : ℕ) → IsLaid l clue ss → i < length l → Cut clue ss i n → MayBe l false i
-blank_at l clue ss i n d h (before, after) = search rules
-
-furthest_apart : (side : Side) (l : List Cell) (clue m : List ℕ) → AreFurthest side l clue m → StandApart clue m
-furthest_apart side l clue m f j h = search rules
+blank_at : (l : List Cell) (clue ss : List ℕ) (i n : ℕ) → IsLaid l clue ss → i < length l
+    → ((q : ℕ) → q < n → get_or ss q 0 + get_or clue q 0 ≤ i) → ((q : ℕ) → n ≤ q → q < length clue → i < get_or ss q 0) → MayBe l false i
+blank_at l clue ss i n d h before after = search rules
 
 furthest_blank : (side : Side) (l : List Cell) (clue m : List ℕ) (i n : ℕ) → AreFurthest side l clue m → i < length l → n ≤ length clue
     → Cut clue m i n → MayBe l false i
 furthest_blank Left l clue m i zero f h k (before, after) = search rules
 furthest_blank Left l clue m i (suc n) f h k (before, after) =
     let w = f.each n (omega arith) in
-    blank_at l clue w.starts i (suc n) w.laid_so h (
-      (λ q a. grind (arith, before n, ends_before clue w.starts w.laid_so.apart q n)),
-      λ q a b. grind (arith, after q, f.furthest w.starts w.laid_so q),
-    )
+    blank_at l clue w.starts i (suc n) w.laid_so h (λ q a. grind (arith, before n, ends_before clue w.starts w.laid_so.apart q n))
+    (λ q a b. grind (arith, after q, f.furthest w.starts w.laid_so q))
 furthest_blank Right l clue m i n f h k (before, after) = elim (cases_lt n (length clue)) [
   | inl more ↦
       (let w = f.each n more in
-      blank_at l clue w.starts i n w.laid_so h (
-        (λ q a. grind (arith, before q, f.furthest w.starts w.laid_so q)),
-        λ q a b. grind (arith, after n, ends_before clue w.starts w.laid_so.apart n q),
-      ))
+      blank_at l clue w.starts i n w.laid_so h (λ q a. grind (arith, before q, f.furthest w.starts w.laid_so q))
+      (λ q a b. grind (arith, after n, ends_before clue w.starts w.laid_so.apart n q)))
   | inr all ↦ search rules
 ]
 
 -- so all of them lay the clue
 pub furthest_laid : (side : Side) (l : List Cell) (clue m : List ℕ) → AreFurthest side l clue m → IsLaid l clue m
 furthest_laid side l clue m f =
-    let apart = furthest_apart side l clue m f in
+    let apart : StandApart clue m = λ j h. search rules in
     record {
       count = f.count;
       windows = λ j h. let w = f.each j h in rw w.at at (w.laid_so.windows j h);

@@ -1,18 +1,15 @@
 -- How far the runs reach: gaps and ends as floods tell them, and as placings of the cells before do.
-use Rattle.line_core.proofs.Names.{rules, ◌≡◌, ℕ, zero, suc, ◌+◌, ◌-◌, ◌<◌, ◌≤◌, Bool, true, false, List, [], ◌∷◌, ◌++◌, length, replicate, refl, sym, subst, arith, ◌⊎◌, inl, inr, get_or, and_from, and_parts, Cell, Unknown, allows, agrees, runs, IsFlooded, AllFrom, behind, HasPlacing, MayBe, IsGapAfter, IsEndAfter}
-use Rattle.line_core.proofs.Joining.{begins, begins_some, runs_about, first_closed}
+use Rattle.line_core.proofs.Names.{rules, ◌≡◌, ℕ, zero, suc, ◌+◌, ◌-◌, ◌<◌, ◌≤◌, Bool, true, false, List, [], ◌∷◌, ◌++◌, length, replicate, refl, sym, arith, ◌⊎◌, inl, inr, get_or, and_from, and_parts, Cell, Unknown, allows, agrees, runs, IsFlooded, AllFrom, behind, HasPlacing, MayBe, IsGapAfter, IsEndAfter}
+use Rattle.line_core.proofs.Joining.{begins, begins_some, runs_about, closed_first}
 
 -- one more blank cell before a placing
 blank_before : (c : Cell) (cells : List Cell) (cs : List ℕ) → allows c false ≡ true → HasPlacing cells cs → HasPlacing (c ∷ cells) cs
-blank_before c cells cs a p = let q = first_closed c cells cs a p in (q.0, q.1, q.2)
+blank_before c cells cs a p = let q = (closed_first c cells cs).1 (a, p) in (q.0, q.1, q.2)
 
--- a placing of the cells begins with a run
-abbrev BeginsWithRun : List Cell → List ℕ → Type 0
-BeginsWithRun cells cs = (n : ℕ) × (y : List Bool) × (0 < n) × (agrees cells (replicate n true ++ y) ≡ true) × (n ∷ runs y ≡ cs)
-    × (get_or y 0 false ≡ false)
-
+-- a placing begins with a blank cell, or with a run
 first_cell : (c : Cell) (cells : List Cell) (cs : List ℕ) → HasPlacing (c ∷ cells) cs
-    → ((allows c false ≡ true) × HasPlacing cells cs) ⊎ BeginsWithRun (c ∷ cells) cs
+    → ((allows c false ≡ true) × HasPlacing cells cs) ⊎ ((n : ℕ) × (y : List Bool) × (0 < n)
+    × (agrees (c ∷ cells) (replicate n true ++ y) ≡ true) × (n ∷ runs y ≡ cs) × (get_or y 0 false ≡ false))
 first_cell c cells cs ([], agree, is) = cc
 first_cell c cells cs (false ∷ y, agree, is) = search (rules, and_parts)
 first_cell c cells cs (true ∷ y, agree, is) =
@@ -62,9 +59,7 @@ After l n cs k = MayBe l false k × (1 ≤ k) × IsEndAfter l cs n (k - 1)
 -- a cell that such a flood reaches is a gap after the run
 pub gap_after_to : (l : List Cell) (cs : List ℕ) (n i : ℕ) → 0 < n → IsFlooded (After l n cs) (MayBe l false) i → IsGapAfter l (n ∷ cs) i
 gap_after_to l cs n zero some f = absurd (omega (arith, f.1))
-gap_after_to l cs n (suc i) some (inl f) =
-    let e : suc i - 1 ≡ i = omega arith in
-    (f.0, run_from_end l cs n i some (subst (IsEndAfter l cs n) e f.2))
+gap_after_to l cs n (suc i) some (inl f) = let e : suc i - 1 ≡ i = omega arith in (f.0, run_from_end l cs n i some (rw e at f.2))
 gap_after_to l cs n (suc i) some (inr f) = search (rules, gap_after_to l cs n i some, blank_before)
 
 -- and back
@@ -73,9 +68,8 @@ gap_after_from l cs n (suc i) g = elim (first_cell (get_or l i Unknown) (behind 
   | inl b ↦ search (rules, gap_after_from l cs n i)
   | inr r ↦
       (let o = open_run l r.0 (suc i) r.1 r.3 in
-      let is = r.4 in
-      let same : r.0 ≡ n = cc in
-      let others : runs r.1 ≡ cs = cc in
+      let same : r.0 ≡ n = cc r.4 in
+      let others : runs r.1 ≡ cs = cc r.4 in
       let e : suc i - 1 ≡ i = omega arith in
       inl (g.0, omega arith, rw (e, sym same) (end_from_run l cs r.0 i o.0 r.1 (omega (arith, g.0.0)) o.1 o.2 o.3 others r.5)))
 ]

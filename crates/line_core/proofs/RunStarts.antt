@@ -1,5 +1,5 @@
 -- At which places the runs of a full line start.
-use Rattle.line_core.proofs.Names.{rules, ◌≡◌, ℕ, zero, suc, ◌+◌, ◌-◌, ◌<◌, ◌≤◌, Bool, true, false, not, ◌&&◌, List, [], ◌∷◌, ◌++◌, length, replicate, filter, refl, sym, ap, ◌∙◌, arith, add-zero, zero-add, add-one, true≢false, inl, inr, drop, get_or, drop-cons, append_assoc, cases_lt, range_with_len, runs, starts_run, run_starts, behind, runs_after, runs_after-zero, runs_after-true, runs_after-false, runs_after-close, runs_after-nil, common_steps, cases_Bool}
+use Rattle.line_core.proofs.Names.{rules, ◌≡◌, ℕ, zero, suc, ◌+◌, ◌-◌, ◌<◌, ◌≤◌, Bool, true, false, not, ◌&&◌, List, [], ◌∷◌, ◌++◌, length, replicate, filter, refl, sym, ap, ◌∙◌, arith, add-zero, add-one, true≢false, inl, inr, drop, get_or, drop-cons, append_assoc, range_with_len, runs, starts_run, run_starts, behind, runs_after, runs_after-zero, runs_after-true, runs_after-false, runs_after-close, runs_after-nil, common_steps, cases_Bool}
 use Rattle.std.proofs.Math.Seq.{get_or-append_seam}
 use Rattle.line_core.proofs.Joining.{filled_within, onto, length_behind, onto_behind, get_or-onto, onto_split, drop_head, runs_cut, runs_about, get_or-run, begins, begins_some}
 
@@ -15,10 +15,8 @@ abbrev pub before : Bool → List Bool → ℕ → Bool
 before after cells zero = after
 before after cells (suc k) = get_or cells k false
 
-abbrev starts_at : Bool → List Bool → ℕ → Bool
-starts_at after cells k = get_or cells k false && not (before after cells k)
-
-starts-filter : (whole rest : List Bool) (p : ℕ) (after : Bool) → ((k : ℕ) → starts_run whole (p + k) ≡ starts_at after rest k)
+starts-filter : (whole rest : List Bool) (p : ℕ) (after : Bool)
+    → ((k : ℕ) → starts_run whole (p + k) ≡ (get_or rest k false && not (before after rest k)))
     → filter (starts_run whole) (range_with_len p (length rest)) ≡ starts_from p after rest
 starts-filter whole [] p after h = refl
 starts-filter whole (b ∷ rest) p after h =
@@ -31,13 +29,10 @@ run_starts-from x = search (rules, starts-filter)
 
 -- ---- how many there are, and their order
 
-starts_one : (p : ℕ) (v b : Bool) (w : List Bool) → starts_from p v (b ∷ w) ≡ starts_from p v (b ∷ []) ++ starts_from (suc p) b w
-starts_one p v b w = search rules
-
 -- the starts of a line that is cut somewhere
 pub starts-onto : (a w : List Bool) → starts_from 0 false (onto a w) ≡ starts_from 0 false (onto a []) ++ starts_from (length a) (get_or a 0 false) w
 starts-onto [] w = refl
-starts-onto (b ∷ a) w = search (rules, starts_one, append_assoc, onto, starts-onto a (b ∷ w), starts-onto a (b ∷ []))
+starts-onto (b ∷ a) w = search (rules, append_assoc, onto, starts-onto a (b ∷ w), starts-onto a (b ∷ []))
 
 mutual
   length-starts : (p : ℕ) (x : List Bool) → length (starts_from p false x) ≡ length (runs_after 0 x)
@@ -73,18 +68,14 @@ starts_increase (true ∷ x) p zero (suc j) false l h = search (rules, starts_at
 starts_increase (b ∷ x) p i j after l h = grind (arith, common_steps, starts_increase x (suc p))
 starts_increase x p i j after l h = absurd (omega arith)
 
-before_more : (after b : Bool) (x : List Bool) (i : ℕ) → before b x i ≡ false → before after (b ∷ x) (suc i) ≡ false
-before_more after b x i e = search rules
-
 -- each start is filled, and no filled cell comes right before it
 start_is : (x : List Bool) (p k : ℕ) (after : Bool) → k < length (starts_from p after x)
     → (i : ℕ) × (get_or (starts_from p after x) k 0 ≡ p + i) × (get_or x i false ≡ true) × (before after x i ≡ false)
 start_is [] p k after h = absurd (omega arith)
 start_is (true ∷ x) p zero false h = (0, omega arith, refl, refl)
 start_is (true ∷ x) p (suc k) false h =
-    let r = start_is x (suc p) k true (omega arith) in (suc r.0, omega (arith, r.1), r.2, search (rules, before_more))
-start_is (true ∷ x) p k true h = let r = start_is x (suc p) k true h in (suc r.0, omega (arith, r.1), r.2, search (rules, before_more))
-start_is (false ∷ x) p k after h = let r = start_is x (suc p) k false h in (suc r.0, omega (arith, r.1), r.2, search (rules, before_more))
+    let r = start_is x (suc p) k true (omega arith) in (suc r.0, omega (arith, r.1), r.2, search rules)
+start_is (b ∷ x) p k after h = let r = start_is x (suc p) k b h in (suc r.0, omega (arith, r.1), r.2, search rules)
 
 -- ---- a line cut round a run
 
@@ -105,15 +96,9 @@ pub record Run (x : List Bool) (clue : List ℕ) (k : ℕ) : Type 0 where
   pub front_runs : runs front ≡ behind 0 clue k
   pub back_runs : runs back ≡ drop (suc k) clue
 
-same_index : (x : List Bool) (i j : ℕ) → i < length (starts_from 0 false x) → j < length (starts_from 0 false x)
-    → get_or (starts_from 0 false x) i 0 ≡ get_or (starts_from 0 false x) j 0 → i ≡ j
-same_index x i j hi hj e = grind (arith, starts_increase x 0 i j false, starts_increase x 0 j i false)
-
--- cells that are filled from a place on, with no filled cell right before it
-abbrev Stretch : List Bool → ℕ → Type 0
-Stretch x i = (k : ℕ) × (k ≤ i) × ((z : ℕ) → k ≤ z → z ≤ i → get_or x z false ≡ true) × (before false x k ≡ false)
-
-stretch_of : (x : List Bool) (i : ℕ) → get_or x i false ≡ true → Stretch x i
+-- before a filled cell all are filled from a place on, with no filled cell right before it
+stretch_of : (x : List Bool) (i : ℕ) → get_or x i false ≡ true
+    → (k : ℕ) × (k ≤ i) × ((z : ℕ) → k ≤ z → z ≤ i → get_or x z false ≡ true) × (before false x k ≡ false)
 stretch_of x zero h = (0, omega arith, (λ z a b. let e : z ≡ 0 = omega arith in rw e h), refl)
 stretch_of x (suc i) h = elim (cases_Bool (get_or x i false)) [
   | inl e ↦ (let s = stretch_of x i e in search rules)
@@ -136,20 +121,16 @@ module _ (x : List Bool) (clue : List ℕ) where
   run_at : (s : ℕ) → runs x ≡ clue → get_or x s false ≡ true → before false x s ≡ false
       → (j : ℕ) × (j < length clue) × (run_start j ≡ s) × Run x clue j
   run_at s is filled first =
-      let within : s < length x = filled_within x s filled in
+      let within = filled_within x s filled in
       let a = behind false x s in
       let v = begins (drop s x) in
       let some : 0 < v.count = begins_some (drop s x) v (grind (arith, common_steps, drop-cons)) in
-      let closed : get_or a 0 false ≡ false = head s first in
+      let closed : get_or a 0 false ≡ false = search rules in
       let long : length a ≡ s = length_behind false x s in
       let whole : onto a (replicate v.count true ++ v.rest) ≡ x = ap (onto a) (sym v.whole) ∙ onto_behind false x s (omega arith) in
       let parts = onto_split (runs a) (v.count ∷ runs v.rest) clue
       (sym (runs_about a v.count v.rest some closed v.closed) ∙ ap runs whole ∙ is) in
       let cut = drop_head clue (length (runs a)) v.count (runs v.rest) parts.1 in grind (arith, common_steps, start_of_cut)
-    where
-      head : (s : ℕ) → before false x s ≡ false → get_or (behind false x s) 0 false ≡ false
-      head zero h = refl
-      head (suc s) h = h
 
   -- each run of a line
   pub run_of : (k : ℕ) → runs x ≡ clue → k < length clue → Run x clue k
@@ -157,7 +138,7 @@ module _ (x : List Bool) (clue : List ℕ) where
       let count : length (starts_from 0 false x) ≡ length clue = length-run_starts x ∙ ap length is in
       let s = start_is x 0 k false (omega arith) in
       let (j, jl, at, run) = run_at s.0 is s.2 s.3 in
-      let same : j ≡ k = same_index x j k (omega arith) (omega arith) (at ∙ sym (s.1 ∙ zero-add s.0)) in rw (sym same) run
+      let same : j ≡ k = grind (arith, s.1, starts_increase x 0 j k false, starts_increase x 0 k j false) in rw (sym same) run
 
   -- the cells of a run are filled
   pub filled_in_run : (k : ℕ) → Run x clue k → (z : ℕ) → z < get_or clue k 0 → get_or x (run_start k + z) false ≡ true
@@ -166,28 +147,19 @@ module _ (x : List Bool) (clue : List ℕ) where
   pub in_run : (k i : ℕ) → runs x ≡ clue → k < length clue → run_start k ≤ i → i < run_start k + get_or clue k 0 → get_or x i false ≡ true
   in_run k i is h low high = grind (arith, filled_in_run k (run_of k is h) (i - run_start k))
 
-  -- the cell after it isn't
-  blank_after_run : (k : ℕ) → Run x clue k → get_or x (run_start k + get_or clue k 0) false ≡ false
-  blank_after_run k r = grind (arith, common_steps, get_or-onto)
-
   -- runs stand apart
   pub runs_apart : (k : ℕ) → runs x ≡ clue → suc k < length clue → run_start k + get_or clue k 0 < run_start (suc k)
   runs_apart k is h =
       let count : length (starts_from 0 false x) ≡ length clue = length-run_starts x ∙ ap length is in
       let (t, value, filled, first) = start_is x 0 (suc k) false (omega arith) in
       let more : run_start k < t = omega (arith, starts_increase x 0 k (suc k) false (omega arith) (omega arith)) in
-      elim (cases_lt (run_start k + get_or clue k 0) t) [ inl far ↦ omega arith | inr near ↦ absurd (close t more near first) ]
-    where
-      close : (t : ℕ) → run_start k < t → t ≤ run_start k + get_or clue k 0 → before false x t ≡ false → ⊥
-      close zero more near first = absurd (omega arith)
-      close (suc t) more near first = true≢false (sym (in_run k t is (omega arith) (omega arith) (omega arith)) ∙ first)
+      grind (arith, common_steps, true≢false, in_run k (t - 1) is)
 
   -- each filled cell is in one
   pub covered : (i : ℕ) → runs x ≡ clue → get_or x i false ≡ true → Covered x clue i
   covered i is h =
       let (k, from, filled, first) = stretch_of x i h in
       let r = run_at k is (filled k (omega arith) from) first in
-      let start : run_start r.0 ≡ k = r.2 in
       let to : i < run_start r.0 + get_or clue r.0 0 =
-      grind (arith, true≢false, filled (run_start r.0 + get_or clue r.0 0), blank_after_run r.0 r.3) in
+      grind (arith, common_steps, true≢false, filled (run_start r.0 + get_or clue r.0 0), get_or-onto) in
       record { index = r.0; inside = r.1; from = omega arith; to = to }

@@ -1,9 +1,8 @@
 -- What masks of the cells that can be filled, and of those that can be blank, tell of a line.
-use Rattle.line_core.proofs.Names.{rules, ◌≡◌, ℕ, ◌<◌, ◌⊎◌, inl, inr, Bool, true, false, not, ◌&&◌, List, length, get_or, Some, None, refl, arith, ext_get_or, length-map-range_with_len, get_or-map-range_with_len, Cell, Unknown, Has, has, IsMaskOf, has_true, true_has, deduced, certain_by, IsFillable, IsBlankable, ArePositive, has_by, ◌||◌, cases_Bool, cell_at, length_line, told_by, placings, shared, false_from_ne_true, or_right, or_left, ◌∷◌, [], ap}
-use Rattle.grid_core.specs.Lines.{cell_with, line_cells}
-use Rattle.line_core.proofs.DeductionLaws.{ListsPlacings, placings_listed, no_placing, agrees-Extends, Extends-agrees}
-use Rattle.line_core.proofs.Joining.{blankable_to, blankable_from}
-use Rattle.line_core.proofs.WholeEnds.{fillable_to, fillable_from}
+use Rattle.line_core.proofs.Names.{rules, ◌≡◌, ℕ, ◌<◌, ◌⊎◌, inl, inr, Bool, true, false, not, ◌&&◌, List, length, get_or, Some, None, refl, arith, ext_get_or, length-map-range_with_len, get_or-map-range_with_len, Cell, Unknown, Has, has, IsMaskOf, has_true, true_has, deduced, IsFillable, IsBlankable, ArePositive, has_by, ◌||◌, cases_Bool, cell_at, length_line, told_by, placings, shared, false_from_ne_true, or_right, or_left, ◌∷◌, [], ap}
+use Rattle.grid_core.specs.Lines.{line_cells}
+use Rattle.line_core.proofs.DeductionLaws.{ListsPlacings, placings_listed, no_placing, agrees_is}
+use Rattle.line_core.proofs.WholeEnds.{IsTold, told_is}
 use Rattle.line_core.proofs.Certain.{CanBe, Tells, certain_is}
 
 either_first : (f b m : ℕ) → IsMaskOf (λ i. Has f i ⊎ Has b i) m → (has f 0 || has b 0) ≡ has m 0
@@ -13,18 +12,14 @@ either_first f b m p = grind (arith, p.to 0, p.from 0, has_true, true_has, has_b
 pub told_dead : (len f b m : ℕ) → IsMaskOf (λ i. Has f i ⊎ Has b i) m → has m 0 ≡ false → None ≡ told_by len f b
 told_dead len f b m p none = rw (either_first f b m p, none) refl
 
--- what one mask has and another lacks
 without_at : (f b n i : ℕ) → IsMaskOf (λ i. Has f i × (has b i ≡ false)) n → has n i ≡ (has f i && not (has b i))
 without_at f b n i p = search rules
-
-told_cell : (x y : Bool) → cell_with (x && not y) (y && not x) ≡ certain_by x y
-told_cell x y = search rules
 
 -- and the answer if it can have one
 pub told_some : (len f b m nf nb : ℕ) → IsMaskOf (λ i. Has f i ⊎ Has b i) m → has m 0 ≡ true → IsMaskOf (λ i. Has f i × (has b i ≡ false)) nf
     → IsMaskOf (λ i. Has b i × (has f i ≡ false)) nb → Some (line_cells len nf nb) ≡ told_by len f b
 told_some len f b m nf nb p some pf pb =
-    search (rules, ext_get_or, length-map-range_with_len, get_or-map-range_with_len, cell_at, length_line, either_first, without_at, told_cell)
+    search (rules, ext_get_or, length-map-range_with_len, get_or-map-range_with_len, cell_at, length_line, either_first, without_at)
 
 -- ---- the deduction
 
@@ -33,26 +28,25 @@ pub told-deduced : (l : List Cell) (clue : List ℕ) (len f b : ℕ) → ArePosi
     → IsMaskOf (IsFillable l clue) f → IsMaskOf (IsBlankable l clue) b → told_by len f b ≡ deduced l clue
 told-deduced l clue len f b pos some long fill blank = by (placings l clue) (placings_listed l clue)
   where
-    filled_tells : (k : ℕ) → k < length l → Tells (CanBe l clue true k) (has f k)
-    filled_tells k h = record { to = λ e. search (rules, fillable_to, true_has, fill.to); from = λ x. search (rules, has_true, fill.from, fillable_from) }
-
-    blank_tells : (k : ℕ) → k < length l → Tells (CanBe l clue false k) (has b k)
-    blank_tells k h = record { to = λ e. search (rules, blankable_to, true_has, blank.to); from = λ x. search (rules, has_true, blank.from, blankable_from) }
+    tells : (v : Bool) (m : ℕ) → IsMaskOf (IsTold l clue v) m → (k : ℕ) → k < length l → Tells (CanBe l clue v k) (has m k)
+    tells v m p k h =
+        let t = told_is l clue v k pos in
+        record { to = λ e. (t.0 (p.to k (true_has m k e))).1; from = λ x. has_true m k (p.from k (t.1 (h, x))) }
 
     by : (ps : List (List Bool)) → ListsPlacings l clue ps → told_by len f b ≡ shared (length l) ps
     by [] listed =
-        let none : (v : Bool) → CanBe l clue v 0 → ⊥ =
-        λ v x. no_placing l clue listed x.0 (record { extends = agrees-Extends l x.0 x.1; runs_are = x.2 }) in
-        rw (
-          false_from_ne_true (has f 0) (λ e. none true ((filled_tells 0 (omega arith)).to e)),
-          false_from_ne_true (has b 0) (λ e. none false ((blank_tells 0 (omega arith)).to e)),
-        ) refl
+        let none : (v : Bool) (m : ℕ) → IsMaskOf (IsTold l clue v) m → has m 0 ≡ false = λ v m p. false_from_ne_true (has m 0) (λ e.
+        let x = (tells v m p 0 (omega arith)).to e in
+        no_placing l clue listed x.0 (record { extends = (agrees_is l x.0).0 x.1; runs_are = x.2 })) in
+        rw (none true f fill, none false b blank) refl
     by (x ∷ ys) listed =
         let p = listed.members 0 x (omega arith) in
-        let tells = λ (k : ℕ) (h : k < length l). certain_is l clue (x ∷ ys) k listed x p (has f k) (has b k) (filled_tells k h) (blank_tells k h) in
+        let cells = λ (k : ℕ) (h : k < length l).
+        certain_is l clue (x ∷ ys) k listed x p (has f k) (has b k) (tells true f fill k h) (tells false b blank k h) in
+        let agree = (agrees_is l x).1 p.extends in
         let first : (has f 0 || has b 0) ≡ true = elim (cases_Bool (get_or x 0 false)) [
-          | inl e ↦ or_left (has f 0) (has b 0) ((filled_tells 0 (omega arith)).from (x, Extends-agrees l x p.extends, p.runs_are, e))
-          | inr e ↦ or_right (has f 0) (has b 0) ((blank_tells 0 (omega arith)).from (x, Extends-agrees l x p.extends, p.runs_are, e))
+          | inl e ↦ or_left (has f 0) (has b 0) ((tells true f fill 0 (omega arith)).from (x, agree, p.runs_are, e))
+          | inr e ↦ or_right (has f 0) (has b 0) ((tells false b blank 0 (omega arith)).from (x, agree, p.runs_are, e))
         ] in
         rw first (ap (λ (cells : List Cell). Some cells) (ext_get_or Unknown _ _ (search (rules, length-map-range_with_len))
-        (λ k h. search (rules, length-map-range_with_len, get_or-map-range_with_len, tells))))
+        (λ k h. search (rules, length-map-range_with_len, get_or-map-range_with_len, cells))))

@@ -1,7 +1,7 @@
 -- The ends of a run in whole placings, and the placings that have them.
-use Rattle.line_core.proofs.Names.{◌≡◌, ℕ, ◌+◌, ◌-◌, ◌<◌, Bool, true, false, List, ◌∷◌, ◌++◌, length, replicate, sym, ap, ◌∙◌, arith, add-one, drop, get_or, drop-cons, Cell, Unknown, agrees, runs, behind, IsWholeEnd, IsFillable, ArePositive, rules}
+use Rattle.line_core.proofs.Names.{Bool, false, ◌↔◌, IsBlankable, IsMaskOf, mask_same, none_is, ◌≡◌, ℕ, ◌+◌, ◌-◌, ◌<◌, true, List, ◌∷◌, ◌++◌, length, replicate, sym, ap, ◌∙◌, arith, add-one, drop, get_or, drop-cons, Cell, Unknown, agrees, runs, behind, IsWholeEnd, IsFillable, ArePositive, rules}
 use Rattle.line_core.proofs.Certain.{CanBe}
-use Rattle.line_core.proofs.Joining.{onto, length-agrees, length_behind, onto_behind, onto_agrees, agrees_onto, run_agrees, agrees_span, positive_at, runs_about}
+use Rattle.line_core.proofs.Joining.{filled_agrees, blankable_to, blankable_from, onto, length-agrees, length_behind, onto_behind, onto_agrees, agrees_onto, run_agrees, agrees_span, positive_at, runs_about}
 use Rattle.line_core.proofs.RunStarts.{starts_from, start_of_cut, length-onto, run_of, in_run, covered}
 
 -- a run of a placing ends at one of its ends in whole placings
@@ -15,8 +15,7 @@ whole_of l clue x k e agree is h at =
     let size : length r.front + length y ≡ length l = sym (length-onto r.front y) ∙ ap length r.whole ∙ length-agrees l x agree in
     let cut = onto_agrees (behind Unknown l s) (drop s l) r.front y (length_behind Unknown l s ∙ sym r.start)
     (rw (onto_behind Unknown l s (omega (arith, r.start)), r.whole) agree) in
-    let run = run_agrees l c s r.back cut.1 in
-    search (rules, add-one)
+    let run = run_agrees l c s r.back cut.1 in search (rules, add-one)
 
 -- and each such end is one in a placing
 pub placing_with : (l : List Cell) (clue : List ℕ) (k e : ℕ) → ArePositive clue → k < length clue → IsWholeEnd l clue k e
@@ -44,3 +43,25 @@ fillable_from l clue i (x, agree, is, at) =
     let c = covered x clue i is at in
     let z = get_or (starts_from 0 false x) c.index 0 + get_or clue c.index 0 - 1 - i in
     (c.index, c.inside, (z, omega (arith, c.from, c.to), whole_of l clue x c.index (i + z) agree is c.inside (omega (arith, c.from, c.to))))
+
+-- a cell can have a colour, as the masks tell it
+abbrev pub IsTold : List Cell → List ℕ → Bool → ℕ → Type 0
+IsTold l clue true = IsFillable l clue
+IsTold l clue false = IsBlankable l clue
+
+-- it can exactly if it has the colour in a placing
+pub told_is : (l : List Cell) (clue : List ℕ) (v : Bool) (i : ℕ) → ArePositive clue
+    → IsTold l clue v i ↔ ((i < length l) × CanBe l clue v i)
+told_is l clue true i pos = (λ h. let x = fillable_to l clue i pos h in (filled_agrees l x.0 i x.1 x.3, x), λ h. fillable_from l clue i h.1)
+told_is l clue false i pos = (λ h. (h.2.0.0, blankable_to l clue i h), λ h. blankable_from l clue i h.0 h.1)
+
+-- so a mask of what is so exactly then is the mask of the colour
+pub told_mask : (l : List Cell) (clue : List ℕ) (v : Bool) (P : ℕ → Type 0) (m : ℕ) → ArePositive clue → IsMaskOf P m
+    → ((i : ℕ) → P i ↔ ((i < length l) × CanBe l clue v i)) → IsMaskOf (IsTold l clue v) m
+told_mask l clue v P m pos p same =
+    mask_same P _ m p (λ i h. (told_is l clue v i pos).1 ((same i).0 h)) (λ i h. (same i).1 ((told_is l clue v i pos).0 h))
+
+-- and if there is no placing, the mask is empty
+pub none_told : (l : List Cell) (clue : List ℕ) (v : Bool) (m : ℕ) → ArePositive clue → m ≡ 0
+    → ((x : List Bool) → agrees l x ≡ true → runs x ≡ clue → ⊥) → IsMaskOf (IsTold l clue v) m
+none_told l clue v m pos e none = none_is _ m e (λ i h. let x = ((told_is l clue v i pos).0 h).1 in none x.0 x.1 x.2)

@@ -1,5 +1,5 @@
 -- `colours_in_gap`: the cells that the row has, and the gap's own.
-use Rattle.line_core.proofs.Names.{arith, ◌≡◌, ◌-◌, ◌∙◌, ℕ, sym, subst, ap, get_or, inl, inr, Has, mask_same, true_has, get_or_read, ColourMasks, no_colours}
+use Rattle.line_core.proofs.Names.{arith, ◌≡◌, ◌-◌, ◌∙◌, ℕ, sym, ap, get_or, inl, inr, mask_same, true_has, get_or_read, ColourMasks, no_colours}
 use Rattle.line_core.proofs.befores.colours_in_gap.Goals as goal
 
 pub returns-clause-blankable : goal.returns-clause-blankable
@@ -7,14 +7,13 @@ returns-clause-blankable g c =
     let row = c.args.row.now in
     let place = c.args.place in
     let longer = true_has _ _ (sym c.if-not-contains.ensures) in
-    let some = c.requires.longer longer in
     let read = get_or_read row _ _ (omega arith) c.index-row-from.is no_colours in
     let e : g.W.PlaceSet.number c.colours.inside.blankable ≡ (get_or row (place - 1) no_colours).blankable =
     ap (λ (m : ColourMasks). m.blankable) (c.colours.view_is ∙ read ∙ ap (λ (i : ℕ). get_or row i no_colours) c.from.ensures) in
     mask_same _ _ _ c.union.ensures (λ k h. elim h [
-      | inl b ↦ inr (longer, subst (λ (m : ℕ). Has m k) e b)
+      | inl b ↦ inr (longer, rw e at b)
       | inr o ↦ inl (let x = c.shifted_up-own.ensures.to k o in let z = c.first.ensures.to (k - place) x.2 in omega arith)
     ]) (λ k h. elim h [
       | inl o ↦ inr (c.shifted_up-own.ensures.from k (omega arith, omega arith, c.first.ensures.from (k - place) (omega arith)))
-      | inr b ↦ inl (subst (λ (m : ℕ). Has m k) (sym e) b.1)
+      | inr b ↦ inl (rw e b.1)
     ])

@@ -10,7 +10,4 @@ abbrev pub ghost-write_row : goal.ghost-write_row
 ghost-write_row g a = g.line
 
 abbrev pub invariant-loop-j : goal.invariant-loop-j
-invariant-loop-j g l = record {
-  size : length l.table ≡ length l.fn.table;
-  told : AreRowsTo g.line l.clue l.j l.table;
-}
+invariant-loop-j g l = record { size : length l.table ≡ length l.fn.table; told : AreRowsTo g.line l.clue l.j l.table }

@@ -7,8 +7,7 @@ use Rattle.line_core.proofs.befores.write_first.Goals as goal
 pub offset_bounds-row-from : goal.offset_bounds-row-from
 offset_bounds-row-from g c =
     let gap = c.requires.1.1.1.0 _ (c.loop-left.invariant.within _ c.first_place-place.ensures.in_mask) in
-    let here : c.from.result < length c.args.row.now = omega (arith, gap.0.0, c.requires.1.1.1.1, c.from.ensures) in
-    search rules
+    let here : c.from.result < length c.args.row.now = omega (arith, gap.0.0, c.requires.1.1.1.1, c.from.ensures) in search rules
 
 pub loop-left-preserved : goal.loop-left-preserved
 loop-left-preserved g c =

@@ -1,5 +1,5 @@
 -- `write_row`
-use Rattle.line_core.proofs.Names.{rules, ◌∙◌, ◌-◌, ◌<◌, ◌≤◌, length, sym, subst, arith, add-one, one_within, behind, length_at, get_or-append-add, no_colours, IsRow}
+use Rattle.line_core.proofs.Names.{rules, ◌∙◌, ◌-◌, ◌<◌, length, sym, subst, arith, add-one, one_within, behind, length_at, get_or-append-add, no_colours, IsRow}
 use Rattle.line_core.proofs.GapRows.{left_inside, walk_more, walk_last, row_front, ready_is}
 use Rattle.line_core.proofs.befores.write_row.Goals as goal
 
@@ -18,8 +18,7 @@ pub offset_bounds-row-from : goal.offset_bounds-row-from
 offset_bounds-row-from g c =
     let inside = left_inside g.line _ _ _ _ _ _ _ c.loop-run.invariant c.first_place-place.ensures.in_mask c.requires.1.1.1.1.1.0
     c.requires.1.1.1.1.0 in
-    let here : c.from.result < length c.args.rows.now = omega (arith, c.requires.1.1.1.1.1.1.1.1, c.from.ensures) in
-    search rules
+    let here : c.from.result < length c.args.rows.now = omega (arith, c.requires.1.1.1.1.1.1.1.1, c.from.ensures) in search rules
 
 pub loop-run-preserved : goal.loop-run-preserved
 loop-run-preserved g c =
@@ -28,9 +27,8 @@ loop-run-preserved g c =
     let p = c.first_place-place.result in
     let here = c.loop-run.invariant.within p c.first_place-place.ensures.in_mask in
     let number = length_at _ clue j c.requires.1.1.0 c.requires.1.1.1.0 in
-    let size : length g.line ≤ 128 = c.requires.1.1.1.1.0 in
     let told = subst (IsRow g.line clue j 0) (sym c.split_at_mut-before.ensures.front)
-    (row_front g.line clue j c.args.rows.now size c.requires.1.1.1.1.1.1.1.0) in
+    (row_front g.line clue j c.args.rows.now c.requires.1.1.1.1.0 c.requires.1.1.1.1.1.1.1.0) in
     let inside : p < length c.loop-run.row =
     omega (arith, (c.requires.1.1.1.1.1.0.to p here).0.0.0, c.requires.1.1.1.1.1.1.1.1, c.split_at_mut-before.ensures.back_len) in
     walk_more _ _ _ p _ _ _ _ _ inside c.from.ensures c.marked-left.ensures (rw (add-one j) (c.colours_before-colours.ensures g.line (behind 0 clue j)
@@ -42,5 +40,5 @@ loop-run-preserved g c =
 pub returns-clause-row : goal.returns-clause-row
 returns-clause-row g c = λ i h.
     let told = walk_last _ _ _ _ _ (sym c.is_empty.ensures ∙ c.loop-run-test.false) c.loop-run.invariant i (c.requires.1.1.1.1.1.0.from i h) in
-    let at = rw c.split_at_mut-before.ensures.front_len at (get_or-append-add c.split_at_mut-before.result.0.now c.loop-run.row i no_colours) in
-    rw at told
+    let before = c.split_at_mut-before in
+    rw (rw before.ensures.front_len at (get_or-append-add before.result.0.now c.loop-run.row i no_colours)) told

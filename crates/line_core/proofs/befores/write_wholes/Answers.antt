@@ -1,5 +1,5 @@
 -- `write_wholes`: run by run the pass gives the ends and the next gap, and those ahead tell which are whole.
-use Rattle.line_core.proofs.Names.{add-one, ◌+◌, ◌∙◌, map, arith, length-set, map-set, length-map, IsMaskOf, behind, IsGap, IsWholeEnd, meet_of, written_more, IsWholeGap}
+use Rattle.line_core.proofs.Names.{rules, add-one, ◌+◌, ◌∙◌, map, arith, length-set, map-set, length-map, IsMaskOf, behind, IsGap, IsWholeEnd, meet_of, written_more, IsWholeGap}
 use Rattle.line_core.proofs.befores.write_wholes.Goals as goal
 
 pub loop-j-init : goal.loop-j-init
@@ -9,8 +9,7 @@ loop-j-init g c =
     let gaps = c.args.gaps.now in
     let pass = c.new-pass.ensures g.line _ c.requires.1.1.1.0 c.windows_within-windows.ensures in
     let gap : IsMaskOf (IsGap g.line clue 0) (g.W.PlaceSet.number c.gap.result) = rw c.gap.ensures pass.gap_is in
-    let whole : IsMaskOf (IsWholeGap g.line clue 0) (number c.kept.result) =
-    rw c.kept.ensures (meet_of _ _ _ _ _ gap c.gap_ahead.ensures c.intersection-first.ensures) in
+    let whole = rw (← c.kept.ensures) at (meet_of _ _ _ _ _ gap c.gap_ahead.ensures c.intersection-first.ensures) in
     record {
       pass = pass;
       gap_count = length-set gaps _ _ ∙ c.told-gaps;
@@ -21,9 +20,8 @@ loop-j-init g c =
     }
 
 pub whole_ends-whole-requires : goal.whole_ends-whole-requires
-whole_ends-whole-requires g c = λ κs within.
-    let ends = c.step-run_ends.ensures.ends g.line (behind 0 c.args.clue.now c.loop-j.j) c.loop-j.invariant.pass in
-    (within.0, (within.1, (c.requires.1.1.1.0, (c.requires.1.1.1.1.0, (c.loop-j-test.true, (ends, c.gap_ahead-after.ensures))))))
+whole_ends-whole-requires g c =
+    search (rules, c.step-run_ends.ensures.ends g.line (behind 0 c.args.clue.now c.loop-j.j) c.loop-j.invariant.pass)
 
 pub loop-j-preserved : goal.loop-j-preserved
 loop-j-preserved g c =
@@ -33,13 +31,11 @@ loop-j-preserved g c =
     let ends = c.loop-j.ends in
     let j = c.loop-j.j in
     let before = c.loop-j.invariant in
-    let test = c.loop-j-test.true in
     let passed = c.step-run_ends.ensures.passed g.line (behind 0 clue j) before.pass in
     let gap : IsMaskOf (IsGap g.line clue (j + 1)) (g.W.PlaceSet.number c.gap-in-loop-j.result) =
     rw (c.gap-in-loop-j.ensures, add-one j) passed.gap_is in
-    let whole : IsMaskOf (IsWholeGap g.line clue (j + 1)) (number c.kept-in-loop-j-2.result) =
-    rw c.kept-in-loop-j-2.ensures (meet_of _ _ _ _ _ gap c.gap_ahead-after.ensures c.intersection-gap.ensures) in
-    let end : IsMaskOf (IsWholeEnd g.line clue j) (number c.kept-in-loop-j.result) = rw c.kept-in-loop-j.ensures c.whole_ends-whole.ensures in
+    let whole = rw (← c.kept-in-loop-j-2.ensures) at (meet_of _ _ _ _ _ gap c.gap_ahead-after.ensures c.intersection-gap.ensures) in
+    let end = rw (← c.kept-in-loop-j.ensures) at c.whole_ends-whole.ensures in
     record {
       pass = rw (add-one j) passed;
       gap_count = length-set gaps _ _ ∙ before.gap_count;

@@ -8,4 +8,4 @@ returns-clause-filled g c = search (rules, recursion_from_All, fillable_alone)
 
 pub returns-clause-blank : goal.returns-clause-blank
 returns-clause-blank g c =
-    let first = rw c.requires.1.1.1.0.len_is at c.first_places.ensures in search (rules, blankable_alone, first)
+    let first = rw c.requires.1.1.1.0.len_is at c.first_places.ensures in search (rules, recursion_from_All, blankable_alone, first)

@@ -1,5 +1,5 @@
 -- `possible_colours`: run by run the pass goes on, and each run and the gap after it join the masks.
-use Rattle.line_core.proofs.Names.{IsBlankable, add-one, ◌-◌, ◌∙◌, ◌≡◌, ◌+◌, ◌<◌, length, arith, sym, eqb-true, eqb-false, IsMaskOf, behind, IsGap, mask_same, levels_none, none_at}
+use Rattle.line_core.proofs.Names.{rules, IsBlankable, add-one, ◌-◌, ◌∙◌, ◌≡◌, ◌+◌, ◌<◌, length, arith, sym, eqb-true, eqb-false, IsMaskOf, behind, IsGap, mask_same, levels_none, none_at}
 use Rattle.line_core.proofs.Composing.{blank_first, blank_more, fill_more}
 use Rattle.line_core.proofs.deduction.possible_colours.Goals as goal
 
@@ -15,9 +15,8 @@ loop-j-init g c =
     }
 
 pub inner_ends-whole-requires : goal.inner_ends-whole-requires
-inner_ends-whole-requires g c = λ κs within.
-    let ends = c.step-ends.ensures.ends g.line (behind 0 c.args.clue.now c.loop-j.j) c.loop-j.invariant.pass in
-    (within.0, (within.1, (c.requires.1.1.1.1.0, (omega (arith, c.loop-j-test.true), (ends, c.gap_ahead-ahead.ensures)))))
+inner_ends-whole-requires g c =
+    search (rules, c.step-ends.ensures.ends g.line (behind 0 c.args.clue.now c.loop-j.j) c.loop-j.invariant.pass)
 
 pub loop-j-preserved : goal.loop-j-preserved
 loop-j-preserved g c =

@@ -1,21 +1,22 @@
 -- `lone_colours`: the run fills a cell from some start, or leaves it blank from some start.
-use Rattle.line_core.proofs.Names.{rules, arith, eqb-true, recursion_from_All, ArePositive}
+use Rattle.line_core.proofs.Names.{true, false, rules, arith, eqb-true, recursion_from_All, ArePositive}
 use Rattle.line_core.proofs.Joining.{positive_at}
-use Rattle.line_core.proofs.LoneRuns.{lone_unfillable, lone_unblankable, lone_fillable, lone_blankable}
+use Rattle.line_core.proofs.LoneRuns.{lone_none, lone_fillable, lone_blankable}
 use Rattle.line_core.proofs.lone.lone_colours.Goals as goal
 
 pub returns-then-is_empty-clause-filled : goal.returns-then-is_empty-clause-filled
-returns-then-is_empty-clause-filled g c = search (rules, eqb-true, recursion_from_All, lone_unfillable)
+returns-then-is_empty-clause-filled g c =
+    search (rules, eqb-true, recursion_from_All, lone_none g.line _ c.requires.1.1.1.1 _ c.lone_starts-starts.ensures true)
 
 pub returns-then-is_empty-clause-blank : goal.returns-then-is_empty-clause-blank
-returns-then-is_empty-clause-blank g c = search (rules, eqb-true, lone_unblankable)
+returns-then-is_empty-clause-blank g c =
+    search (rules, eqb-true, recursion_from_All, lone_none g.line _ c.requires.1.1.1.1 _ c.lone_starts-starts.ensures false)
 
 pub returns-clause-filled : goal.returns-clause-filled
 returns-clause-filled g c =
-    let one = c.requires.1.1.1.1 in
     let pos : ArePositive c.args.clue.now = recursion_from_All _ _ c.requires.1.1.1.0.positive in
-    lone_fillable g.line _ one _ c.lone_starts-starts.ensures _ _ _ pos (positive_at _ pos 0 (omega arith)) c.requires.1.1.0.short
-    c.shifted_up.ensures c.spread-fillable.ensures
+    lone_fillable g.line _ c.requires.1.1.1.1 _ c.lone_starts-starts.ensures _ _ _ pos (positive_at _ pos 0 (omega arith))
+    c.requires.1.1.0.short c.shifted_up.ensures c.spread-fillable.ensures
 
 pub returns-clause-blank : goal.returns-clause-blank
 returns-clause-blank g c =

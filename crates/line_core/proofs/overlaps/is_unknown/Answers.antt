@@ -1,12 +1,10 @@
 -- `is_unknown`: nothing is known exactly if the masks of both colours are the same.
 use Rattle.line_core.proofs.Names.{◌∙◌, sym, eqb-true, eq-eqb}
-use Rattle.line_core.proofs.Packing.{unknown_to, unknown_from}
+use Rattle.line_core.proofs.Packing.{unknown_is}
 use Rattle.line_core.proofs.overlaps.is_unknown.Goals as goal
 
 pub returns : goal.returns
 returns g c =
     let are = c.requires.1.1 in
-    let known = c.symmetric_difference.ensures in (
-      (λ t. unknown_to g.line _ _ _ _ are.len_is are.free_is are.room_is known (eqb-true _ 0 (sym c.is_empty.ensures ∙ t))),
-      λ e. c.is_empty.ensures ∙ eq-eqb _ 0 (unknown_from g.line _ _ _ _ are.free_is are.room_is known e),
-    )
+    let is = unknown_is g.line _ _ _ _ are.len_is are.free_is are.room_is c.symmetric_difference.ensures in
+    ((λ t. is.0 (eqb-true _ 0 (sym c.is_empty.ensures ∙ t))), λ e. c.is_empty.ensures ∙ eq-eqb _ 0 (is.1 e))

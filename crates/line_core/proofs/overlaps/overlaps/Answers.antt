@@ -1,6 +1,6 @@
 -- `overlaps`: a run that is longer than the slack fills its overlap, and no other run has one.
 use Rattle.line_core.proofs.Names.{rules, suc, add-one, arith, width_most}
-use Rattle.line_core.proofs.Packing.{start_next, start_within, overlap_more, overlap_same}
+use Rattle.line_core.proofs.Packing.{start_next, start_within, overlap_more}
 use Rattle.line_core.proofs.overlaps.overlaps.Goals as goal
 use Rattle.line_core.proofs.overlaps.overlaps.Goals.{then-number-slack, else-number-slack}
 
@@ -24,6 +24,6 @@ loop-number-preserved g c =
         | then-number-slack w ↦ rw w.certain-is (overlap_more clue g.W.PlaceSet.WIDTH slack j c.loop-number.greatest_start _ _ _ _
             c.requires.fits c.loop-number-test.true w.if-number-slack.true invariant.start invariant.found w.first_places.ensures
             w.shifted_up.ensures w.union-certain.ensures)
-        | else-number-slack w ↦ rw w.certain-is (overlap_same clue slack j _ w.if-number-slack.false invariant.found)
+        | else-number-slack w ↦ rw w.certain-is (search rules)
       ];
     }

@@ -1,14 +1,16 @@
 -- `unknown_colours`: a cell that is no overlap can be blank; each can be filled if a run can move.
-use Rattle.line_core.proofs.Names.{rules, ◌≡◌, ◌+◌, ◌-◌, ◌<◌, ◌⊎◌, length, replicate, arith, sym, true≢false, eqb-true, eqb-false, eq-eqb, length-replicate, recursion_from_All, Unknown, needed, ArePositive}
-use Rattle.line_core.proofs.Packing.{unknown_any, unfit_fillable, unfit_blankable, blankable_is, all_fillable, overlaps_fillable}
+use Rattle.line_core.proofs.Names.{true, false, rules, ◌≡◌, ◌+◌, ◌-◌, ◌<◌, ◌⊎◌, length, replicate, arith, sym, true≢false, eqb-true, eqb-false, eq-eqb, length-replicate, recursion_from_All, Unknown, needed, ArePositive}
+use Rattle.line_core.proofs.Packing.{unknown_any, unfit, blankable_is, all_fillable, overlaps_fillable}
 use Rattle.line_core.proofs.overlaps.unknown_colours.Goals as goal
 use Rattle.line_core.proofs.overlaps.unknown_colours.Goals.{then-is_empty, else-is_empty, then-slack-eq0, else-slack-eq0}
 
 pub returns-then-len-needed-clause-filled : goal.returns-then-len-needed-clause-filled
-returns-then-len-needed-clause-filled g c = search (rules, length-replicate, recursion_from_All, unfit_fillable)
+returns-then-len-needed-clause-filled g c =
+    search (rules, length-replicate, unfit (replicate c.args.len Unknown) _ (recursion_from_All _ _ c.requires.clue.positive) true)
 
 pub returns-then-len-needed-clause-blank : goal.returns-then-len-needed-clause-blank
-returns-then-len-needed-clause-blank g c = search (rules, length-replicate, recursion_from_All, unfit_blankable)
+returns-then-len-needed-clause-blank g c =
+    search (rules, length-replicate, unfit (replicate c.args.len Unknown) _ (recursion_from_All _ _ c.requires.clue.positive) false)
 
 pub returns-clause-filled : goal.returns-clause-filled
 returns-clause-filled g c =
@@ -32,8 +34,7 @@ returns-clause-filled g c =
 
 pub returns-clause-blank : goal.returns-clause-blank
 returns-clause-blank g c =
-    let long = length-replicate c.args.len Unknown in
-    let cells = rw (sym long) at c.first_places-line.ensures in
+    let cells = rw (sym (length-replicate c.args.len Unknown)) at c.first_places-line.ensures in
     blankable_is (replicate c.args.len Unknown) c.args.clue.now (c.args.len + 1 - c.cells_needed-needed.result) (unknown_any c.args.len)
-    (recursion_from_All _ _ c.requires.clue.positive) (omega (arith, c.cells_needed-needed.ensures)) _ _ _ c.overlaps-certain.ensures
-    cells c.difference.ensures
+    (recursion_from_All _ _ c.requires.clue.positive) (omega (arith, c.cells_needed-needed.ensures, length-replicate c.args.len Unknown))
+    _ _ _ c.overlaps-certain.ensures cells c.difference.ensures

@@ -1,5 +1,5 @@
 -- `inner_ends`: a run that isn't the last ends before a gap ahead.
-use Rattle.line_core.proofs.Names.{◌≡◌, ◌+◌, inl, inr, ◌<◌, length, arith, bit_at-zero, recursion_from_All, Has, mask_same, meet_of, has_of, one_within, none_is, refl}
+use Rattle.line_core.proofs.Names.{◌≡◌, ◌+◌, inl, inr, length, arith, bit_at-zero, recursion_from_All, Has, mask_same, meet_of, has_of, one_within, none_is, refl}
 use Rattle.line_core.proofs.Joining.{positive_at}
 use Rattle.line_core.proofs.Composing.{whole_is}
 use Rattle.line_core.proofs.reach.inner_ends.Goals as goal
@@ -10,7 +10,6 @@ shifted_down-requires g c = one_within g.W.PlaceSet.WIDTH g.W.PlaceSet.TOP g.met
 pub returns : goal.returns
 returns g c =
     let ends = g.W.PlaceSet.number c.args.ends in
-    let inner : c.args.j + 1 < length c.args.clue.now = c.requires.1.1.1.0 in
     whole_is g.line _ _ ends _ 0 _ (omega arith) (positive_at _ (recursion_from_All _ _ c.requires.1.1.0.positive) _ (omega arith))
     c.requires.1.1.1.1.0 c.requires.1.1.1.1.1 (none_is _ 0 refl (λ i h. let e : c.args.j + 1 ≡ length c.args.clue.now = h.1 in omega arith))
     (mask_same _ _ _ (meet_of (Has ends) _ ends _ _ (has_of ends) c.shifted_down.ensures c.intersection.ensures)

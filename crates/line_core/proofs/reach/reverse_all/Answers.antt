@@ -9,7 +9,7 @@ loop-i-preserved g c =
     let masks = c.loop-i.masks in
     let i = c.loop-i.i in
     let before = c.loop-i.invariant in
-    let there : i < length masks = omega (arith, before.size, c.loop-i-test.true) in
+    let there : i < length masks = omega (arith, before.size) in
     let e = ap number c.index-masks-i.is ∙ number_at number masks i _ there ∙ before.left i (omega arith) in
     record {
       size = length-set masks i _ ∙ before.size;

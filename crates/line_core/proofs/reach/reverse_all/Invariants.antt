@@ -5,8 +5,7 @@ use Rattle.line_core.proofs.reach.reverse_all.Given as goal
 abbrev pub invariant-loop-i : goal.invariant-loop-i
 invariant-loop-i g l = record {
   size : length l.masks ≡ length l.fn.masks;
-  reversed : (k : ℕ) → k < l.i
-      → IsMaskOf (λ i. (i < l.len) × Has (get_or (map g.W.PlaceSet.kept_number l.fn.masks) k 0) (l.len - 1 - i))
+  reversed : (k : ℕ) → k < l.i → IsMaskOf (λ i. (i < l.len) × Has (get_or (map g.W.PlaceSet.kept_number l.fn.masks) k 0) (l.len - 1 - i))
       (get_or (map g.W.PlaceSet.kept_number l.masks) k 0);
   left : (k : ℕ) → l.i ≤ k → get_or (map g.W.PlaceSet.kept_number l.masks) k 0 ≡ get_or (map g.W.PlaceSet.kept_number l.fn.masks) k 0;
 }

@@ -11,12 +11,11 @@ pub returns : goal.returns
 returns g c =
     let ends = g.W.PlaceSet.number c.args.ends in
     let end = g.W.PlaceSet.number c.last_end-last.result in
-    let size = c.requires.1.1.0.len_is in
     let clue = c.args.clue.now in
     let given = c.requires.1.1.1.1 in
     let last : IsMaskOf (λ i. (i ≡ length g.line - 1) × (c.args.j + 1 ≡ length clue)) end = mask_same _ _ end c.last_end-last.ensures
-    (λ i h. let e : i ≡ c.args.span.now.len - 1 = h.0 in (omega arith, eqb-true (c.args.j + 1) (length clue) h.1))
-    (λ i h. let e : i ≡ length g.line - 1 = h.0 in (omega arith, eq-eqb (c.args.j + 1) (length clue) h.1)) in
+    (λ i h. let e : i ≡ c.args.span.now.len - 1 = h.0 in (omega (arith, c.requires.1.1.0.len_is), eqb-true _ (length clue) h.1))
+    (λ i h. let e : i ≡ length g.line - 1 = h.0 in (omega (arith, c.requires.1.1.0.len_is), eq-eqb _ (length clue) h.1)) in
     whole_is g.line clue _ ends _ end _ given.0 (positive_at _ (recursion_from_All _ _ c.requires.1.1.1.0.positive) _ given.0)
     given.1.0 given.1.1 last (meet_of (Has ends) _ ends _ _ (has_of ends)
     (join_of _ (Has end) _ end _ c.shifted_down.ensures (has_of end) c.union.ensures) c.intersection.ensures)

@@ -1,5 +1,5 @@
 -- `write_gaps_ahead`: the gaps of the reversed line, reversed again, are the gaps ahead.
-use Rattle.line_core.proofs.Names.{◌≡◌, ◌+◌, ◌-◌, ◌∙◌, ◌++◌, length, map, take, drop, get_or, sym, arith, length-map, get_or_append_left, get_or-take, length-take-le, map-append, take-map}
+use Rattle.line_core.proofs.Names.{◌≡◌, ◌+◌, ◌-◌, ◌∙◌, ◌++◌, length, map, take, drop, get_or, sym, arith, length-map, get_or_append_left, get_or-take, map-append, take-map}
 use Rattle.line_core.proofs.Composing.{ahead_of}
 use Rattle.line_core.proofs.reach.write_gaps_ahead.Goals as goal
 
@@ -12,10 +12,7 @@ returns g c = λ j h.
     let first = take (length clue + 1) gaps in
     let rest = drop (length clue + 1) gaps in
     let p = length clue - j in
-    let few = c.requires.1.1.1.1 in
-    let long = c.write_reversed_gaps.ensures.count in
-    let short : length first ≡ length clue + 1 = length-take-le (length clue + 1) gaps (omega arith) in
-    let same : length reversed ≡ length first = sym (length-map reversed number) ∙ c.reverse_all.ensures.0 ∙ length-map first number in
+    let same = sym (length-map reversed number) ∙ c.reverse_all.ensures.0 ∙ length-map first number in
     let old : get_or (map number first) p 0 ≡ get_or (map number gaps) p 0 =
     rw (sym (take-map number (length clue + 1) gaps)) (get_or-take (length clue + 1) (map number gaps) p 0 (omega arith)) in
     let new : get_or (map number reversed) p 0 ≡ get_or (map number (reversed ++ rest)) p 0 =

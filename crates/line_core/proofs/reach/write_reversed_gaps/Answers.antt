@@ -26,12 +26,10 @@ loop-j-preserved g c =
     let passed = rw e at (c.step.ensures.passed line (behind 0 clue j) c.loop-j.invariant.pass) in
     let gap : IsMaskOf (IsGap line clue (j + 1)) (g.W.PlaceSet.kept_number c.kept-in-loop-j.result) =
     rw (c.kept-in-loop-j.ensures, c.gap-in-loop-j.ensures, add-one j) passed.gap_is in
-    let size = c.loop-j.invariant.size in
-    let test = c.loop-j-test.true in
     record {
-      size = length-set gaps _ _ ∙ size;
+      size = length-set gaps _ _ ∙ c.loop-j.invariant.size;
       pass = rw (add-one j) passed;
       gaps = λ k h. rw map-set (written_more (λ k m. IsMaskOf (IsGap line clue k) m) (map g.W.PlaceSet.kept_number gaps) (j + 1) _
-          (omega (arith, length-map gaps g.W.PlaceSet.kept_number, c.requires.1.1.1.1)) gap
+          (omega (arith, length-map gaps g.W.PlaceSet.kept_number, c.requires.1.1.1.1, c.loop-j.invariant.size)) gap
           (λ k h. c.loop-j.invariant.gaps k (omega arith)) k (omega arith));
     }

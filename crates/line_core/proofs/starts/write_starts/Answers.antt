@@ -1,12 +1,11 @@
 -- `write_starts`: run by run, the outermost of its ends in whole placings tells its start.
-use Rattle.line_core.proofs.Names.{add-one, refl, sym, ◌∙◌, arith, eqb-true, recursion_from_All, behind, none_has, length-set}
-use Rattle.line_core.proofs.Outermost.{some_end, outer_more}
+use Rattle.line_core.proofs.Names.{rules, IsOuterStart, written_more, add-one, refl, sym, ◌∙◌, arith, eqb-true, recursion_from_All, behind, none_has, length-set}
+use Rattle.line_core.proofs.Outermost.{some_end}
 use Rattle.line_core.proofs.starts.write_starts.Goals as goal
 
 pub whole_ends-whole-requires : goal.whole_ends-whole-requires
-whole_ends-whole-requires g c = λ κs within.
-    let ends = c.step-ends.ensures.ends g.line (behind 0 c.args.clue.now c.loop-j.j) c.loop-j.invariant.pass in
-    (within.0, (within.1, (c.requires.1.1.1.0, (c.requires.1.1.1.1.0, (c.loop-j-test.true, (ends, c.gap_ahead-ahead.ensures))))))
+whole_ends-whole-requires g c =
+    search (rules, c.step-ends.ensures.ends g.line (behind 0 c.args.clue.now c.loop-j.j) c.loop-j.invariant.pass)
 
 pub loop-j-preserved : goal.loop-j-preserved
 loop-j-preserved g c =
@@ -14,8 +13,12 @@ loop-j-preserved g c =
     let place = c.outermost_place in
     let count = c.requires.1.1.1.1.1.0.1 in record {
       pass = rw (add-one j) (c.step-ends.ensures.passed g.line (behind 0 c.args.clue.now j) c.loop-j.invariant.pass);
-      starts = outer_more c.args.side g.line _ _ j _ place.result _ (omega arith)
-          c.whole_ends-whole.ensures place.ensures.in_mask place.ensures.outermost refl c.loop-j.invariant.starts;
+      starts = written_more (IsOuterStart c.args.side g.line _) _ j _ (omega arith) (record {
+        end = place.result;
+        whole = c.whole_ends-whole.ensures.to _ place.ensures.in_mask;
+        start_is = refl;
+        outermost_so = λ e w. place.ensures.outermost e (c.whole_ends-whole.ensures.from e w);
+      }) c.loop-j.invariant.starts;
       len = length-set c.loop-j.list.starts j _ ∙ c.loop-j.invariant.len;
     }
 
