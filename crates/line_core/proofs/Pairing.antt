@@ -1,11 +1,12 @@
 -- A line that is another one but for one cell, and what a table tells of it.
-use Rattle.line_core.proofs.Names.{rules, false, true, subst, Filled, Blank, ArePositive, ◌≡◌, ℕ, ◌<◌, ◌∙◌, Bool, inl, inr, List, None, Some, deduced, length, get_or, set, sym, arith, refl, ap, ext_get_or, length-set, Cell, Unknown, IsMaskOf}
+use Rattle.line_core.proofs.Names.{◌||◌, CellExtends, Extends, Has, ◌≢◌, ◌≤◌, get_or-map-range_with_len, has, has_true, map, range_with_len, certain_by, rules, false, true, subst, Filled, Blank, ArePositive, ◌≡◌, ℕ, ◌<◌, ◌∙◌, Bool, inl, inr, List, None, Some, deduced, length, get_or, set, sym, arith, refl, ap, ext_get_or, length-set, Cell, Unknown, IsMaskOf}
 use Rattle.std.proofs.lemmas.List.{get_or-set_same, get_or-set_other, get_or_default}
 use Rattle.std.proofs.lemmas.Bool.{cases_eq}
 use Rattle.grid_core.proofs.Changing.{same_cells}
 use Rattle.grid_core.specs.Cells.{colour, is_known}
 use Rattle.grid_core.specs.Lines.{IsChanged}
-use Rattle.line_core.specs.Pairs.{ColourMasks, PairMasks, Table, IsOneMore, IsTableOf, coloured, masks_if, no_pair}
+use Rattle.line_core.specs.Pairs.{AreNeutral, ColourMasks, PairMasks, Table, IsOneMore, IsTableOf, TellOf, coloured, masks_if, neutral_if, no_pair}
+use Rattle.line_core.proofs.DeductionLaws.{Extends-at, deduced-above, length-Extends}
 use Rattle.line_core.proofs.Telling.{told-deduced}
 use Rattle.line_core.specs.steps.Pairs.{AreColours, ArePairs}
 use Rattle.line_core.specs.Told.{told_by}
@@ -42,9 +43,14 @@ pub told_as : (t u : Table) (clue : List ℕ) (base line : List Cell) (x m : ℕ
     → length line ≡ length base → IsMaskOf (IsChanged base line) m → IsMaskOf (λ i. i ≡ x) m → get_or base x Unknown ≡ Unknown
     → get_or line x Unknown ≡ colour filled → told_by (length line) masks.fillable masks.blankable ≡ deduced line clue
 told_as t u clue base line x m filled pair masks table same is at inside told long changed only unknown known =
-    let tells = (rw (sym same) at table).tells base x filled is (changed.to x (only.from x refl)).0 unknown in
+    let tells = ((rw (sym same) at table).told base is).tells x filled (changed.to x (only.from x refl)).0 unknown in
     ap (λ (n : ℕ). told_by n masks.fillable masks.blankable) long
     ∙ rw (told, one_more base line x m filled long changed only known) (rw (get_or_default u.pairs x no_pair pair inside ∙ at) at tells)
+
+-- a colour is no unknown cell
+colour_known : (filled : Bool) → colour filled ≡ Unknown → ⊥
+colour_known true e = cc
+colour_known false e = cc
 
 -- only the cell that got a colour differs
 pub only_changed : (t u : Table) (base line : List Cell) (m : ℕ) → u ≡ t → u.line ≡ Some base → (one : IsOneMore t line)
@@ -56,7 +62,7 @@ only_changed t u base line m same is one changed = (let b = base_is in record {
   ];
   from = λ i e. changed.from i (
     rw (e, b) one.inside,
-    λ alike. differs one.filled
+    λ alike. colour_known one.filled
         (sym (get_or-set_same one.base one.x (colour one.filled) Unknown one.inside) ∙ (rw (e, one.line_is, b) at alike) ∙ one.unknown),
   );
 })
@@ -64,32 +70,23 @@ only_changed t u base line m same is one changed = (let b = base_is in record {
     base_is : base ≡ one.base
     base_is = (let e = ap (λ (t : Table). t.line) same ∙ one.base_is in cc)
 
-    differs : (filled : Bool) → colour filled ≡ Unknown → ⊥
-    differs true e = cc
-    differs false e = cc
-
 -- a cell that isn't known is unknown
 pub not_known : (c : Cell) → false ≡ is_known c → c ≡ Unknown
 not_known c h = search rules
 
 -- a table without a line is one of any line
 pub empty_table : (clue : List ℕ) (t : Table) → t.line ≡ None → IsTableOf clue t
-empty_table clue t none = record { tells = λ line x filled is. cc }
+empty_table clue t none = record { told = λ line is. cc; neutral = λ line filled is. cc }
 
 -- what can be on a line tells what is certain of it
 colours_tell : (line : List Cell) (clue : List ℕ) (n : ℕ) (masks : ColourMasks) → ArePositive clue → 0 < n → length line ≡ n
     → AreColours line clue masks → told_by n masks.fillable masks.blankable ≡ deduced line clue
 colours_tell line clue n masks pos some long is = told-deduced line clue n _ _ pos some long is.fillable_is is.blankable_is
 
--- pairs of a line make a table of it
-pub table_of_pairs : (line : List Cell) (clue : List ℕ) (pairs : List PairMasks) → ArePositive clue → 0 < length line
-    → ArePairs line clue pairs → IsTableOf clue (record { line = Some line; pairs = pairs })
-table_of_pairs line clue pairs pos some is = record {
-  tells = λ l x filled e within unknown. let same : line ≡ l = cc in
-      subst (λ (l : List Cell). x < length l → get_or l x Unknown ≡ Unknown
-      → told_by (length l) (masks_if filled (get_or pairs x no_pair)).fillable (masks_if filled (get_or pairs x no_pair)).blankable
-      ≡ deduced (coloured l x filled) clue) same (at x filled) within unknown;
-}
+-- the pairs of a line tell of it
+pub pairs_tell : (line : List Cell) (clue : List ℕ) (pairs : List PairMasks) → ArePositive clue → 0 < length line
+    → ArePairs line clue pairs → TellOf clue line pairs
+pairs_tell line clue pairs pos some is = record { tells = at }
   where
     at : (x : ℕ) (filled : Bool) → x < length line → get_or line x Unknown ≡ Unknown
         → told_by (length line) (masks_if filled (get_or pairs x no_pair)).fillable (masks_if filled (get_or pairs x no_pair)).blankable
@@ -100,3 +97,55 @@ table_of_pairs line clue pairs pos some is = record {
     at x false within unknown =
         colours_tell (coloured line x false) clue (length line) _ pos some (length-set line x Blank)
         (is x within (get_or_default line x Filled Unknown within ∙ unknown)).blank_is
+
+-- what pairs tell of a line with a colour at a place, read from the pair there
+pub told_at : (line : List Cell) (clue : List ℕ) (filled : Bool) (pairs : List PairMasks) (x i : ℕ) (pair : PairMasks) (masks : ColourMasks)
+    → TellOf clue line pairs → x < length line → get_or line x Unknown ≡ Unknown → i ≡ x → get_or pairs i pair ≡ pair
+    → length line ≤ length pairs → masks ≡ masks_if filled pair → told_by (length line) masks.fillable masks.blankable ≡ deduced (coloured line x filled) clue
+told_at line clue filled pairs x i pair masks tell inside unknown same at long is =
+    rw (is, sym (rw same at at)) (rw (get_or_default pairs x no_pair pair (omega (arith, inside, long))) at
+    (tell.tells x filled inside unknown))
+
+-- nothing else is certain of a line with a colour if what is told leaves each other unknown cell open
+pub nothing_else : (line : List Cell) (clue : List ℕ) (x f b : ℕ) (filled : Bool)
+    → told_by (length line) f b ≡ deduced (coloured line x filled) clue → (has f 0 || has b 0) ≡ true
+    → ((i : ℕ) → i < length line → i ≢ x → get_or line i Unknown ≡ Unknown → Has f i × Has b i)
+    → deduced (coloured line x filled) clue ≡ Some (coloured line x filled)
+nothing_else line clue x f b filled told alive both = is ∙ ap (λ (cells : List Cell). Some cells) (ext_get_or Unknown _ _
+    (sym (length-Extends _ _ above)) (λ i h. at i (rw (sym (length-Extends _ _ above), length-set line x (colour filled)) at h)))
+  where
+    all : List Cell
+    all = map (λ i. certain_by (has f i) (has b i)) (range_with_len 0 (length line))
+
+    is : deduced (coloured line x filled) clue ≡ Some all
+    is = rw alive at (sym told)
+
+    above : Extends (coloured line x filled) all
+    above = rw is at (deduced-above (coloured line x filled) clue)
+
+    known : (old new : Cell) → CellExtends old new → (old ≡ Unknown → new ≡ Unknown) → new ≡ old
+    known old new more unknown = search rules
+
+    at : (i : ℕ) → i < length line → get_or all i Unknown ≡ get_or (coloured line x filled) i Unknown
+    at i h = known _ _ (Extends-at _ _ i above) (λ unknown. elim (cases_eq i x) [
+      | inl same ↦ absurd (colour_known filled (sym (get_or-set_same line x (colour filled) Unknown (rw same at h)) ∙ rw same at unknown))
+      | inr other ↦
+          let two = both i h other (sym (get_or-set_other line x i (colour filled) Unknown other) ∙ unknown) in
+          search (rules, get_or-map-range_with_len, has_true, two)
+    ])
+
+-- a table of a line, of what pairs tell
+pub table_made : (clue : List ℕ) (line : List Cell) (pairs : List PairMasks) (f b : ℕ) → TellOf clue line pairs
+    → AreNeutral clue line true f → AreNeutral clue line false b → IsTableOf clue (record { line = Some line; pairs = pairs; neutral_filled = f; neutral_blank = b })
+table_made clue line pairs f b tell filled blank = record {
+  told = λ l is. subst (λ (l : List Cell). TellOf clue l pairs) (same l is) tell;
+  neutral = λ l colour is. neutral l (same l is) colour;
+}
+  where
+    same : (l : List Cell) → Some line ≡ Some l → line ≡ l
+    same l is = cc
+
+    neutral : (l : List Cell) → line ≡ l → (colour : Bool)
+        → AreNeutral clue l colour (neutral_if colour (record { line = Some line; pairs = pairs; neutral_filled = f; neutral_blank = b }))
+    neutral l e true = subst (λ (l : List Cell). AreNeutral clue l true f) e filled
+    neutral l e false = subst (λ (l : List Cell). AreNeutral clue l false b) e blank

@@ -5,7 +5,7 @@ use Rattle.line_core.proofs.DeductionLaws.{ListsPlacings, placings_listed, no_pl
 use Rattle.line_core.proofs.WholeEnds.{IsTold, told_is}
 use Rattle.line_core.proofs.Certain.{CanBe, Tells, certain_is}
 
-either_first : (f b m : ℕ) → IsMaskOf (λ i. Has f i ⊎ Has b i) m → (has f 0 || has b 0) ≡ has m 0
+pub either_first : (f b m : ℕ) → IsMaskOf (λ i. Has f i ⊎ Has b i) m → (has f 0 || has b 0) ≡ has m 0
 either_first f b m p = grind (arith, p.to 0, p.from 0, has_true, true_has, has_by)
 
 -- the answer if the first cell can have no colour

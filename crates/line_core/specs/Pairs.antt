@@ -5,6 +5,7 @@ use Rattle.grid_core.specs.declared.cells.Cell.TheVariants.{Unknown}
 use Rattle.grid_core.specs.Cells.{colour}
 use Rattle.line_core.specs.Deduction.{deduced}
 use Rattle.line_core.specs.Told.{told_by}
+use Rattle.place_sets.specs.Masks.{Has}
 
 -- masks of cells that can be filled, and of cells that can be blank
 pub record ColourMasks : Type 0 where
@@ -31,27 +32,43 @@ masks_if false pair = pair.if_blank
 abbrev pub coloured : List Cell → ℕ → Bool → List Cell
 coloured line k filled = slice_set line k (colour filled)
 
--- a table: its line, if it has one, and for each cell what can be with a colour there
+-- a table: its line, if it has one, for each cell what can be with a colour there, and masks of cells with which,
+-- filled or blank, nothing else is certain
 pub record Table : Type 0 where
   pub line : Option (List Cell)
   pub pairs : List PairMasks
+  pub neutral_filled : ℕ
+  pub neutral_blank : ℕ
+
+-- the neutral cells of a colour
+abbrev pub neutral_if : Bool → Table → ℕ
+neutral_if true table = table.neutral_filled
+neutral_if false table = table.neutral_blank
 
 -- a table without a line
 abbrev pub no_table : Table
-no_table = record { line = None; pairs = [] }
+no_table = record { line = None; pairs = []; neutral_filled = 0; neutral_blank = 0 }
 
--- a table has room for lines of `width` cells, and what can be with each cell of its line
-pub record IsTableIn (width : ℕ) (table : Table) (room : ℕ) : Type 0 where
+-- there is room for lines of `width` cells, and what can be with each cell of the line
+pub record IsTableIn (width : ℕ) (its_line : Option (List Cell)) (pairs : List PairMasks) (room : ℕ) : Type 0 where
   pub fits : width ≤ room
-  pub written : (line : List Cell) → table.line ≡ Some line → length line ≤ length table.pairs
+  pub written : (line : List Cell) → its_line ≡ Some line → length line ≤ length pairs
 
--- for each unknown cell of the table's line and each colour it tells what is certain of the line
--- with that colour there
-pub record IsTableOf (clue : List ℕ) (table : Table) : Type 0 where
-  pub tells : (line : List Cell) (x : ℕ) (filled : Bool) → table.line ≡ Some line → x < length line
-      → slice_index_or line x Unknown ≡ Unknown
-      → (let masks = masks_if filled (slice_index_or table.pairs x no_pair) in
+-- for each unknown cell of a line and each colour pairs tell what is certain of the line with it
+pub record TellOf (clue : List ℕ) (line : List Cell) (pairs : List PairMasks) : Type 0 where
+  pub tells : (x : ℕ) (filled : Bool) → x < length line → slice_index_or line x Unknown ≡ Unknown
+      → (let masks = masks_if filled (slice_index_or pairs x no_pair) in
       told_by (length line) masks.fillable masks.blankable ≡ deduced (coloured line x filled) clue)
+
+-- nothing else is certain of a line with a colour at one of these cells, if it is unknown
+pub record AreNeutral (clue : List ℕ) (line : List Cell) (filled : Bool) (cells : ℕ) : Type 0 where
+  pub nothing_else : (x : ℕ) → x < length line → slice_index_or line x Unknown ≡ Unknown → Has cells x
+      → deduced (coloured line x filled) clue ≡ Some (coloured line x filled)
+
+-- a table's pairs and its neutral cells are those of its line
+pub record IsTableOf (clue : List ℕ) (table : Table) : Type 0 where
+  pub told : (line : List Cell) → table.line ≡ Some line → TellOf clue line table.pairs
+  pub neutral : (line : List Cell) (filled : Bool) → table.line ≡ Some line → AreNeutral clue line filled (neutral_if filled table)
 
 -- a line is that of a table but for one unknown cell, which has a colour
 pub record IsOneMore (table : Table) (line : List Cell) : Type 0 where

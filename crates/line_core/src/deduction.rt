@@ -4,7 +4,7 @@ ghost use Rattle.std.specs.Prelude.{◌≡◌, ◌<◌, ◌≤◌, List, Some, l
 ghost use Rattle.grid_core.specs.declared.cells.Cell.{Cell};
 ghost use Rattle.place_sets.specs.Masks.{IsMaskOf};
 ghost use Rattle.line_core.specs.Deduction.{deduced};
-ghost use Rattle.line_core.specs.Pairs.{IsTableOf};
+ghost use Rattle.line_core.specs.Pairs.{TellOf};
 ghost use Rattle.line_core.specs.steps.Passes.{IsSpanOf, padded};
 ghost use Rattle.line_core.specs.steps.Reach.{AreLengths, AreGapsAhead, IsFillable, IsBlankable};
 ghost use Rattle.line_core.specs.Told.{told_by};
@@ -228,7 +228,7 @@ fn write_pairs_within<W: PlaceSet>(
     requires ahead { 0 < vec_capacity ahead.old }
     requires room { length clue.now ≤ room.old.most_runs }
     requires pairs { length line.now ≤ length pairs.old }
-    ensures table { IsTableOf clue.now (record { line = Some line.now; pairs = pairs.new }) }
+    ensures told { TellOf clue.now line.now pairs.new }
     ensures count { length pairs.new ≡ length pairs.old }
     ensures ahead { 0 < vec_capacity ahead.new }
     ensures room { room.new.most_runs ≡ room.old.most_runs }
@@ -259,7 +259,7 @@ pub trait LineSet: PlaceSet {
         requires short { length line.now ≤ 128 }
         requires room { length clue.now ≤ room.old.most_runs }
         requires pairs { length line.now ≤ length pairs.old }
-        ensures table { IsTableOf clue.now (record { line = Some line.now; pairs = pairs.new }) }
+        ensures told { TellOf clue.now line.now pairs.new }
         ensures count { length pairs.new ≡ length pairs.old }
         ensures tables { tables.new ≡ tables.old }
         ensures room { room.new.most_runs ≡ room.old.most_runs };

@@ -1,8 +1,8 @@
 //! All pairs of a line, in room that is made once.
 
-ghost use Rattle.std.specs.Prelude.{◌≡◌, ◌+◌, ◌*◌, ◌<◌, ◌≤◌, List, Some, length, map, reverse, vec_capacity, vec_len, IfOk};
+ghost use Rattle.std.specs.Prelude.{◌≡◌, ◌+◌, ◌*◌, ◌<◌, ◌≤◌, List, length, map, reverse, vec_capacity, vec_len, IfOk};
 ghost use Rattle.grid_core.specs.declared.cells.Cell.{Cell};
-ghost use Rattle.line_core.specs.Pairs.{IsTableOf};
+ghost use Rattle.line_core.specs.Pairs.{TellOf};
 ghost use Rattle.grid_core.specs.declared.limits.TheConstants.{MOST_RUNS};
 ghost use Rattle.line_core.specs.steps.Passes.{IsSpanOf};
 ghost use Rattle.line_core.specs.steps.Pairs.{ArePairs, AreTold, AreWholeEnds, AreWholeGaps};
@@ -178,7 +178,7 @@ impl<W: PlaceSet> PairRoom<W> {
         requires short { length cells ≤ 128 }
         requires room { length clue.now ≤ self.old.most_runs }
         requires pairs { length cells ≤ length pairs.old }
-        ensures table { IsTableOf clue.now (record { line = Some cells; pairs = pairs.new }) }
+        ensures told { TellOf clue.now cells pairs.new }
         ensures count { length pairs.new ≡ length pairs.old }
         ensures room { self.new.most_runs ≡ self.old.most_runs }
     {

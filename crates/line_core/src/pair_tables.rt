@@ -3,7 +3,7 @@
 ghost use Rattle.std.specs.Prelude.{◌≡◌, ◌≢◌, ◌↔◌, ◌<◌, ◌≤◌, ℕ, List, None, Some, length, vec_capacity, vec_len, All, IfOk, IfSome, IsTrue};
 ghost use Rattle.place_sets.specs.Masks.{IsMaskOf};
 ghost use Rattle.line_core.specs.Deduction.{deduced};
-ghost use Rattle.line_core.specs.Pairs.{IsOneMore, IsTableOf};
+ghost use Rattle.line_core.specs.Pairs.{AreNeutral, IsOneMore, IsTableOf, TellOf, neutral_if};
 ghost use Rattle.line_core.specs.Told.{told_by};
 ghost use Rattle.line_core.specs.declared.pairs.TheConstants.{LONGEST_PAIRED};
 
@@ -20,12 +20,21 @@ use std::marker::Model;
 pub struct PairTable<W: LineSet> {
     line: Option<LineOf<W>>,
     pairs: Vec<Pair<W>>,
+    /// The unknown cells with which, filled, nothing else is certain.
+    neutral_filled: W,
+    /// And those with which it is so if they are blank.
+    neutral_blank: W,
 }
 
 /// A call of its own, so that a proof takes it as one step.
 impl<W: LineSet> Drop for PairTable<W> {
     fn drop(self) {
-        let PairTable { line: _, pairs: _ } = self;
+        let PairTable {
+            line: _,
+            pairs: _,
+            neutral_filled: _,
+            neutral_blank: _,
+        } = self;
     }
 }
 
@@ -36,9 +45,14 @@ impl<W: LineSet> Model for PairTable<W> {
 
     ghost Value = { Table };
 
-    ghost view = { λ t. record { line = t.line; pairs = t.pairs.items } };
+    ghost view = { λ t. record {
+      line = t.line;
+      pairs = t.pairs.items;
+      neutral_filled = W.number t.neutral_filled;
+      neutral_blank = W.number t.neutral_blank;
+    } };
 
-    ghost invariant = { λ t. IsTableIn W.WIDTH (record { line = t.line; pairs = t.pairs.items }) (vec_capacity t.pairs) };
+    ghost invariant = { λ t. IsTableIn W.WIDTH t.line t.pairs.items (vec_capacity t.pairs) };
 }
 
 /// The place of a set that has just one.
@@ -68,6 +82,24 @@ fn make_entries<W: LineSet>(pairs: &mut Vec<Pair<W>>, len: u16)
     }
 }
 
+/// The unknown cells of a line of which pairs tell that nothing else is certain with a colour there.
+fn neutral_cells<W: LineSet>(line: &LineOf<W>, pairs: &[Pair<W>], filled: bool) -> W
+    requires { length line.now ≤ length pairs.now }
+    ensures { (clue : List ℕ) → TellOf clue line.now pairs.now → AreNeutral clue line.now filled (W.number result) }
+{
+    let unknown = line.unknown_cells();
+    let mut neutral = W::empty();
+    let mut left = unknown;
+    while !left.is_empty() {
+        let place = left.first_place();
+        left = left.marked(place, false);
+        let colours = pairs[usize::from(place)].colours_if(filled);
+        let is_neutral = colours.leave_open(unknown.marked(place, false));
+        neutral = neutral.marked(place, is_neutral);
+    }
+    neutral
+}
+
 impl<W: LineSet> PairTable<W> {
     /// A table without a line, with all the room that it takes.
     #[tactic(auto, using(crate::proofs::Pairing::empty_table))]
@@ -78,6 +110,8 @@ impl<W: LineSet> PairTable<W> {
         Ok(PairTable {
             line: None,
             pairs: Vec::with_capacity(alloc, usize::from(W::WIDTH))?,
+            neutral_filled: W::empty(),
+            neutral_blank: W::empty(),
         })
     }
 
@@ -89,7 +123,7 @@ impl<W: LineSet> PairTable<W> {
     }
 
     /// Whether its line is this one.
-    fn is_of(&self, line: &LineOf<W>) -> bool
+    pub fn is_of(&self, line: &LineOf<W>) -> bool
         ensures { IsTrue result → self.now.line ≡ Some line.now }
     {
         match &self.line {
@@ -115,6 +149,8 @@ impl<W: LineSet> PairTable<W> {
     {
         make_entries(&mut self.pairs, line.len());
         W::write_pairs(tables, room, line, clue, &mut self.pairs);
+        self.neutral_filled = neutral_cells(line, &self.pairs, true);
+        self.neutral_blank = neutral_cells(line, &self.pairs, false);
         self.line = Some(line.copy());
     }
 
@@ -141,6 +177,17 @@ impl<W: LineSet> PairTable<W> {
         self.line = None;
         if line.len() <= LONGEST_PAIRED && clue.numbers().len() <= room.most_runs() {
             self.write_new(tables, room, line, clue);
+        }
+    }
+
+    /// Those of the unknown cells of its line with which nothing else is certain if they are filled, or else blank.
+    pub fn neutral_cells(&self, filled: bool) -> W
+        ensures { W.number result ≡ neutral_if filled self.now }
+    {
+        if filled {
+            self.neutral_filled
+        } else {
+            self.neutral_blank
         }
     }
 

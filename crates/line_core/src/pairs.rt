@@ -1,9 +1,9 @@
 //! What is certain of a line once one more of its cells is known.
 
-ghost use Rattle.std.specs.Prelude.{◌≡◌, ◌<◌, ◌≤◌, List, length, slice_index_or, true};
+ghost use Rattle.std.specs.Prelude.{◌≡◌, ◌<◌, ◌≤◌, List, length, slice_index_or, true, IsTrue};
 ghost use Rattle.grid_core.specs.declared.cells.Cell.{Cell};
 ghost use Rattle.line_core.specs.steps.Passes.{IsSpanOf};
-ghost use Rattle.line_core.specs.steps.Pairs.{AreColours, ArePairs, IsPairAt};
+ghost use Rattle.line_core.specs.steps.Pairs.{AreColours, ArePairs, IsPairAt, LeaveOpen};
 ghost use Rattle.grid_core.specs.Cells.{colour};
 ghost use Rattle.grid_core.specs.declared.cells.Cell.TheVariants.{Unknown};
 ghost use Rattle.line_core.specs.steps.Reach.{AreLengths};
@@ -52,6 +52,14 @@ impl<W: PlaceSet> Colours<W> {
         ensures { result ≡ told_by len self.now.fillable self.now.blankable }
     {
         certain(len, self.fillable, self.blankable)
+    }
+
+    /// Whether the first cell can have a colour, and each of some cells both.
+    pub(crate) fn leave_open(&self, cells: W) -> bool
+        ensures { IsTrue result → LeaveOpen self.now (W.number cells) }
+    {
+        let both = self.fillable.intersection(self.blankable);
+        self.fillable.union(self.blankable).contains(0) && cells.difference(both).is_empty()
     }
 }
 

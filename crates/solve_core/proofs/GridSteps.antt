@@ -1,9 +1,10 @@
 -- What deducing a line, or settling a cell, does to the marks of the lines and to the grid's closure.
-use Rattle.solve_core.proofs.Names.{◌≡◌, ◌≢◌, ℕ, ◌+◌, ◌*◌, ◌/◌, ◌%◌, ◌<◌, inl, inr, true, false, List, length, get_or, set, Option, Some, refl, sym, ap, ◌∙◌, arith, length-set, true≢false, cases_eq, div_below, Cell, Unknown, TrailedGrid, IsBoardOf, cells_along, cells_at, Nonogram, IsNonogram, GridLine, lines_of, line_on, crossing, places_on, count_on, place_on, Dead, Same, Changed, round, closure, deduce_line, LineMarks, marks_on, IsMarkedOn, AreUnmarked, AreMarksWithin, Has, IsMarked, IsMaskOf, Side, Rows, Columns, IsDeduced, IsLearned, MarksChanges, HasMarks, MarksAfter, Progresses, IsAtRest, Closing, IsIdle, Extends-refl, length-Extends, rules}
+use Rattle.solve_core.proofs.Names.{AreFresh, ◌≡◌, ◌≢◌, ℕ, ◌+◌, ◌*◌, ◌/◌, ◌%◌, ◌<◌, inl, inr, true, false, List, length, get_or, set, Option, Some, refl, sym, ap, ◌∙◌, arith, length-set, true≢false, cases_eq, div_below, Cell, Unknown, TrailedGrid, IsBoardOf, cells_along, cells_at, Nonogram, IsNonogram, GridLine, lines_of, line_on, crossing, places_on, count_on, place_on, Dead, Same, Changed, round, closure, deduce_line, LineMarks, marks_on, IsMarkedOn, AreUnmarked, AreMarksWithin, Has, IsMarked, IsMaskOf, Side, Rows, Columns, IsDeduced, IsLearned, MarksChanges, HasMarks, MarksAfter, Progresses, IsAtRest, Closing, IsIdle, Extends-refl, length-Extends, rules}
 use Rattle.solve_core.specs.declared.closures.Progress.{Progress}
+use Rattle.solve_core.specs.steps.LinePairs.{LineTables, table_on}
 use Rattle.solve_core.proofs.ClosureLaws.{closure-IsLeastClosed}
 use Rattle.solve_core.proofs.StepLaws.{IsOneOf, done_within}
-use Rattle.solve_core.proofs.LineSteps.{closed_settled, cells_at-same, settled-elsewhere, AreDistinct, AreBelow, settled_line, written_line, written-extends, written-settled, written-elsewhere, line_keeps, line_dead}
+use Rattle.solve_core.proofs.LineSteps.{closed_settled, cells_at-same, kept-elsewhere, AreDistinct, AreBelow, settled_line, written_line, written-extends, written-settled, written-elsewhere, line_keeps, line_dead}
 use Rattle.solve_core.proofs.SideLines.{across, all_sides, along, below_places, by_side, distinct_places, line_is_one, same_place}
 
 -- no place of a line is there twice
@@ -31,7 +32,7 @@ pub marks-after : (p : Nonogram) (cells new : List Cell) (marks middle after : L
     HasMarks p marks cells → i < count_on side p.width p.height →
     IsMaskOf (IsMarked (Has (marks_on side marks)) i false) (marks_on side middle) →
     marks_on (crossing side) middle ≡ marks_on (crossing side) marks → IsLearned r (line_on side p i) cells new →
-    MarksChanges side i p.width p.height cells new middle after → MarksAfter r p after new
+    MarksChanges p side i cells new middle after → MarksAfter r p after new
 marks-after p cells new marks middle after side i r m l taken other learned changes = by r learned
   where
     within : AreMarksWithin p.width p.height after
@@ -51,8 +52,11 @@ marks-after p cells new marks middle after side i r m l taken other learned chan
             | inr ne ↦ settled-same cells new (line_on side p j) (search (rules, m.settled, changes.own, taken.from))
                 (search (rules, along, same_place, elsewhere))
           ])
-          (λ j lj n. settled-same cells new (line_on (crossing side) p j) (search (rules, m.settled, changes.kept, other))
-          (λ b lb. elsewhere _ (λ k lk meet. grind (arith, across, along, same_place, changes.same))));
+          (λ j lj n. elim (changes.same j lj n) [
+            | inl same ↦ settled-same cells new (line_on (crossing side) p j) (search (rules, m.settled, changes.kept, other))
+                (λ b lb. elsewhere _ (λ k lk meet. grind (arith, across, along, same_place, same)))
+            | inr settled ↦ settled
+          ]);
     }
 
     by : (r : Progress) → IsLearned r (line_on side p i) cells new → MarksAfter r p after new
@@ -96,14 +100,44 @@ closed_after p marks first cells middle new r n h e m unmarked same =
     sym (unmarked_closed p marks new m unmarked) ∙ ap (closure (lines_of p)) e ∙
     progress-keeps (closure (lines_of p)) r cells middle n h ∙ same
 
--- a line stays settled if a cell of another line of its side is written
+-- a line stays as it is if a cell of another line of its side is written
+apart_kept : (p : Nonogram) (cells : List Cell) (side : Side) (i b k j : ℕ) (c : Cell) → i < count_on side p.width p.height →
+    b < count_on (crossing side) p.width p.height → k ≡ place_on side p.width i b → j < count_on side p.width p.height → j ≢ i →
+    cells_at Unknown (set cells k c) (line_on side p j).places ≡ cells_at Unknown cells (line_on side p j).places
+apart_kept p cells side i b k j c li lb e lj ne =
+    kept-elsewhere cells k c (line_on side p j) (λ d ld s.
+    let there = along side p.width p.height j d ld in
+    ne (sym (same_place side p.width p.height i b j d li lb lj there.0 (sym e ∙ s ∙ there.1)).0))
+
+-- so it stays settled
 pub apart_settled : (p : Nonogram) (cells : List Cell) (side : Side) (i b k j : ℕ) (c : Cell) → i < count_on side p.width p.height →
     b < count_on (crossing side) p.width p.height → k ≡ place_on side p.width i b → j < count_on side p.width p.height → j ≢ i →
     IsDeduced cells (line_on side p j) → IsDeduced (set cells k c) (line_on side p j)
-apart_settled p cells side i b k j c li lb e lj ne deduced =
-    settled-elsewhere cells k c (line_on side p j) deduced (λ d ld s.
-    let there = along side p.width p.height j d ld in
-    ne (sym (same_place side p.width p.height i b j d li lb lj there.0 (sym e ∙ s ∙ there.1)).0))
+apart_settled p cells side i b k j c li lb e lj ne deduced = rw (apart_kept p cells side i b k j c li lb e lj ne) deduced
+
+-- and fresh
+pub place_fresh : (p : Nonogram) (cells : List Cell) (fresh later : LineMarks) (tables : LineTables) (k y x : ℕ) (c : Cell) →
+    AreFresh p fresh tables cells → y < p.height → x < p.width → k ≡ y * p.width + x →
+    IsMaskOf (IsMarked (Has fresh.rows) y false) later.rows →
+    IsMaskOf (IsMarked (Has fresh.columns) x false) later.columns → AreFresh p later tables (set cells k c)
+place_fresh p cells fresh later tables k y x c f hy hx at rows columns = record {
+  inside = elim [
+    | Rows ↦ λ j h. f.inside Rows j (before Rows y rows j h).0
+    | Columns ↦ λ j h. f.inside Columns j (before Columns x columns j h).0
+  ];
+  table_is = elim [ Rows ↦ kept Rows y x hy hx at rows | Columns ↦ kept Columns x y hx hy at columns ];
+}
+  where
+    before : (side : Side) (i : ℕ) → IsMaskOf (IsMarked (Has (marks_on side fresh)) i false) (marks_on side later) → (j : ℕ) →
+        IsMarkedOn later side j → IsMarkedOn fresh side j × (j ≢ i)
+    before side i mask j h = elim (mask.to j h) [ inl old ↦ old | inr own ↦ absurd (true≢false (sym own.1)) ]
+
+    kept : (side : Side) (i b : ℕ) → i < count_on side p.width p.height → b < count_on (crossing side) p.width p.height →
+        k ≡ place_on side p.width i b → IsMaskOf (IsMarked (Has (marks_on side fresh)) i false) (marks_on side later) → (j : ℕ) →
+        IsMarkedOn later side j → (table_on side j tables).line ≡ Some (cells_at Unknown (set cells k c) (line_on side p j).places)
+    kept side i b li lb e mask j h =
+        let old = before side i mask j h in
+        rw (apart_kept p cells side i b k j c li lb e (f.inside side j old.0) old.1) (f.table_is side j old.0)
 
 -- if the cell in row y and column x is given a colour, marking these two lines keeps the marks right
 pub place_marks : (p : Nonogram) (cells : List Cell) (marks after : LineMarks) (k y x : ℕ) (c : Cell) → HasMarks p marks cells →

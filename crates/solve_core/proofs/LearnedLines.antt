@@ -1,9 +1,12 @@
 -- The lines of a grid after one of them was written whole, and each that crosses it where it changes.
-use Rattle.solve_core.proofs.Names.{◌≡◌, ◌∙◌, refl, ℕ, ◌*◌, ◌<◌, ◌≤◌, inl, inr, List, [], length, get_or, set, sym, ap, arith, length-set, get_or-set_same, get_or-set_other, bit_at, cases_eq, set-get_or, Cell, Unknown, Side, Rows, Columns, Extends, IsChanged, cells_at, crossing, places_on, IsSize, PartialGrid, cells_of_rows, count_on, place_on, same_cells, get_or-cells_at, length-cells_at, length-places_on, get_or-places_on, Extends-at, Has, IsMaskOf, with_cells, AreLinesOf, CanLearn, IsLearning, TrailedGrid, length-Extends, ext_get_or, rules}
+use Rattle.solve_core.proofs.Names.{◌≡◌, ◌≢◌, ◌∙◌, AreFresh, IsMarkedOn, Blank, Filled, LineMarks, Nonogram, Some, colour, deduced, is_filled, is_known, line_on, subst, true, refl, ℕ, ◌*◌, ◌<◌, ◌≤◌, inl, inr, List, [], length, get_or, set, sym, ap, arith, length-set, get_or-set_same, get_or-set_other, bit_at, cases_eq, set-get_or, Cell, Unknown, Side, Rows, Columns, Extends, IsChanged, cells_at, crossing, places_on, IsSize, PartialGrid, cells_of_rows, count_on, place_on, same_cells, get_or-cells_at, length-cells_at, length-places_on, get_or-places_on, Extends-at, Has, IsMaskOf, with_cells, AreLinesOf, CanLearn, IsLearning, TrailedGrid, length-Extends, ext_get_or, rules}
 use Rattle.solve_core.proofs.ClosureLaws.{length-with_cells}
 use Rattle.solve_core.proofs.GridLineSteps.{grid_of_lines, lines-cells}
 use Rattle.solve_core.proofs.LineSteps.{cells_at-same, cells_at-with_cells, get_or-with_cells, learned_cell}
-use Rattle.solve_core.proofs.SideLines.{across, along, below_places, cell_within, column_within, row_within, crossing_twice, distinct_places, same_place}
+use Rattle.line_core.specs.Pairs.{AreNeutral}
+use Rattle.solve_core.specs.steps.LineMarks.{StayFresh}
+use Rattle.solve_core.specs.steps.LinePairs.{LineTables, table_on}
+use Rattle.solve_core.proofs.SideLines.{across, along, by_side, below_places, cell_within, column_within, row_within, crossing_twice, distinct_places, same_place}
 use Rattle.std.proofs.Math.Nat.{mul-le-mul_left}
 
 -- line i of a side gets these cells, of which some change
@@ -50,6 +53,12 @@ at_across : (side : Side) (w h k t : ℕ) (cells : List Cell) → k < count_on (
     (get_or (cells_at Unknown cells (places_on (crossing side) w h k)) t Unknown ≡ get_or cells (place_on side w t k) Unknown)
 at_across side w h k t cells lk lt = search (rules, length-places_on, crossing_twice, length-cells_at, get_or-cells_at, across)
 
+-- a known cell has the colour that it has
+pub coloured_as : (c : Cell) → is_known c ≡ true → colour (is_filled c) ≡ c
+coloured_as Filled known = refl
+coloured_as Blank known = refl
+coloured_as Unknown known = cc
+
 module _ (side : Side) (w h i m : ℕ) (cells new : List Cell) (is : Learns side w h i m cells new) where
   -- the cells of the line are the new ones
   own_read : cells_at Unknown (after side w h i cells new) (places_on side w h i) ≡ new
@@ -61,7 +70,7 @@ module _ (side : Side) (w h i m : ℕ) (cells new : List Cell) (is : Learns side
       grind (arith, length-set, cases_eq, get_or-set_same, own_read, get_or-set_other, cells_at-same, along, get_or-with_cells, same_place)
 
   -- where a cell of the line changes
-  change_in : (k : ℕ) → Has m k → k < count_on (crossing side) w h
+  pub change_in : (k : ℕ) → Has m k → k < count_on (crossing side) w h
   change_in k has =
       let at = is.changes.to k has in (along side w h i k (omega (arith, at.0, length-cells_at Unknown cells (places_on side w h i)))).0
 
@@ -81,7 +90,7 @@ module _ (side : Side) (w h i m : ℕ) (cells new : List Cell) (is : Learns side
       }
 
   -- a line that crosses gets the cell of the new line
-  crossed : (k : ℕ) → k < count_on (crossing side) w h → cells_at Unknown (after side w h i cells new) (places_on (crossing side) w h k) ≡
+  pub crossed : (k : ℕ) → k < count_on (crossing side) w h → cells_at Unknown (after side w h i cells new) (places_on (crossing side) w h k) ≡
       set (cells_at Unknown cells (places_on (crossing side) w h k)) i (get_or new k Unknown)
   crossed k lk =
       let now = after side w h i cells new in
@@ -96,6 +105,50 @@ module _ (side : Side) (w h i m : ℕ) (cells new : List Cell) (is : Learns side
         | inr other ↦ search (rules, get_or-with_cells, along, same_place, at_across, get_or-set_other)
       ])
 
+  -- another line of its side stays
+  own_kept : (k : ℕ) → k < count_on side w h → k ≢ i →
+      cells_at Unknown (after side w h i cells new) (places_on side w h k) ≡ cells_at Unknown cells (places_on side w h k)
+  own_kept k lk ne = grind (arith, cells_at-same, along, get_or-with_cells, same_place)
+
+  -- and so does a line that crosses where nothing changes
+  across_kept : (k : ℕ) → k < count_on (crossing side) w h → (Has m k → ⊥) →
+      cells_at Unknown (after side w h i cells new) (places_on (crossing side) w h k) ≡ cells_at Unknown cells (places_on (crossing side) w h k)
+  across_kept k lk none =
+      let old = cells_at Unknown cells (places_on side w h i) in
+      let kept = same_cells (get_or old k Unknown) (get_or new k Unknown) (λ d. none (is.changes.from k (
+        omega (arith, lk, length-cells_at Unknown cells (places_on side w h i), length-places_on side w h i),
+        d,
+      ))) in
+      crossed k lk ∙
+      rw (kept ∙ at_own side w h i k cells lk ∙ sym (at_across side w h k i cells lk is.line).1) (set-get_or _ i Unknown)
+
+  -- a line that crosses at a neutral cell knows all that is certain of it
+  pub neutral_settled : (clue : List ℕ) (k n : ℕ) → Has m k →
+      AreNeutral clue (cells_at Unknown cells (places_on (crossing side) w h k)) (is_filled (get_or new k Unknown)) n → Has n i →
+      let line = cells_at Unknown (after side w h i cells new) (places_on (crossing side) w h k) in deduced line clue ≡ Some line
+  neutral_settled clue k n has neutral own =
+      let old = cells_at Unknown cells (places_on side w h i) in
+      let here = change_in k has in
+      let learned = learned_cell (get_or old k Unknown) (get_or new k Unknown) (Extends-at old new k is.more) (is.changes.to k has).1 in
+      let at = at_across side w h k i cells here is.line in
+      let line = cells_at Unknown cells (places_on (crossing side) w h k) in
+      rw (crossed k here) (subst (λ (c : Cell). deduced (set line i c) clue ≡ Some (set line i c))
+      (coloured_as (get_or new k Unknown) learned.1) (neutral.nothing_else i at.0 (at.1 ∙ sym (at_own side w h i k cells here) ∙ learned.0) own))
+
+  -- lines that stay fresh have tables of their cells
+  pub stay_fresh : (p : Nonogram) (fresh later : LineMarks) (tables : LineTables) → p.width ≡ w → p.height ≡ h →
+      AreFresh p fresh tables cells → StayFresh side i (Has m) fresh later → AreFresh p later tables (after side w h i cells new)
+  stay_fresh p fresh later tables wide high f stay = record {
+    inside = by_side (λ s. (k : ℕ) → IsMarkedOn later s k → k < count_on s p.width p.height) side
+        (λ k l. f.inside side k (stay.own k l).0) (λ k l. f.inside (crossing side) k (stay.across k l).0);
+    table_is = by_side (λ s. (k : ℕ) → IsMarkedOn later s k → (table_on s k tables).line
+        ≡ Some (cells_at Unknown (after side w h i cells new) (line_on s p k).places)) side
+        (λ k l. let old = stay.own k l in f.table_is side k old.0 ∙ ap (λ (line : List Cell). Some line)
+        (rw (wide, high) (sym (own_kept k (rw (wide, high) at (f.inside side k old.0)) old.1))))
+        (λ k l. let old = stay.across k l in f.table_is (crossing side) k old.0 ∙ ap (λ (line : List Cell). Some line)
+        (rw (wide, high) (sym (across_kept k (rw (wide, high) at (f.inside (crossing side) k old.0)) old.1))));
+  }
+
   -- the lines that cross
   across_learned : (lines more : List (List Cell)) → AreOn (crossing side) w h cells lines → length more ≡ length lines →
       ((k : ℕ) → Has m k → get_or more k [] ≡ set (get_or lines k []) i (get_or new k Unknown)) →
@@ -105,17 +158,10 @@ module _ (side : Side) (w h i m : ℕ) (cells new : List Cell) (is : Learns side
     λ k lk.
         let below : k < length lines = omega (arith, lk, long) in
         let inside : k < count_on (crossing side) w h = omega (arith, below, are.0) in
-        let old = cells_at Unknown cells (places_on side w h i) in
         let line = are.1 k below in
         elim (cases_eq (bit_at m k) 1) [
           | inl has ↦ changed k has ∙ ap (λ (r : List Cell). set r i (get_or new k Unknown)) line ∙ sym (crossed k inside)
-          | inr none ↦
-              let kept = same_cells (get_or old k Unknown) (get_or new k Unknown) (λ d. none (is.changes.from k (
-                omega (arith, inside, length-cells_at Unknown cells (places_on side w h i), length-places_on side w h i),
-                d,
-              ))) in
-              others k none ∙ line ∙ sym (crossed k inside ∙
-              rw (kept ∙ at_own side w h i k cells inside ∙ sym (at_across side w h k i cells inside is.line).1) (set-get_or _ i Unknown))
+          | inr none ↦ others k none ∙ line ∙ sym (across_kept k inside none)
         ],
   )
 

@@ -145,10 +145,10 @@ distinct_same (p ∷ ps) (suc k) (suc i) d l m e = ap suc (distinct_same ps k i 
 pub learned_cell : (old new : Cell) → CellExtends old new → new ≢ old → (old ≡ Unknown) × (is_known new ≡ true)
 learned_cell old new h k = search rules
 
--- a line stays settled if a cell that isn't its own is written
-pub settled-elsewhere : (g : List Cell) (k : ℕ) (c : Cell) (line : GridLine) → IsDeduced g line →
-    ((b : ℕ) → b < length line.places → k ≢ get_or line.places b 0) → IsDeduced (set g k c) line
-settled-elsewhere g k c line settled apart = search (rules, cells_at-same, set_elsewhere)
+-- a line stays as it is if a cell that isn't its own is written
+pub kept-elsewhere : (g : List Cell) (k : ℕ) (c : Cell) (line : GridLine) → ((b : ℕ) → b < length line.places → k ≢ get_or line.places b 0) →
+    cells_at Unknown (set g k c) line.places ≡ cells_at Unknown g line.places
+kept-elsewhere g k c line apart = search (rules, cells_at-same, set_elsewhere)
 
 -- a line of a closed grid knows all that is certain of it
 pub closed_settled : (lines : List GridLine) (g : List Cell) (line : GridLine) → round lines g ≡ Some g → IsOneOf line lines →

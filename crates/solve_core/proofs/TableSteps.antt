@@ -1,8 +1,9 @@
 -- Tables of lines as they are made, forgotten and written.
-use Rattle.solve_core.proofs.Names.{◌≡◌, ◌≢◌, ℕ, zero, suc, refl, arith, ◌<◌, ◌≤◌, List, length, [], ◌∷◌, ◌++◌, None, get_or}
+use Rattle.solve_core.proofs.Names.{ap, inl, inr, ◌≡◌, ◌≢◌, ℕ, zero, suc, refl, arith, ◌<◌, ◌≤◌, List, length, [], ◌∷◌, ◌++◌, None, get_or}
 use Rattle.std.proofs.lemmas.Bool.{cases_eq, cases_lt}
 use Rattle.std.proofs.Math.ListN.{get_or-eq_default}
 use Rattle.grid_core.specs.Nonogram.{Nonogram, line_on}
+use Rattle.grid_core.specs.declared.sides.Side.{Side}
 use Rattle.grid_core.specs.declared.sides.Side.TheVariants.{Rows, Columns}
 use Rattle.line_core.proofs.Pairing.{empty_table}
 use Rattle.line_core.specs.Pairs.{IsTableOf, Table, no_table}
@@ -34,10 +35,32 @@ empty_tables p rows columns r c = grind (arith, table_on, empty_table)
 -- the table of a row is made
 pub row_written : (p : Nonogram) (old new : LineTables) (i : ℕ) → AreTablesOf p old → IsTableOf (line_on Rows p i).clue (table_on Rows i new)
     → ((k : ℕ) → k ≢ i → get_or new.rows k no_table ≡ get_or old.rows k no_table) → new.columns ≡ old.columns → AreTablesOf p new
-row_written p old new i tables table others same = grind (arith, table_on, cases_eq)
+row_written p old new i tables table others same = record {
+  each = elim [
+    | Rows ↦ λ k. elim (cases_eq k i) [ inl e ↦ rw e table | inr n ↦ rw (others k n) (tables.each Rows k) ]
+    | Columns ↦ λ k. rw same (tables.each Columns k)
+  ];
+}
 
 -- the table of a column is made
 pub column_written : (p : Nonogram) (old new : LineTables) (i : ℕ) → AreTablesOf p old
     → IsTableOf (line_on Columns p i).clue (table_on Columns i new)
     → ((k : ℕ) → k ≢ i → get_or new.columns k no_table ≡ get_or old.columns k no_table) → new.rows ≡ old.rows → AreTablesOf p new
-column_written p old new i tables table others same = grind (arith, table_on, cases_eq)
+column_written p old new i tables table others same = record {
+  each = elim [
+    | Rows ↦ λ k. rw same (tables.each Rows k)
+    | Columns ↦ λ k. elim (cases_eq k i) [ inl e ↦ rw e table | inr n ↦ rw (others k n) (tables.each Columns k) ]
+  ];
+}
+
+-- the other tables stay if that of a row is made
+pub row_others : (old new : LineTables) (i : ℕ) → ((k : ℕ) → k ≢ i → get_or new.rows k no_table ≡ get_or old.rows k no_table)
+    → new.columns ≡ old.columns → (s : Side) (k : ℕ) → (s ≡ Rows → k ≢ i) → table_on s k new ≡ table_on s k old
+row_others old new i others same Rows k n = others k (n refl)
+row_others old new i others same Columns k n = ap (λ (tables : List Table). get_or tables k no_table) same
+
+-- or that of a column
+pub column_others : (old new : LineTables) (i : ℕ) → ((k : ℕ) → k ≢ i → get_or new.columns k no_table ≡ get_or old.columns k no_table)
+    → new.rows ≡ old.rows → (s : Side) (k : ℕ) → (s ≡ Columns → k ≢ i) → table_on s k new ≡ table_on s k old
+column_others old new i others same Rows k n = ap (λ (tables : List Table). get_or tables k no_table) same
+column_others old new i others same Columns k n = others k (n refl)

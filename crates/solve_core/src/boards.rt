@@ -229,6 +229,8 @@ impl<W: LineSet> Learner<W> for Board<W> {
 
     ghost KEEPS = { true };
 
+    const KEEPS: bool = true;
+
     fn line(&self, side: Side, i: u16) -> &LineOf<W> {
         self.lines.line(side, i)
     }

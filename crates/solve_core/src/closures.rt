@@ -1,15 +1,17 @@
 //! The closure of a grid, by a mark at each line that may have more to give.
-ghost use Rattle.std.specs.Prelude.{◌≡◌, ◌≢◌, ℕ, ◌+◌, ◌*◌, ◌<◌, ◌≤◌, ◌↔◌, true, false, length, slice_set, slice_index_or, IsTrue};
-ghost use Rattle.grid_core.specs.Cells.{is_known};
+ghost use Rattle.std.specs.Prelude.{◌≡◌, ◌≢◌, ℕ, ◌+◌, ◌*◌, ◌<◌, ◌≤◌, ◌↔◌, true, false, List, length, slice_set, slice_index_or, IsTrue};
+ghost use Rattle.grid_core.specs.Cells.{is_filled, is_known};
 ghost use Rattle.grid_core.specs.Nonogram.{Nonogram, crossing, line_on, lines_of};
 ghost use Rattle.grid_core.specs.steps.Sides.{count_on};
-ghost use Rattle.place_sets.specs.Masks.{Has, IsMarked, IsMaskOf};
+ghost use Rattle.place_sets.specs.Masks.{Has, has, IsMarked, IsMaskOf};
+ghost use Rattle.grid_core.specs.declared.cells.Cell.{Cell as CellValue};
 ghost use Rattle.grid_core.specs.declared.cells.Cell.TheVariants.{Unknown};
 ghost use Rattle.solve_core.specs.Closure.{closure};
-ghost use Rattle.solve_core.specs.steps.Closers.{IsIdle, IsMemoryOf};
+ghost use Rattle.solve_core.specs.steps.Closers.{AreFresh, IsIdle, IsMemoryOf};
 ghost use Rattle.solve_core.specs.steps.Deductions.{AreRight};
-ghost use Rattle.solve_core.specs.steps.LineMarks.{marks_on, IsUnmarkedOn};
-ghost use Rattle.solve_core.specs.steps.Marks.{IsLearned, MarksChanges, HasWork, LeavesWork, Progresses, IsAtRest};
+ghost use Rattle.solve_core.specs.steps.LineMarks.{marks_on, IsMarkedOn, IsUnmarkedOn, StayFresh};
+ghost use Rattle.solve_core.specs.steps.LinePairs.{IsNeutralAt};
+ghost use Rattle.solve_core.specs.steps.Marks.{HasMarks, IsLearned, MarksChanges, HasWork, LeavesWork, Progresses, IsAtRest};
 ghost use Rattle.solve_core.specs.Closure.{if_alive};
 ghost use Rattle.solve_core.specs.steps.Trails.{CanSettle, IsTrailed, cleared};
 ghost use Rattle.solve_core.specs.steps.Boards.{fresh_board, IsBoardOf};
@@ -21,7 +23,8 @@ use crate::grid_lines::GridLines;
 use crate::learners::Learner;
 use crate::marks::Marks;
 use grid_core::{Cell, Puzzle, Side};
-use line_core::LineSet;
+use line_core::{LineOf, LineSet};
+use place_sets::PlaceSet;
 use std::marker::Model;
 
 /// What became of a grid by a step that adds to what is known.
@@ -50,6 +53,8 @@ impl Progress {
 pub struct Closer<W: LineSet> {
     deductions: Deductions<W>,
     marks: Marks<W>,
+    /// The lines that have tables of their cells as they are.
+    fresh: Marks<W>,
     /// How many copies in succession were alive, at most 16.
     calm: u8,
 }
@@ -63,10 +68,42 @@ impl<W: LineSet> Model for Closer<W> {
 
     ghost Value = { Closing };
 
-    ghost view = { λ c. record { width = W.WIDTH; kept = c.deductions; marks = c.marks } };
+    ghost view = { λ c. record { width = W.WIDTH; kept = c.deductions; marks = c.marks; fresh = c.fresh } };
 }
 
-/// Writes what is certain of line i of a side, and marks the lines that cross it at the cells that it learned.
+/// Those of the changes of line i of a side at which a line that crosses may have more to give. Lines that change
+/// aren't fresh any more; no line is if none may be.
+fn open_changes<W: LineSet>(
+    deductions: &Deductions<W>,
+    side: Side,
+    i: u16,
+    new: &LineOf<W>,
+    changes: W,
+    fresh: &mut Marks<W>,
+    may_be_fresh: bool,
+) -> W
+    requires i { i < W.WIDTH }
+    requires changes { (k : ℕ) → Has (W.number changes) k → k < length new.now }
+    ensures within { (k : ℕ) → Has (W.number result) k → Has (W.number changes) k }
+    ensures others { (k : ℕ) → Has (W.number changes) k → (Has (W.number result) k → ⊥) →
+        IsMarkedOn fresh.old (crossing side) k
+        × IsNeutralAt deductions.now.tables (crossing side) k i (is_filled (slice_index_or new.now k Unknown)) }
+    ensures fresh { StayFresh side i (Has (W.number changes)) fresh.old fresh.new }
+{
+    if !may_be_fresh {
+        *fresh = Marks::none();
+        return changes;
+    }
+    if fresh.is_empty() {
+        return changes;
+    }
+    deductions
+        .pairs()
+        .open_changes(side, i, new.filled(), changes, fresh)
+}
+
+/// Writes what is certain of line i of a side, and marks the lines that cross it at the cells that it learned, if
+/// they may have more to give.
 fn learn_line<W: LineSet, B: Learner<W>>(
     deductions: &mut Deductions<W>,
     puzzle: &Puzzle,
@@ -74,16 +111,20 @@ fn learn_line<W: LineSet, B: Learner<W>>(
     i: u16,
     board: &mut B,
     marks: &mut Marks<W>,
+    fresh: &mut Marks<W>,
 ) -> Progress
     requires i { i < count_on side puzzle.now.width puzzle.now.height }
     requires board { IsBoardOf puzzle.now (B.board board.old) }
     requires memory { AreRight W.WIDTH puzzle.now deductions.old }
+    requires fresh { AreFresh puzzle.now fresh.old deductions.old.tables (B.board board.old).cells }
     ensures learned { IsLearned result (line_on side puzzle.now i) (B.board board.old).cells (B.board board.new).cells }
-    ensures marks { MarksChanges side i puzzle.now.width puzzle.now.height (B.board board.old).cells (B.board board.new).cells marks.old marks.new }
+    ensures marks { MarksChanges puzzle.now side i (B.board board.old).cells (B.board board.new).cells marks.old marks.new }
     ensures same { result ≡ Same → marks.new ≡ marks.old }
     ensures trail { B.KEEPS ≡ true → IsTrailed (B.board board.old) (B.board board.new) }
     ensures size { IsBoardOf puzzle.now (B.board board.new) }
     ensures memory { AreRight W.WIDTH puzzle.now deductions.new }
+    ensures fresh { AreFresh puzzle.now fresh.new deductions.new.tables (B.board board.new).cells }
+    ensures tables { deductions.new.tables ≡ deductions.old.tables }
 {
     let old = board.line(side, i);
     let Some(new) = deductions.deduce(puzzle, side, i, old) else {
@@ -93,7 +134,8 @@ fn learn_line<W: LineSet, B: Learner<W>>(
     if changes.is_empty() {
         return Progress::Same;
     }
-    marks.add(side.crossing(), changes);
+    let open = open_changes(deductions, side, i, &new, changes, fresh, B::KEEPS);
+    marks.add(side.crossing(), open);
     board.learn(side, i, &new, changes);
     Progress::Changed
 }
@@ -106,6 +148,7 @@ impl<W: LineSet> Closer<W> {
         Closer {
             deductions,
             marks: Marks::none(),
+            fresh: Marks::none(),
             calm: 0,
         }
     }
@@ -132,6 +175,7 @@ impl<W: LineSet> Closer<W> {
         ensures same { result ≡ Same → marks_on (crossing side) self.new.marks ≡ marks_on (crossing side) self.old.marks }
         ensures trail { B.KEEPS ≡ true → IsTrailed (B.board board.old) (B.board board.new) }
         ensures size { IsBoardOf puzzle.now (B.board board.new) }
+        ensures tables { self.new.kept.tables ≡ self.old.kept.tables }
     {
         self.marks.set(side, i, false);
         learn_line(
@@ -141,6 +185,7 @@ impl<W: LineSet> Closer<W> {
             i,
             board,
             &mut self.marks,
+            &mut self.fresh,
         )
     }
 
@@ -154,6 +199,7 @@ impl<W: LineSet> Closer<W> {
         ensures same { result ≡ Same → marks_on (crossing side) self.new.marks ≡ marks_on (crossing side) self.old.marks }
         ensures trail { B.KEEPS ≡ true → IsTrailed (B.board board.old) (B.board board.new) }
         ensures size { IsBoardOf puzzle.now (B.board board.new) }
+        ensures tables { self.new.kept.tables ≡ self.old.kept.tables }
     {
         let mut progress = Progress::Same;
         let mut from = 0;
@@ -177,6 +223,8 @@ impl<W: LineSet> Closer<W> {
         ensures rest { IsTrue result → IsAtRest puzzle.now self.new (B.board board.new).cells }
         ensures trail { B.KEEPS ≡ true → IsTrailed (B.board board.old) (B.board board.new) }
         ensures size { IsBoardOf puzzle.now (B.board board.new) }
+        ensures fresh { AreFresh puzzle.now self.new.fresh self.new.kept.tables (B.board board.new).cells }
+        ensures tables { self.new.kept.tables ≡ self.old.kept.tables }
         ensures memory { IsMemoryOf puzzle.now self.new }
     {
         loop {
@@ -200,6 +248,8 @@ impl<W: LineSet> Closer<W> {
         ensures rest { IsTrue result → IsAtRest puzzle.now self.new (B.board board.new).cells }
         ensures trail { B.KEEPS ≡ true → IsTrailed (B.board board.old) (B.board board.new) }
         ensures size { IsBoardOf puzzle.now (B.board board.new) }
+        ensures fresh { AreFresh puzzle.now self.new.fresh self.new.kept.tables (B.board board.new).cells }
+        ensures tables { self.new.kept.tables ≡ self.old.kept.tables }
     {
         let alive = self.deduce_marked(puzzle, board);
         if !alive {
@@ -217,19 +267,27 @@ impl<W: LineSet> Closer<W> {
         ensures size { IsBoardOf puzzle.now (fresh_board lines.new) }
         ensures idle { IsIdle puzzle.now self.new }
     {
+        self.fresh = Marks::none();
         self.marks.mark_all(puzzle.width(), puzzle.height());
         self.propagate(puzzle, lines)
     }
 
-    /// Makes the table of line i of a side.
+    /// Makes line i of a side fresh, if there is room for its table.
     fn prepare_line(&mut self, puzzle: &Puzzle, side: Side, i: u16, board: &Board<W>)
         requires i { i < count_on side puzzle.now.width puzzle.now.height }
         requires rest { IsAtRest puzzle.now self.old board.now.cells }
+        requires fresh { AreFresh puzzle.now self.old.fresh self.old.kept.tables board.now.cells }
         requires size { IsBoardOf puzzle.now board.now }
         ensures rest { IsAtRest puzzle.now self.new board.now.cells }
+        ensures fresh { AreFresh puzzle.now self.new.fresh self.new.kept.tables board.now.cells }
     {
-        self.deductions
-            .prepare(puzzle, side, i, board.lines().line(side, i));
+        if self.fresh.on(side).contains(i) {
+            return;
+        }
+        let line = board.lines().line(side, i);
+        if self.deductions.prepare(puzzle, side, i, line) {
+            self.fresh.set(side, i, true);
+        }
     }
 
     /// Takes away the tables of lines.
@@ -238,6 +296,14 @@ impl<W: LineSet> Closer<W> {
         ensures marks { self.new.marks ≡ self.old.marks }
     {
         self.deductions.forget_tables();
+    }
+
+    /// Takes no line as fresh any more.
+    pub fn forget_fresh(&mut self)
+        ensures rest { (p : Nonogram) (cells : List CellValue) → IsAtRest p self.old cells → IsAtRest p self.new cells }
+        ensures fresh { (p : Nonogram) (cells : List CellValue) → AreFresh p self.new.fresh self.new.kept.tables cells }
+    {
+        self.fresh = Marks::none();
     }
 
     /// Gives an unknown cell of a board at rest a colour, and closes the board by what that says of the
@@ -251,11 +317,14 @@ impl<W: LineSet> Closer<W> {
         colour: Cell,
     ) -> bool
         requires rest { IsAtRest puzzle.now self.old board.old.cells }
+        requires fresh { AreFresh puzzle.now self.old.fresh self.old.kept.tables board.old.cells }
         requires size { IsBoardOf puzzle.now board.old }
         requires cell { CanSettle board.old.cells place colour }
         ensures closed { if_alive result board.new.cells ≡ closure (lines_of puzzle.now) (slice_set board.old.cells place colour) }
         ensures idle { IsIdle puzzle.now self.new }
         ensures rest { IsTrue result → IsAtRest puzzle.now self.new board.new.cells }
+        ensures fresh { AreFresh puzzle.now self.new.fresh self.new.kept.tables board.new.cells }
+        ensures tables { self.new.kept.tables ≡ self.old.kept.tables }
         ensures trail { IsTrailed board.old board.new }
         ensures size { IsBoardOf puzzle.now board.new }
     {
@@ -263,6 +332,8 @@ impl<W: LineSet> Closer<W> {
         let (x, y) = (place % width, place / width);
         self.marks.set(Side::Rows, y as u16, true);
         self.marks.set(Side::Columns, x as u16, true);
+        self.fresh.set(Side::Rows, y as u16, false);
+        self.fresh.set(Side::Columns, x as u16, false);
         board.settle(x, y, colour);
         self.propagate(puzzle, board)
     }
@@ -278,24 +349,41 @@ impl<W: LineSet> Closer<W> {
         colour: Cell,
     ) -> bool
         requires rest { IsAtRest puzzle.now self.old board.now.cells }
+        requires fresh { AreFresh puzzle.now self.old.fresh self.old.kept.tables board.now.cells }
         requires size { IsBoardOf puzzle.now board.now }
         requires trial { IsBoardOf puzzle.now trial.old }
         requires cell { CanSettle board.now.cells place colour }
         ensures closed { if_alive result trial.new.cells ≡ closure (lines_of puzzle.now) (slice_set board.now.cells place colour) }
         ensures rest { IsAtRest puzzle.now self.new board.now.cells }
+        ensures fresh { AreFresh puzzle.now self.new.fresh self.new.kept.tables board.now.cells }
         ensures closed_rest { IsTrue result → IsAtRest puzzle.now self.new trial.new.cells }
         ensures back { cleared trial.new.cells trial.new.trail ≡ board.now.cells }
         ensures trial { IsBoardOf puzzle.now trial.new }
     {
         self.deductions.open();
         trial.restart_from(board);
+        let fresh = self.fresh.copy();
         let alive = self.assign(puzzle, trial, place, colour);
+        self.fresh = fresh;
         self.calm = if alive {
             self.calm.saturating_add(1).min(CALM)
         } else {
             0
         };
         alive
+    }
+
+    /// Whether line i of a side is fresh, and its table shows that nothing else is certain of it once an unknown
+    /// cell has a colour.
+    fn is_neutral_on(&self, side: Side, i: u16, cell: u16, colour: Cell) -> bool
+        requires { (i < W.WIDTH) × (cell < W.WIDTH) }
+        ensures { IsTrue result → IsMarkedOn self.now.fresh side i × IsNeutralAt self.now.kept.tables side i cell (is_filled colour) }
+    {
+        self.fresh.on(side).contains(i)
+            && self
+                .deductions
+                .pairs()
+                .is_neutral(side, i, cell, colour.is_filled())
     }
 
     /// Whether tables show that nothing else is certain once an unknown cell of a board at rest has a colour. Once
@@ -308,9 +396,11 @@ impl<W: LineSet> Closer<W> {
         colour: Cell,
     ) -> bool
         requires rest { IsAtRest puzzle.now self.old board.now.cells }
+        requires fresh { AreFresh puzzle.now self.old.fresh self.old.kept.tables board.now.cells }
         requires size { IsBoardOf puzzle.now board.now }
         requires cell { CanSettle board.now.cells place colour }
         ensures rest { IsAtRest puzzle.now self.new board.now.cells }
+        ensures fresh { AreFresh puzzle.now self.new.fresh self.new.kept.tables board.now.cells }
         ensures neutral { IsTrue result → closure (lines_of puzzle.now) (slice_set board.now.cells place colour)
             ≡ Some (slice_set board.now.cells place colour) }
     {
@@ -321,10 +411,7 @@ impl<W: LineSet> Closer<W> {
         let (x, y) = ((place % width) as u16, (place / width) as u16);
         self.prepare_line(puzzle, Side::Rows, y, board);
         self.prepare_line(puzzle, Side::Columns, x, board);
-        let (row, column) = (board.line(Side::Rows, y), board.line(Side::Columns, x));
-        self.deductions.is_neutral(Side::Rows, y, row, x, colour)
-            && self
-                .deductions
-                .is_neutral(Side::Columns, x, column, y, colour)
+        self.is_neutral_on(Side::Rows, y, x, colour)
+            && self.is_neutral_on(Side::Columns, x, y, colour)
     }
 }

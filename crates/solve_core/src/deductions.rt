@@ -1,18 +1,18 @@
 //! Deductions of a puzzle's lines, remembered.
-ghost use Rattle.std.specs.Prelude.{[], ℕ, ◌≡◌, ◌+◌, ◌*◌, ◌<◌, ◌≤◌, ◌↔◌, length, vec_capacity, IsTrue, IfOk, IfSome, All};
+ghost use Rattle.std.specs.Prelude.{[], ℕ, Some, ◌≡◌, ◌≢◌, ◌+◌, ◌*◌, ◌<◌, ◌≤◌, ◌↔◌, length, vec_capacity, IsTrue, IfOk, IfSome, All};
 ghost use Rattle.line_core.specs.Deduction.{deduced};
 ghost use Rattle.line_core.specs.Told.{told_by};
-ghost use Rattle.solve_core.specs.steps.Deductions.{AreRight, IsKeptFrom, IsNeutral};
-ghost use Rattle.solve_core.specs.steps.Trails.{CanSettle};
+ghost use Rattle.solve_core.specs.steps.Deductions.{AreRight, IsKeptFrom};
 ghost use Rattle.grid_core.specs.Nonogram.{Nonogram, line_on};
-ghost use Rattle.solve_core.specs.steps.LinePairs.{AreTablesOf};
+ghost use Rattle.solve_core.specs.steps.LinePairs.{AreTablesOf, table_on};
+ghost use Rattle.grid_core.specs.declared.sides.Side.{Side as SideValue};
 ghost use Rattle.grid_core.specs.steps.Sides.{count_on};
 ghost use Rattle.solve_core.specs.steps.Widths.{FitsIn};
 
 use crate::line_pairs::LinePairs;
 use crate::places::clue_of_line;
 use crate::rooms::emptied;
-use grid_core::{Cell, LONGEST_SIDE, NoMemory, Puzzle, Side};
+use grid_core::{LONGEST_SIDE, NoMemory, Puzzle, Side};
 use line_core::{Colours, LineOf, LineSet, Tables};
 use std::alloc::Global;
 use std::marker::Model;
@@ -243,13 +243,23 @@ impl<W: LineSet> Deductions<W> {
         })
     }
 
-    /// Makes the table of line i of a side of the puzzle with these cells, if it isn't made.
-    pub fn prepare(&mut self, puzzle: &Puzzle, side: Side, i: u16, line: &LineOf<W>)
+    /// Makes the table of line i of a side of the puzzle with these cells, if it isn't made and there is room for
+    /// it. Returns whether there is.
+    pub fn prepare(&mut self, puzzle: &Puzzle, side: Side, i: u16, line: &LineOf<W>) -> bool
         requires i { i < count_on side puzzle.now.width puzzle.now.height }
         requires memory { AreRight W.WIDTH puzzle.now self.old }
         ensures memory { AreRight W.WIDTH puzzle.now self.new }
+        ensures line { IsTrue result → (table_on side i self.new.tables).line ≡ Some line.now }
+        ensures others { (s : SideValue) (k : ℕ) → (s ≡ side → k ≢ i) → table_on s k self.new.tables ≡ table_on s k self.old.tables }
     {
-        self.pairs.write(&mut self.tables, puzzle, side, i, line);
+        self.pairs.write(&mut self.tables, puzzle, side, i, line)
+    }
+
+    /// Its tables of lines.
+    pub fn pairs(&self) -> &LinePairs<W>
+        ensures { result.now ≡ self.now.tables }
+    {
+        &self.pairs
     }
 
     /// Takes away the tables of lines.
@@ -268,23 +278,6 @@ impl<W: LineSet> Deductions<W> {
             return None;
         }
         self.pairs.colours_of(side, i, line)
-    }
-
-    /// Whether the table of line i of a side, if these are its cells, shows that nothing else is certain of it once an
-    /// unknown cell has a colour.
-    pub fn is_neutral(&self, side: Side, i: u16, line: &LineOf<W>, cell: u16, colour: Cell) -> bool
-        requires cell { CanSettle line.now cell colour }
-        ensures { IsTrue result → (width : ℕ) (p : Nonogram) → AreRight width p self.now → IsNeutral (line_on side p i).clue line.now cell colour }
-    {
-        let mut coloured = line.copy();
-        coloured.settle(cell, colour);
-        let Some(colours) = self.colours_of(side, i, &coloured) else {
-            return false;
-        };
-        match colours.certain(coloured.len()) {
-            None => false,
-            Some(certain) => certain.is_same(&coloured),
-        }
     }
 
     /// Remembers from here on. It takes no memory, and does nothing to what is open.
@@ -311,6 +304,7 @@ impl<W: LineSet> Deductions<W> {
         requires memory { AreRight W.WIDTH puzzle.now self.old }
         ensures answer { result ≡ deduced line.now (line_on side puzzle.now i).clue }
         ensures memory { AreRight W.WIDTH puzzle.now self.new }
+        ensures tables { self.new.tables ≡ self.old.tables }
     {
         if let Some(colours) = self.colours_of(side, i, line) {
             return colours.certain(line.len());

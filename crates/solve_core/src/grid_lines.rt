@@ -332,6 +332,8 @@ impl<W: LineSet> Learner<W> for GridLines<W> {
 
     ghost KEEPS = { false };
 
+    const KEEPS: bool = false;
+
     fn line(&self, side: Side, i: u16) -> &LineOf<W> {
         match side {
             Side::Rows => &self.rows[usize::from(i)],

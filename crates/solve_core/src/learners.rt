@@ -20,6 +20,9 @@ pub trait Learner<W: LineSet> {
     /// Whether it keeps a trail.
     ghost KEEPS: { Bool };
 
+    /// Whether it keeps a trail.
+    const KEEPS: bool;
+
     /// The cells of line i of a side.
     fn line(&self, side: Side, i: u16) -> &LineOf<W>
         requires { i < count_on side (board self.now).width (board self.now).height }

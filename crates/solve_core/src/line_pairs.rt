@@ -1,14 +1,18 @@
 //! Tables of what is certain of a puzzle's lines once one more cell is known.
 
-ghost use Rattle.std.specs.Prelude.{◌≡◌, ◌≢◌, ◌<◌, ◌≤◌, ℕ, length, slice_index_or, All, IfOk, IfSome};
-ghost use Rattle.grid_core.specs.Nonogram.{Nonogram, line_on};
+ghost use Rattle.std.specs.Prelude.{◌≡◌, ◌≢◌, ◌<◌, ◌≤◌, ℕ, length, slice_index_or, All, IfOk, IfSome, IsTrue};
+ghost use Rattle.grid_core.specs.Nonogram.{Nonogram, crossing, line_on};
+ghost use Rattle.grid_core.specs.declared.sides.Side.{Side as SideValue};
+ghost use Rattle.place_sets.specs.Masks.{Has, has};
 ghost use Rattle.grid_core.specs.steps.Sides.{count_on};
 ghost use Rattle.line_core.specs.Deduction.{deduced};
-ghost use Rattle.line_core.specs.Pairs.{IsTableOf, no_table};
+ghost use Rattle.line_core.specs.Pairs.{IsTableOf, neutral_if, no_table};
 ghost use Rattle.line_core.specs.Told.{told_by};
-ghost use Rattle.solve_core.specs.steps.LinePairs.{AreEmpty, AreTablesOf};
+ghost use Rattle.solve_core.specs.steps.LinePairs.{AreEmpty, AreTablesOf, IsNeutralAt, table_on};
+ghost use Rattle.solve_core.specs.steps.LineMarks.{IsMarkedOn, StayFresh};
 ghost use Rattle.solve_core.specs.steps.Widths.{FitsIn};
 
+use crate::marks::Marks;
 use crate::places::clue_of_line;
 use grid_core::{Clue, MOST_RUNS, NoMemory, Puzzle, Side};
 use line_core::{Colours, LineOf, LineSet, PairRoom, PairTable, Tables};
@@ -67,7 +71,7 @@ fn forget_all<W: LineSet>(tables: &mut [PairTable<W>])
     }
 }
 
-/// Makes the table of line i, given its clue, if there is room for one.
+/// Makes the table of line i, given its clue, if there is room for one. Returns whether there is.
 fn write_at<W: LineSet>(
     tables: &mut [PairTable<W>],
     i: u16,
@@ -75,16 +79,30 @@ fn write_at<W: LineSet>(
     room: &mut PairRoom<W>,
     line: &LineOf<W>,
     clue: &Clue,
-)
+) -> bool
     requires clue { All (λ number. number ≤ W.WIDTH) clue.now }
     requires table { IsTableOf clue.now (slice_index_or tables.old i no_table) }
     ensures table { IsTableOf clue.now (slice_index_or tables.new i no_table) }
     ensures others { (k : ℕ) → k ≢ i → slice_index_or tables.new k no_table ≡ slice_index_or tables.old k no_table }
     ensures count { length tables.new ≡ length tables.old }
+    ensures line { IsTrue result → (slice_index_or tables.new i no_table).line ≡ Some line.now }
 {
     let place = usize::from(i);
-    if place < tables.len() {
-        tables[place].write(lines, room, line, clue);
+    if place >= tables.len() {
+        return false;
+    }
+    tables[place].write(lines, room, line, clue);
+    tables[place].is_of(line)
+}
+
+/// Whether the table of a line has a cell of it among its neutral ones, filled or blank.
+fn is_neutral_in<W: LineSet>(tables: &[PairTable<W>], i: u16, cell: u16, filled: bool) -> bool
+    requires { cell < W.WIDTH }
+    ensures { IsTrue result → Has (neutral_if filled (slice_index_or tables.now i no_table)) cell }
+{
+    match tables.get(usize::from(i)) {
+        None => false,
+        Some(table) => table.neutral_cells(filled).contains(cell),
     }
 }
 
@@ -187,7 +205,8 @@ impl<W: LineSet> LinePairs<W> {
         })
     }
 
-    /// Makes the table of line i of a side of the puzzle with these cells, if it isn't made.
+    /// Makes the table of line i of a side of the puzzle with these cells, if it isn't made and there is room for
+    /// it. Returns whether there is.
     #[tactic(auto, using(crate::proofs::TableSteps::row_written, crate::proofs::TableSteps::column_written))]
     pub fn write(
         &mut self,
@@ -196,11 +215,13 @@ impl<W: LineSet> LinePairs<W> {
         side: Side,
         i: u16,
         line: &LineOf<W>,
-    )
+    ) -> bool
         requires i { i < count_on side puzzle.now.width puzzle.now.height }
         requires fits { FitsIn W.WIDTH puzzle.now }
         requires tables { AreTablesOf puzzle.now self.old }
-        ensures { AreTablesOf puzzle.now self.new }
+        ensures tables { AreTablesOf puzzle.now self.new }
+        ensures line { IsTrue result → (table_on side i self.new).line ≡ Some line.now }
+        ensures others { (s : SideValue) (k : ℕ) → (s ≡ side → k ≢ i) → table_on s k self.new ≡ table_on s k self.old }
     {
         self.written = true;
         let clue = clue_of_line(puzzle, side, i);
@@ -215,10 +236,49 @@ impl<W: LineSet> LinePairs<W> {
         ensures { IfSome result (λ colours. (p : Nonogram) → AreTablesOf p self.now
             → told_by (length line.now) colours.now.fillable colours.now.blankable ≡ deduced line.now (line_on side p i).clue) }
     {
-        let tables = match side {
+        self.on(side).get(usize::from(i))?.colours_of(line)
+    }
+
+    /// The tables of the lines of a side.
+    fn on(&self, side: Side) -> &[PairTable<W>]
+        ensures { (i : ℕ) → slice_index_or result.now i no_table ≡ table_on side i self.now }
+    {
+        match side {
             Side::Rows => &self.rows,
             Side::Columns => &self.columns,
-        };
-        tables.get(usize::from(i))?.colours_of(line)
+        }
+    }
+
+    /// Whether the table of line i of a side has a cell of it among its neutral ones, filled or blank.
+    pub fn is_neutral(&self, side: Side, i: u16, cell: u16, filled: bool) -> bool
+        requires { cell < W.WIDTH }
+        ensures { IsTrue result → IsNeutralAt self.now side i cell filled }
+    {
+        is_neutral_in(self.on(side), i, cell, filled)
+    }
+
+    /// Those of the changes of line i of a side, some of them `filled`, at which a line that crosses may have more
+    /// to give: not those at a fresh line whose table has the cell among its neutral ones. Lines that change aren't
+    /// fresh any more.
+    // Inlined, it would cost all that closes without fresh lines.
+    #[inline(never)]
+    pub fn open_changes(&self, side: Side, i: u16, filled: W, changes: W, fresh: &mut Marks<W>) -> W
+        requires i { i < W.WIDTH }
+        ensures within { (k : ℕ) → Has (W.number result) k → Has (W.number changes) k }
+        ensures others { (k : ℕ) → Has (W.number changes) k → (Has (W.number result) k → ⊥) →
+            IsMarkedOn fresh.old (crossing side) k × IsNeutralAt self.now (crossing side) k i (has (W.number filled) k) }
+        ensures fresh { StayFresh side i (Has (W.number changes)) fresh.old fresh.new }
+    {
+        let tables = self.on(side.crossing());
+        let mut open = changes;
+        let mut left = changes.intersection(fresh.on(side.crossing()));
+        while !left.is_empty() {
+            let k = left.first_place();
+            left = left.marked(k, false);
+            open = open.marked(k, !is_neutral_in(tables, k, i, filled.contains(k)));
+        }
+        fresh.set(side, i, false);
+        fresh.take(side.crossing(), changes);
+        open
     }
 }

@@ -1,9 +1,9 @@
 //! Marks of lines.
-ghost use Rattle.std.specs.Prelude.{◌≡◌, ◌<◌, ◌≤◌, ◌↔◌, ◌⊎◌, ℕ};
+ghost use Rattle.std.specs.Prelude.{◌≡◌, ◌<◌, ◌≤◌, ◌↔◌, ◌⊎◌, ℕ, IsTrue, false};
 ghost use Rattle.grid_core.specs.declared.sides.Side.{Side as SideValue};
 ghost use Rattle.grid_core.specs.Nonogram.{crossing};
 ghost use Rattle.grid_core.specs.steps.Sides.{count_on};
-ghost use Rattle.place_sets.specs.Masks.{Has, IsFirstFrom, IsMarked, IsMaskOf};
+ghost use Rattle.place_sets.specs.Masks.{Has, has, IsFirstFrom, IsMarked, IsMaskOf};
 ghost use Rattle.solve_core.specs.steps.LineMarks.{marks_on, AreUnmarked, IsMarkedOn};
 
 use grid_core::Side;
@@ -70,14 +70,49 @@ impl<W: LineSet> Marks<W> {
         }
     }
 
+    /// Takes the marks of these lines of a side back.
+    pub fn take(&mut self, side: Side, lines: W)
+        ensures own { IsMaskOf (λ i. Has (marks_on side self.old) i × (has (W.number lines) i ≡ false)) (marks_on side self.new) }
+        ensures other { marks_on (crossing side) self.new ≡ marks_on (crossing side) self.old }
+    {
+        match side {
+            Side::Rows => self.rows = self.rows.difference(lines),
+            Side::Columns => self.columns = self.columns.difference(lines),
+        }
+    }
+
+    /// The same marks, once more.
+    pub fn copy(&self) -> Marks<W>
+        ensures { result ≡ self.now }
+    {
+        Marks {
+            rows: self.rows,
+            columns: self.columns,
+        }
+    }
+
+    /// Whether no line is marked.
+    pub fn is_empty(&self) -> bool
+        ensures { IsTrue result → AreUnmarked self.now }
+    {
+        self.rows.union(self.columns).is_empty()
+    }
+
+    /// The marked lines of a side.
+    pub fn on(&self, side: Side) -> W
+        ensures { W.number result ≡ marks_on side self.now }
+    {
+        match side {
+            Side::Rows => self.rows,
+            Side::Columns => self.columns,
+        }
+    }
+
     /// The first marked line of a side from one on, if there is one.
     pub fn first(&self, side: Side, from: u16) -> Option<u16>
         requires { from ≤ W.WIDTH }
         ensures { IsFirstFrom W.WIDTH (marks_on side self.now) from result }
     {
-        match side {
-            Side::Rows => first_from(self.rows, from),
-            Side::Columns => first_from(self.columns, from),
-        }
+        first_from(self.on(side), from)
     }
 }

@@ -103,6 +103,7 @@ fn explore<W: LineSet>(
     ensures found { length solutions.new.grids ≤ 2 }
     ensures size { IsSizeOf puzzle.now solutions.new.width solutions.new.height }
 {
+    closer.forget_fresh();
     if !closer.assign(puzzle, board, place, colour) {
         return None;
     }

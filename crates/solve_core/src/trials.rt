@@ -7,7 +7,7 @@ ghost use Rattle.grid_core.specs.Lines.{IsUnknownCell, IsUnknownFrom};
 ghost use Rattle.solve_core.specs.Closure.{round, closure};
 ghost use Rattle.line_core.specs.Order.{AtMost};
 ghost use Rattle.solve_core.specs.Trials.{trials, IsTried};
-ghost use Rattle.solve_core.specs.steps.Closers.{IsMemoryOf};
+ghost use Rattle.solve_core.specs.steps.Closers.{AreFresh, IsMemoryOf};
 ghost use Rattle.solve_core.specs.steps.Marks.{Progresses, IsAtRest, IsTrialOf};
 ghost use Rattle.solve_core.specs.Closure.{if_alive};
 ghost use Rattle.solve_core.specs.steps.Trails.{CanSettle, cleared};
@@ -65,6 +65,7 @@ fn try_colour<W: LineSet>(
     colour: Cell,
 ) -> Trial
     requires rest { IsAtRest puzzle.now closer.old board.now.cells }
+    requires fresh { AreFresh puzzle.now closer.old.fresh closer.old.kept.tables board.now.cells }
     requires witnesses { AreWitnesses puzzle.now witnesses.old board.now.cells }
     requires room { witnesses.old.room ≡ puzzle.now.width * puzzle.now.height }
     requires size { IsBoardOf puzzle.now board.now }
@@ -74,6 +75,7 @@ fn try_colour<W: LineSet>(
     ensures witnesses { AreWitnesses puzzle.now witnesses.new board.now.cells }
     ensures room { witnesses.new.room ≡ witnesses.old.room }
     ensures rest { IsAtRest puzzle.now closer.new board.now.cells }
+    ensures fresh { AreFresh puzzle.now closer.new.fresh closer.new.kept.tables board.now.cells }
     ensures closed_rest { result ≡ Closed → IsAtRest puzzle.now closer.new trial.new.cells }
     ensures back { result ≡ Closed → cleared trial.new.cells trial.new.trail ≡ board.now.cells }
     ensures trial { IsBoardOf puzzle.now trial.new }
@@ -277,6 +279,7 @@ impl<W: LineSet> Trials<W> {
             self.witnesses
                 .keep(puzzle, &self.filled_trial, 0, place, Cell::Filled);
             mem::swap(board, &mut self.filled_trial);
+            self.closer.forget_fresh();
             return Progress::Changed;
         }
         self.keep_colour(puzzle, board, place, Cell::Filled)
@@ -345,6 +348,7 @@ impl<W: LineSet> Trials<W> {
         ensures room { HasRoomFor puzzle.now self.new }
     {
         self.witnesses.forget();
+        self.closer.forget_fresh();
         let alive = self.try_until_same(puzzle, board);
         self.closer.forget_tables();
         alive

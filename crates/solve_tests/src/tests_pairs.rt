@@ -105,6 +105,16 @@ fn tables_tell_nothing_of_other_lines(rt: HostRuntime) -> Result<(), Fail> {
 }
 
 #[test]
+fn tables_know_their_line_and_its_neutral_cells(rt: HostRuntime) -> Result<(), Fail> {
+    let table = table_of_five::<u64>(rt.alloc())?;
+    assert!(rt; table.is_of(&LineOf::unknown(5)), "its line");
+    assert!(rt; !table.is_of(&LineOf::unknown(4)), "another line");
+    assert!(rt; table.neutral_cells(true) == 0b00010, "filled");
+    assert!(rt; table.neutral_cells(false) == 0, "blank");
+    Ok(())
+}
+
+#[test]
 fn lines_of_more_than_128_cells_have_no_table(rt: HostRuntime) -> Result<(), Fail> {
     let alloc = rt.alloc();
     let mut tables = Tables::new(alloc, 256)?;

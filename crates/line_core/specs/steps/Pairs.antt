@@ -1,11 +1,16 @@
 -- What the masks of a table of pairs mean.
-use Rattle.std.specs.Prelude.{◌≡◌, ℕ, ◌+◌, ◌*◌, ◌<◌, ◌≤◌, Bool, true, false, List, length, slice_index_or}
+use Rattle.std.specs.Prelude.{◌≡◌, ℕ, ◌+◌, ◌*◌, ◌<◌, ◌≤◌, Bool, true, false, ◌||◌, List, length, slice_index_or}
 use Rattle.grid_core.specs.declared.cells.Cell.{Cell}
 use Rattle.grid_core.specs.declared.cells.Cell.TheVariants.{Unknown}
 use Rattle.grid_core.specs.Cells.{colour}
-use Rattle.place_sets.specs.Masks.{IsMaskOf}
+use Rattle.place_sets.specs.Masks.{Has, has, IsMaskOf}
 use Rattle.line_core.specs.Pairs.{ColourMasks, PairMasks, no_colours, no_pair, coloured}
 use Rattle.line_core.specs.steps.Reach.{behind, MayBe, IsGapAfter, IsGap, IsGapAhead, IsWholeEnd, IsFillable, IsBlankable}
+
+-- the first cell can have a colour, and each of some cells can have both
+pub record LeaveOpen (masks : ColourMasks) (cells : ℕ) : Type 0 where
+  pub alive : (has masks.fillable 0 || has masks.blankable 0) ≡ true
+  pub both : (i : ℕ) → Has cells i → Has masks.fillable i × Has masks.blankable i
 
 -- the masks of what can be on a line
 pub record AreColours (line : List Cell) (clue : List ℕ) (masks : ColourMasks) : Type 0 where

@@ -1,5 +1,5 @@
 -- Deductions of a puzzle's lines that are remembered.
-use Rattle.std.specs.Prelude.{◌≡◌, ◌⊎◌, ℕ, ◌*◌, ◌≤◌, List, Option, Some, All, slice_set}
+use Rattle.std.specs.Prelude.{◌≡◌, ◌⊎◌, ℕ, ◌*◌, ◌≤◌, List, Option, All}
 use Rattle.std.specs.List.{Contains}
 use Rattle.grid_core.specs.declared.cells.Cell.{Cell}
 use Rattle.grid_core.specs.declared.sides.Side.{Side}
@@ -41,7 +41,3 @@ pub record HasRoom (room slots_room kept_room : ℕ) : Type 0 where
   pub few : room ≤ MOST_REMEMBERED
   pub slots_fit : room ≤ 64 * slots_room
   pub kept_fit : room ≤ kept_room
-
--- nothing else is certain of a line once a cell has a colour
-pub record IsNeutral (clue : List ℕ) (line : List Cell) (cell : ℕ) (colour : Cell) : Type 0 where
-  pub nothing_else : deduced (slice_set line cell colour) clue ≡ Some (slice_set line cell colour)

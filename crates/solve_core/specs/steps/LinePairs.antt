@@ -3,7 +3,8 @@ use Rattle.std.specs.Prelude.{◌≡◌, ℕ, Bool, false, List, None, slice_ind
 use Rattle.grid_core.specs.declared.sides.Side.{Side}
 use Rattle.grid_core.specs.declared.sides.Side.TheVariants.{Rows, Columns}
 use Rattle.grid_core.specs.Nonogram.{Nonogram, line_on}
-use Rattle.line_core.specs.Pairs.{Table, IsTableOf, no_table}
+use Rattle.line_core.specs.Pairs.{Table, IsTableOf, neutral_if, no_table}
+use Rattle.place_sets.specs.Masks.{Has}
 
 -- a table for each row, and one for each column
 pub record LineTables : Type 0 where
@@ -18,6 +19,10 @@ table_on Columns i tables = slice_index_or tables.columns i no_table
 -- each is one of the puzzle's line
 pub record AreTablesOf (p : Nonogram) (tables : LineTables) : Type 0 where
   pub each : (side : Side) (i : ℕ) → IsTableOf (line_on side p i).clue (table_on side i tables)
+
+-- the table of line i of a side has a cell of it among its neutral ones, filled or blank
+abbrev pub IsNeutralAt : LineTables → Side → ℕ → ℕ → Bool → Type 0
+IsNeutralAt tables side i cell filled = Has (neutral_if filled (table_on side i tables)) cell
 
 -- none of some tables has a line
 pub record AreEmpty (tables : List Table) : Type 0 where

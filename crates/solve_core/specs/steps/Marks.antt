@@ -10,7 +10,7 @@ use Rattle.solve_core.specs.Closure.{with_cells, closure}
 use Rattle.solve_core.specs.steps.LineMarks.{LineMarks, marks_on, IsMarkedOn, AreMarksWithin}
 use Rattle.solve_core.specs.steps.Trails.{unknown_count}
 use Rattle.solve_core.specs.Trials.{is_refuted}
-use Rattle.solve_core.specs.steps.Closers.{Closing, IsIdle, IsMemoryOf}
+use Rattle.solve_core.specs.steps.Closers.{AreFresh, Closing, IsIdle, IsMemoryOf}
 use Rattle.solve_core.specs.declared.trials.Trial.{Trial}
 use Rattle.solve_core.specs.declared.trials.Trial.TheVariants.{Refuted, Open, Closed}
 use Rattle.solve_core.specs.declared.closures.Progress.{Progress}
@@ -34,14 +34,16 @@ IsLearned Same line old new = (new ≡ old) × IsDeduced old line
 IsLearned Changed line old new = IsWritten line old new × (unknown_count new < unknown_count old)
 
 -- line i of a side got new cells. The marks of that side stayed, no mark of a crossing line was taken away,
--- only lines that cross it were marked, and each of them was marked if the cell there changed
-pub record MarksChanges (side : Side) (i width height : ℕ) (old new : List Cell) (before after : LineMarks) : Type 0 where
+-- only lines that cross it were marked, and each of them was marked if the cell there changed, unless it knows all
+-- that is certain of it
+pub record MarksChanges (p : Nonogram) (side : Side) (i : ℕ) (old new : List Cell) (before after : LineMarks) : Type 0 where
   pub own : marks_on side after ≡ marks_on side before
   pub kept : (k : ℕ) → IsMarkedOn before (crossing side) k → IsMarkedOn after (crossing side) k
   pub crossing_it : (k : ℕ) → IsMarkedOn after (crossing side) k → IsMarkedOn before (crossing side) k ⊎
-      (k < count_on (crossing side) width height)
-  pub same : (k : ℕ) → k < count_on (crossing side) width height → (IsMarkedOn after (crossing side) k → ⊥)
-      → slice_index_or new (place_on side width i k) Unknown ≡ slice_index_or old (place_on side width i k) Unknown
+      (k < count_on (crossing side) p.width p.height)
+  pub same : (k : ℕ) → k < count_on (crossing side) p.width p.height → (IsMarkedOn after (crossing side) k → ⊥)
+      → (slice_index_or new (place_on side p.width i k) Unknown ≡ slice_index_or old (place_on side p.width i k) Unknown)
+      ⊎ IsDeduced new (line_on (crossing side) p k)
 
 -- each line that may have more to give is marked, and only lines of the puzzle are
 pub record HasMarks (p : Nonogram) (marks : LineMarks) (cells : List Cell) : Type 0 where
@@ -57,15 +59,17 @@ MarksAfter Dead p marks cells = Unit {0}
 MarksAfter Same p marks cells = HasMarks p marks cells
 MarksAfter Changed p marks cells = HasMarks p marks cells
 
--- what closing some cells starts from: room and right memory, and a mark at each line that may have more to
--- give
+-- what closing some cells starts from: room and right memory, tables of fresh lines, and a mark at each line that
+-- may have more to give
 pub record HasWork (p : Nonogram) (c : Closing) (cells : List Cell) : Type 0 where
   pub marks : HasMarks p c.marks cells
+  pub fresh : AreFresh p c.fresh c.kept.tables cells
   pub memory : IsMemoryOf p c
 
--- what a step leaves: the same, unless the cells are dead, and then room and right memory alone
+-- what a step leaves: the same, but no marks if the cells are dead
 pub record LeavesWork (r : Progress) (p : Nonogram) (c : Closing) (cells : List Cell) : Type 0 where
   pub marks : MarksAfter r p c.marks cells
+  pub fresh : AreFresh p c.fresh c.kept.tables cells
   pub memory : IsMemoryOf p c
 
 -- a step towards f of the cells: they are dead, the same, or fewer are unknown, and f of them is the same

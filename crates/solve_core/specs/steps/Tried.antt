@@ -4,7 +4,7 @@ use Rattle.grid_core.specs.declared.cells.Cell.{Cell}
 use Rattle.grid_core.specs.Nonogram.{Nonogram}
 use Rattle.solve_core.specs.steps.Boards.{BoardSpace, HasBoardRoom, IsBoardOf}
 use Rattle.solve_core.specs.steps.Marks.{IsAtRest}
-use Rattle.solve_core.specs.steps.Closers.{Closing, IsMemoryOf}
+use Rattle.solve_core.specs.steps.Closers.{AreFresh, Closing, IsMemoryOf}
 use Rattle.solve_core.specs.steps.Trails.{TrailedGrid}
 use Rattle.solve_core.specs.steps.WitnessLists.{WitnessLists}
 use Rattle.solve_core.specs.steps.Witnesses.{AreWitnesses}
@@ -29,7 +29,9 @@ pub record HasTrialRoom (p : Nonogram) (filled blank : BoardSpace) (cells : ℕ)
   pub blank_fits : HasBoardRoom p.width p.height blank
   pub cells_fit : cells ≡ p.width * p.height
 
--- no line has more to give, and the witnesses are alive: what a trial of these cells starts from
+-- no line has more to give, fresh lines have tables of their cells, and the witnesses are alive: what a trial of these
+-- cells starts from
 pub record IsReady (p : Nonogram) (t : Tried) (cells : List Cell) : Type 0 where
   pub rest : IsAtRest p t.closer cells
+  pub fresh : AreFresh p t.closer.fresh t.closer.kept.tables cells
   pub witnesses : AreWitnesses p t.witnesses cells

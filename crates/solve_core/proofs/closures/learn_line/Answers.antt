@@ -1,7 +1,8 @@
 -- `learn_line`: what is certain of a line is written, and the lines that cross where it changes are marked.
-use Rattle.solve_core.proofs.Names.{true≢false, ◌≡◌, ◌∙◌, ◌*◌, ◌<◌, ◌⊎◌, inl, inr, ℕ, sym, arith, ap, subst, length, get_or, refl, List, Cell, Unknown, Side, Nonogram, cells_at, crossing, line_on, count_on, place_on, IsSize, Has, IsMaskOf, deduced, IsChanged, same_cells, same_without_change, length-cells_at, get_or-cells_at, length-places_on, get_or-places_on, deduced-above, length-deduced, marks_on, IsWritten, rules}
+use Rattle.solve_core.proofs.Names.{AreFresh, bit_at, cases_eq, is_filled, true≢false, ◌≡◌, ◌∙◌, ◌*◌, ◌<◌, ◌⊎◌, inl, inr, ℕ, sym, arith, ap, subst, length, get_or, refl, List, Cell, Unknown, Side, Nonogram, cells_at, crossing, line_on, count_on, place_on, IsSize, Has, IsMaskOf, deduced, IsChanged, same_cells, same_without_change, length-cells_at, get_or-cells_at, length-places_on, get_or-places_on, deduced-above, length-deduced, marks_on, IsWritten, rules}
 use Rattle.solve_core.proofs.ClosureLaws.{length-with_cells}
 use Rattle.solve_core.proofs.GridSteps.{seen}
+use Rattle.solve_core.proofs.LearnedLines.{Learns, change_in, neutral_settled, stay_fresh}
 use Rattle.solve_core.proofs.LineSteps.{written-fewer, written-read}
 use Rattle.solve_core.proofs.SideLines.{below_places, crossing_twice, distinct_places}
 use Rattle.solve_core.proofs.closures.learn_line.Goals as goal
@@ -37,6 +38,9 @@ unchanged p old new certain side i k m positive l size w e changes lk n =
     (λ d. n (changes.from k (omega (arith, here, length-cells_at Unknown old places), d))) ∙
     get_or-cells_at Unknown old places k here ∙ ap (λ (q : ℕ). get_or old q Unknown) at
 
+pub open_changes-open-requires-clause-changes : goal.open_changes-open-requires-clause-changes
+open_changes-open-requires-clause-changes g c = λ k h. search (rules, (c.changes-changes.ensures.changes.to k h).0, length-deduced)
+
 pub returns : goal.returns
 returns g c =
     let p = c.args.puzzle.now in
@@ -45,24 +49,33 @@ returns g c =
     let i = c.args.i in
     let line = line_on side p i in
     let m = g.W.PlaceSet.number c.changes-changes.result in
+    let certain = c.in-Some.new in
     let new = (g.B.Learner.board c.learn.new.self).cells in
     let before = c.args.marks.now in
     let after = c.add.new.self in
+    let tables = c.deduce.new.self.tables in
     let read = c.line-old.ensures.cells ∙ seen p b side i c.requires.board in
+    let told = sym c.deduce.ensures.answer ∙ c.in-Some.is in
     let w : IsWritten line b.cells new = record {
-      certain = c.in-Some.new;
-      is_certain = ap (λ (r : List Cell). deduced r line.clue) (sym read) ∙ sym c.deduce.ensures.answer ∙ c.in-Some.is;
+      certain = certain;
+      is_certain = ap (λ (r : List Cell). deduced r line.clue) (sym read) ∙ told;
       written = search (rules);
     } in
     let size : IsSize p.width p.height = rw (← c.requires.board.0, ← c.requires.board.1) c.line-old.ensures.whole.0 in
-    let same = same_without_change c.line-old.result.now c.in-Some.new m
-    (length-deduced c.line-old.result.now c.in-Some.new line.clue (sym c.in-Some.is ∙ c.deduce.ensures.answer))
-    c.changes-changes.ensures.changes in
-    let added = subst (λ (s : Side). IsMaskOf (λ k. Has (marks_on s before) k ⊎ Has m k) (marks_on s after)) c.crossing.ensures
+    let same = same_without_change c.line-old.result.now certain m
+    (length-deduced c.line-old.result.now certain line.clue (sym c.in-Some.is ∙ c.deduce.ensures.answer)) c.changes-changes.ensures.changes in
+    let left = c.open_changes-open.ensures in
+    let marked = g.W.PlaceSet.number c.open_changes-open.result in
+    let added = subst (λ (s : Side). IsMaskOf (λ k. Has (marks_on s before) k ⊎ Has marked k) (marks_on s after)) c.crossing.ensures
     c.add.ensures.own in
-    let changes = subst (λ (r : List Cell). IsMaskOf (IsChanged r c.in-Some.new) m) read c.changes-changes.ensures.changes in
-    let within : (k : ℕ) → Has m k → k < count_on (crossing side) p.width p.height = λ k h.
-    omega (arith, (changes.to k h).0, length-cells_at Unknown b.cells line.places, length-places_on side p.width p.height i) in
+    let is : Learns side p.width p.height i m b.cells certain = record {
+      some = omega (arith, size.width_from);
+      line = c.requires.i;
+      count = c.requires.board.2;
+      more = rw w.is_certain at (deduced-above (cells_at Unknown b.cells line.places) line.clue);
+      changes = subst (λ (r : List Cell). IsMaskOf (IsChanged r certain) m) read c.changes-changes.ensures.changes;
+    } in
+    let fresh : AreFresh p c.args.fresh.now tables b.cells = rw c.deduce.ensures.tables c.requires.fresh in
     record {
       learned = (
         w,
@@ -73,12 +86,21 @@ returns g c =
       marks = record {
         own = search (rules, crossing_twice);
         kept = λ k h. added.from k (inl h);
-        crossing_it = λ k h. elim (added.to k h) [ inl old ↦ inl old | inr cell ↦ inr (within k cell) ];
-        same = λ k l n. unchanged p b.cells new c.in-Some.new side i k m (omega (arith, size.width_from)) c.requires.i c.requires.board.2
-            w refl changes l (λ h. n (added.from k (inr h)));
+        crossing_it = λ k h. elim (added.to k h) [ inl old ↦ inl old | inr cell ↦ inr (change_in _ _ _ _ _ _ _ is k (left.within k cell)) ];
+        same = λ k l n. elim (cases_eq (bit_at m k) 1) [
+          | inl has ↦
+              let none = left.others k has (λ h. n (added.from k (inr h))) in
+              let table = c.deduce.ensures.memory.tables_are.each (crossing side) k in
+              inr (rw w.written (neutral_settled _ _ _ _ _ _ _ is _ k _ has (table.neutral _ (is_filled (get_or certain k Unknown))
+              (fresh.table_is (crossing side) k none.0)) none.1))
+          | inr none ↦ inl (unchanged p b.cells new certain side i k m (omega (arith, size.width_from)) c.requires.i c.requires.board.2
+              w refl is.changes l none)
+        ];
       };
       same = search rules;
       trail = search rules;
       size = search (rules, length-with_cells);
       memory = search rules;
+      fresh = rw w.written (stay_fresh _ _ _ _ _ _ _ is p _ _ tables refl refl fresh left.fresh);
+      tables = c.deduce.ensures.tables;
     }

@@ -9,6 +9,7 @@ invariant-loop-self g l =
       work : HasWork l.puzzle l.self (board l.board).cells;
       trail : g.B.Learner.KEEPS ≡ true → IsTrailed (board l.fn.board) (board l.board);
       size : IsBoardOf l.puzzle (board l.board);
+      tables : l.self.kept.tables ≡ l.fn.self.kept.tables;
       closed : closure (lines_of l.puzzle) (board l.board).cells ≡ closure (lines_of l.puzzle) (board l.fn.board).cells;
     }
 

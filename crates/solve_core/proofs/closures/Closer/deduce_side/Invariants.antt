@@ -9,6 +9,7 @@ invariant-loop-i g l =
       work : HasWork l.puzzle l.self (board l.board).cells;
       trail : g.B.Learner.KEEPS ≡ true → IsTrailed (board l.fn.board) (board l.board);
       size : IsBoardOf l.puzzle (board l.board);
+      tables : l.self.kept.tables ≡ l.fn.self.kept.tables;
       progress : Progresses (closure (lines_of l.puzzle)) l.progress (board l.fn.board).cells (board l.board).cells;
       alive : l.progress ≢ Dead;
       same : l.progress ≡ Same → marks_on (crossing l.side) l.self.marks ≡ marks_on (crossing l.side) l.fn.self.marks;

@@ -6,6 +6,8 @@ returns g c = record {
   memory = record {
     fits = c.requires.memory.fits;
     right = rw (← c.self.view_is) at c.requires.memory.right;
-    tables_are = c.write.ensures;
+    tables_are = c.write.ensures.tables;
   };
+  line = c.write.ensures.line;
+  others = rw (← c.self.view_is) c.write.ensures.others;
 }

@@ -1,6 +1,6 @@
 -- `LinePairs::write`: the table of the line is written, the others stay.
-use Rattle.solve_core.proofs.Names.{cases_eq, with_items_is, arith, cases_lt, get_or-eq_default}
-use Rattle.solve_core.specs.steps.LinePairs.{table_on}
+use Rattle.solve_core.proofs.Names.{with_items_is, arith, cases_lt, get_or-eq_default, refl, ◌∙◌}
+use Rattle.solve_core.proofs.TableSteps.{column_others, column_written, row_others, row_written}
 use Rattle.solve_core.proofs.line_pairs.LinePairs.write.Goals as goal
 
 pub write_at-requires-clause-clue : goal.write_at-requires-clause-clue
@@ -10,7 +10,25 @@ pub write_at-requires-in-Columns-clause-clue : goal.write_at-requires-in-Columns
 write_at-requires-in-Columns-clause-clue g c = grind (arith, cases_lt, get_or-eq_default)
 
 pub returns-in-Rows : goal.returns-in-Rows
-returns-in-Rows g c = grind (arith, with_items_is, cases_eq, table_on)
+returns-in-Rows g c =
+    let wrote = c.write_at.ensures in
+    let others = rw c.deref_mut.ensures.value at wrote.others in
+    let table = rw (rw c.in-Rows.is at c.clue_of_line-clue.ensures) at wrote.table in
+    let items = with_items_is c.self.inside.rows c.write_at.new.tables (wrote.count ∙ c.deref_mut.ensures.len) in
+    rw (items, ← c.self.view_is, c.in-Rows.is) (record {
+      tables = row_written c.args.puzzle.now _ _ c.args.i (rw (← c.self.view_is) at c.requires.tables) table others refl;
+      line = wrote.line;
+      others = row_others _ _ c.args.i others refl;
+    })
 
 pub returns-in-Columns : goal.returns-in-Columns
-returns-in-Columns g c = grind (arith, with_items_is, cases_eq, table_on)
+returns-in-Columns g c =
+    let wrote = c.write_at-in-Columns.ensures in
+    let others = rw c.deref_mut-in-Columns.ensures.value at wrote.others in
+    let table = rw (rw c.in-Columns.is at c.clue_of_line-clue.ensures) at wrote.table in
+    let items = with_items_is c.self.inside.columns c.write_at-in-Columns.new.tables (wrote.count ∙ c.deref_mut-in-Columns.ensures.len) in
+    rw (items, ← c.self.view_is, c.in-Columns.is) (record {
+      tables = column_written c.args.puzzle.now _ _ c.args.i (rw (← c.self.view_is) at c.requires.tables) table others refl;
+      line = wrote.line;
+      others = column_others _ _ c.args.i others refl;
+    })

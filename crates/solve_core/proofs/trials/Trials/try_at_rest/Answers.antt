@@ -7,7 +7,8 @@ try_until_same-alive-requires-clause-ready g c =
     let p = c.args.puzzle.now in
     let cells = c.args.board.now.cells in
     record {
-      rest = subst (λ (t : Tried). IsAtRest p t.closer cells) (sym c.self.view_is) c.requires.rest;
+      rest = c.forget_fresh.ensures.rest p cells (subst (λ (t : Tried). IsAtRest p t.closer cells) (sym c.self.view_is) c.requires.rest);
+      fresh = c.forget_fresh.ensures.fresh p cells;
       witnesses = c.forget.ensures.witnesses p cells (c.requires.size.2 ∙ sym c.requires.room.cells ∙
           ap (λ (t : Tried). t.witnesses.room) (sym c.self.view_is));
     }

@@ -1,0 +1,14 @@
+-- What the loop of `neutral_cells` keeps: those that are left are unknown, those that were found are neutral.
+use Rattle.line_core.proofs.Names.{ℕ, List, Has}
+use Rattle.grid_core.specs.Lines.{IsUnknownCell}
+use Rattle.line_core.specs.Pairs.{AreNeutral, TellOf}
+use Rattle.line_core.proofs.pair_tables.neutral_cells.Given as goal
+
+abbrev pub invariant-loop-unknown : goal.invariant-loop-unknown
+invariant-loop-unknown g l = record {
+  left : (i : ℕ) → Has (g.W.PlaceSet.number l.left) i → IsUnknownCell l.line i;
+  found : (clue : List ℕ) → TellOf clue l.line l.pairs → AreNeutral clue l.line l.filled (g.W.PlaceSet.number l.neutral);
+}
+
+abbrev pub decreases-loop-unknown : goal.decreases-loop-unknown
+decreases-loop-unknown g l = g.W.PlaceSet.number l.left

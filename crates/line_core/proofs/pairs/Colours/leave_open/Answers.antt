@@ -1,0 +1,17 @@
+-- `Colours::leave_open`: no cell lacks a colour.
+use Rattle.line_core.proofs.Names.{has, inl, inr, subst, sym, ◌∙◌, cases_Bool, eqb-true, none_has, true_has}
+use Rattle.line_core.proofs.Telling.{either_first}
+use Rattle.line_core.specs.Pairs.{ColourMasks}
+use Rattle.line_core.specs.steps.Pairs.{LeaveOpen}
+use Rattle.line_core.proofs.pairs.Colours.leave_open.Goals as goal
+
+pub returns-then-contains : goal.returns-then-contains
+returns-then-contains g c = λ empty.
+    let cells = g.W.PlaceSet.number c.args.cells in
+    subst (λ (masks : ColourMasks). LeaveOpen masks cells) c.self.view_is (record {
+      alive = either_first _ _ _ c.union.ensures ∙ sym c.contains.ensures ∙ c.if-contains.true;
+      both = λ i h. elim (cases_Bool (has (g.W.PlaceSet.number c.intersection-both.result) i)) [
+        | inl in_both ↦ c.intersection-both.ensures.to i (true_has _ i in_both)
+        | inr lacking ↦ absurd (none_has _ i (eqb-true _ 0 (sym c.is_empty.ensures ∙ empty)) (c.difference.ensures.from i (h, lacking)))
+      ];
+    })
