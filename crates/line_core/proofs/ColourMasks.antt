@@ -1,5 +1,5 @@
 -- Masks of both colours: what they have, and what they have once others are added.
-use Rattle.line_core.proofs.Names.{eqb-true, rules, ◌≡◌, ◌↔◌, ℕ, ◌+◌, ◌-◌, ◌<◌, Bool, true, false, List, length, get_or, sym, subst, arith, ◌⊎◌, inl, inr, cases_lt, Has, IsMaskOf, has_of, join_of, none_has, nat_eq, get_or_read, cases_eq, IsMarked, ColourMasks, no_colours, AreBothSides, AreMasks, AreMore, HasColour}
+use Rattle.line_core.proofs.Names.{eqb-true, rules, ◌≡◌, ◌↔◌, ℕ, ◌+◌, ◌<◌, Bool, true, false, List, length, get_or, sym, arith, ◌⊎◌, inl, inr, cases_lt, Has, IsMaskOf, none_has, nat_eq, get_or_read, cases_eq, IsMarked, ColourMasks, no_colours, AreMasks, AreMore, HasColour}
 
 -- what the masks have, colour by colour
 pub masks_are : (P : Bool → ℕ → Type 0) (m : ColourMasks) → AreMasks P m → (d : Bool) (k : ℕ) → HasColour m d k ↔ P d k
@@ -28,30 +28,10 @@ none_more P m none = masks_of _ m (λ d k. search (rules, none d k))
 pub more_more : (P Q : Bool → ℕ → Type 0) (old mid new : ColourMasks) → AreMore P old mid → AreMore Q mid new → AreMore (λ d k. P d k ⊎ Q d k) old new
 more_more P Q old mid new a b = masks_same _ _ new b (λ d k. search (rules, masks_are _ mid a d k))
 
--- what the colours of a table tell at each of some places is added
-pub each_more : (places : ℕ) (table : List ColourMasks) (index : ℕ → ℕ) (P : ℕ → Bool → ℕ → Type 0) (old new : ColourMasks)
-    → ((i : ℕ) → Has places i → (d : Bool) (k : ℕ) → HasColour (get_or table (index i) no_colours) d k ↔ P i d k)
-    → AreMore (λ d k. (i : ℕ) × Has places i × HasColour (get_or table (index i) no_colours) d k) old new
-    → AreMore (λ d k. (i : ℕ) × Has places i × P i d k) old new
-each_more places table index P old new told more = more_same _ _ old new more
-    (λ d k. (λ (i, here, h). (i, here, (told i here d k).0 h), λ (i, here, h). (i, here, (told i here d k).1 h)))
-
 -- the colours that are read from a table are those at a place of it
-pub read_more : (table : List ColourMasks) (i p : ℕ) (read old new : ColourMasks) → i ≡ p → i < length table → read ≡ get_or table i read
-    → AreMore (HasColour read) old new → AreMore (HasColour (get_or table p no_colours)) old new
-read_more table i p read old new same there is more =
-    let e : read ≡ get_or table p no_colours = rw same at (get_or_read table i read there is no_colours) in
-    subst (λ (m : ColourMasks). AreMore (HasColour m) old new) e more
-
--- the cells of some, and those of others seen from the other end of a line
-pub both_are : (len : ℕ) (near_view near far_view far : ColourMasks) (turned_filled turned_blank filled blank : ℕ)
-    → near_view ≡ near → far_view ≡ far → IsMaskOf (λ i. (i < len) × Has far_view.fillable (len - 1 - i)) turned_filled
-    → IsMaskOf (λ i. Has near_view.fillable i ⊎ Has turned_filled i) filled
-    → IsMaskOf (λ i. (i < len) × Has far_view.blankable (len - 1 - i)) turned_blank
-    → IsMaskOf (λ i. Has near_view.blankable i ⊎ Has turned_blank i) blank
-    → AreBothSides len near far (record { fillable = filled; blankable = blank })
-both_are len near_view near far_view far turned_filled turned_blank filled blank e f a b c d =
-    rw (sym e, sym f) (record { fillable_is = join_of _ _ _ _ _ (has_of _) a b; blankable_is = join_of _ _ _ _ _ (has_of _) c d })
+pub read_at : (table : List ColourMasks) (i p : ℕ) (read : ColourMasks) → i ≡ p → i < length table → read ≡ get_or table i read
+    → read ≡ get_or table p no_colours
+read_at table i p read same there is = rw same at (get_or_read table i read there is no_colours)
 
 -- ---- one more number
 
@@ -80,6 +60,9 @@ pub record AreAdded (places left : ℕ) (P : ℕ → Bool → ℕ → Type 0) (o
   pub to : (d : Bool) (k : ℕ) → HasColour new d k → HasColour old d k ⊎ ((i : ℕ) × Has places i × P i d k)
   pub kept : (d : Bool) (k : ℕ) → HasColour old d k → HasColour new d k
   pub added : (i : ℕ) (d : Bool) (k : ℕ) → Has places i → P i d k → Has left i ⊎ HasColour new d k
+
+pub added_none : (places : ℕ) (P : ℕ → Bool → ℕ → Type 0) (old : ColourMasks) → AreAdded places places P old old
+added_none places P old = record { within = λ i h. h; to = λ d k h. inl h; kept = λ d k h. h; added = λ i d k h x. inl h }
 
 pub added_more : (places left next p : ℕ) (P : ℕ → Bool → ℕ → Type 0) (old sum new : ColourMasks) → AreAdded places left P old sum → Has left p
     → IsMaskOf (IsMarked (Has left) p false) next → AreMore (P p) sum new → AreAdded places next P old new

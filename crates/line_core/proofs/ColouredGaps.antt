@@ -1,5 +1,5 @@
 -- What can be on a line before a gap, once one of its cells is coloured: step by step along the line.
-use Rattle.line_core.proofs.Names.{◌↔◌, HasColour, AreColoursBefore, rules, ◌≡◌, ◌≢◌, ℕ, zero, suc, ◌+◌, ◌-◌, ◌<◌, ◌≤◌, Bool, true, false, List, [], ◌∷◌, length, refl, sym, ap, ◌∙◌, arith, add-one, ◌⊎◌, inl, inr, get_or, drop, cases_lt, and_from, and_parts, Cell, Unknown, allows, agrees, behind, MayBe, IsGapAfter, IsEndAfter, IsGap, IsGapAhead, IsWholeEnd, IsFlooded, AllFrom, Has, IsMaskOf, mask_same, length-set, get_or-set_other, get_or-set_same, replicate, ◌++◌, drop-cons, cases_eq, colour, ColourMasks, no_colours, coloured, CanBeBefore, IsWholeGap, IsReady}
+use Rattle.line_core.proofs.Names.{◌↔◌, HasColour, AreColoursBefore, rules, ◌≡◌, ◌≢◌, ℕ, zero, suc, ◌+◌, ◌-◌, ◌<◌, ◌≤◌, Bool, true, false, List, [], ◌∷◌, length, refl, sym, ap, ◌∙◌, arith, add-one, ◌⊎◌, inl, inr, get_or, drop, cases_lt, and_from, and_parts, Cell, Unknown, allows, agrees, behind, MayBe, IsGapAfter, IsEndAfter, IsGap, IsGapAhead, IsWholeEnd, IsFlooded, AllFrom, Has, IsMaskOf, mask_same, length-set, get_or-set_other, get_or-set_same, replicate, ◌++◌, drop-cons, cases_eq, colour, ColourMasks, no_colours, coloured, CanBeBefore, CanBeSeen, CanBeUpTo, IsWholeGap, IsReady, seen}
 use Rattle.line_core.proofs.Joining.{closed_behind_to, closed_behind_from, closed_ahead_from, agrees_span, runs_first}
 use Rattle.line_core.proofs.Reaching.{gap_after_to, gap_after_from, first_gap_to, first_gap_from}
 
@@ -60,11 +60,8 @@ gap_step_from l rs n (suc i) some m h x = search (rules, gap_after_to l rs n (su
 gap_step_from l rs n zero some m h x = absurd (omega arith)
 
 -- the same of a run's end on a coloured line: the colour is in the run, or before the gap before it
-abbrev pub EndWith : List Cell → List ℕ → ℕ → Bool → ℕ → ℕ → Type 0
-EndWith l rs n v e k = ((v ≡ true) × (e + 1 - n ≤ k) × (k ≤ e)) ⊎ ((n ≤ e) × CanBeBefore l rs (e - n) v k)
-
 pub end_step_to : (l : List Cell) (rs : List ℕ) (n e k : ℕ) (v : Bool) → 0 < n → MayBe l v k → k ≤ e → IsEndAfter (coloured l k v) rs n e
-    → EndWith l rs n v e k
+    → CanBeUpTo l rs n v e k
 end_step_to l rs n e k v some here le x =
     let first = (x.1.1 0 some).0 in
     elim (cases_lt k (e + 1 - n)) [
@@ -76,7 +73,7 @@ end_step_to l rs n e k v some here le x =
           inl (coloured_one l k v true here.0 (rw at at (x.1.1 (k - (e + 1 - n)) (omega arith))), high, le))
     ]
 
-pub end_step_from : (l : List Cell) (rs : List ℕ) (n e k : ℕ) (v : Bool) → IsEndAfter l rs n e → EndWith l rs n v e k
+pub end_step_from : (l : List Cell) (rs : List ℕ) (n e k : ℕ) (v : Bool) → IsEndAfter l rs n e → CanBeUpTo l rs n v e k
     → MayBe l v k × (k ≤ e) × IsEndAfter (coloured l k v) rs n e
 end_step_from l rs n e k v x (inl (true_is, from, to)) =
     let at : e + 1 - n + (k - (e + 1 - n)) ≡ k = omega (arith, x.0) in
@@ -93,7 +90,7 @@ end_step_from l rs n e k v x (inr (enough, (low, may, gap))) =
 -- or at the end of the run before, if that is an end of it
 abbrev pub Step : List Cell → List ℕ → ℕ → ℕ → Bool → ℕ → Type 0
 Step l rs n i v k = ((k ≡ i) × (v ≡ false)) ⊎ ((1 ≤ i) × (CanBeBefore l (n ∷ rs) (i - 1) v k
-    ⊎ (IsEndAfter l rs n (i - 1) × EndWith l rs n v (i - 1) k)))
+    ⊎ (IsEndAfter l rs n (i - 1) × CanBeUpTo l rs n v (i - 1) k)))
 
 pub before_to : (l : List Cell) (rs : List ℕ) (n i : ℕ) (v : Bool) (k : ℕ) → 0 < n → CanBeBefore l (n ∷ rs) i v k → Step l rs n i v k
 before_to l rs n i v k some h = elim (cases_eq k i) [
@@ -169,45 +166,57 @@ whole_before_end l clue j e jl some far w =
 
 -- ---- masks of what can be before a gap, from those further back
 
-pub before_are : (l : List Cell) (rs : List ℕ) (i : ℕ) (m : ColourMasks) → AreColoursBefore l rs i m → (v : Bool) (k : ℕ)
-    → HasColour m v k ↔ CanBeBefore l rs i v k
+pub before_are : {t : Bool} (l : List Cell) (rs : List ℕ) (i : ℕ) (m : ColourMasks) → AreColoursBefore t l rs i m → (v : Bool) (k : ℕ)
+    → HasColour m v k ↔ CanBeSeen t l rs i v k
 before_are l rs i m a true k = (a.fillable_is.to k, a.fillable_is.from k)
 before_are l rs i m a false k = (a.blankable_is.to k, a.blankable_is.from k)
 
--- as a step has it, from the masks at the gaps further back
-abbrev Told : ℕ → ℕ → ℕ → ℕ → List ColourMasks → List ColourMasks → Bool → ℕ → Type 0
-Told n i longer ended before row v k =
-    ((k ≡ i) × (v ≡ false)) ⊎ ((Has longer i × HasColour (get_or row (i - 1) no_colours) v k)
-    ⊎ (Has ended i × (((v ≡ true) × (i - n ≤ k) × (k < i)) ⊎ ((n < i) × HasColour (get_or before (i - n - 1) no_colours) v k))))
+-- a cell of the line is seen among some
+abbrev pub IsSeenIn : Bool → List Cell → ℕ → ℕ → ℕ → Type 0
+IsSeenIn t l from to k = (k < length l) × (from ≤ seen t (length l) k) × (seen t (length l) k < to)
 
-told_is : (l : List Cell) (rs : List ℕ) (n i longer ended : ℕ) (before row : List ColourMasks) → 0 < n → (Has longer i → 1 ≤ i)
-    → IsReady l rs n i longer ended before row → (v : Bool) (k : ℕ) → Told n i longer ended before row v k ↔ CanBeBefore l (n ∷ rs) i v k
-told_is l rs n i longer ended before row some far r v k = (λ t. before_from l rs n i v k some r.gap (to t), λ h. from (before_to l rs n i v k some h))
+-- as a step has it, from the masks at the gaps further back
+abbrev Told : Bool → List Cell → ℕ → ℕ → ℕ → ℕ → List ColourMasks → List ColourMasks → Bool → ℕ → Type 0
+Told t l n i longer ended before row v k =
+    (IsSeenIn t l i (i + 1) k × (v ≡ false)) ⊎ ((Has longer i × HasColour (get_or row (i - 1) no_colours) v k)
+    ⊎ (Has ended i × (((v ≡ true) × IsSeenIn t l (i - n) i k) ⊎ ((n < i) × HasColour (get_or before (i - n - 1) no_colours) v k))))
+
+told_is : {t : Bool} (l : List Cell) (rs : List ℕ) (n i longer ended : ℕ) (before row : List ColourMasks) → 0 < n → (Has longer i → 1 ≤ i)
+    → IsReady t l rs n i longer ended before row → (v : Bool) (k : ℕ) → Told t l n i longer ended before row v k ↔ CanBeSeen t l (n ∷ rs) i v k
+told_is {t = t} l rs n i longer ended before row some far r v k =
+    (λ x. let y = to x in (y.0, before_from l rs n i v s some r.gap y.1), λ h. from h.0 (before_to l rs n i v s some h.1))
   where
-    in_row : Has longer i → HasColour (get_or row (i - 1) no_colours) v k ↔ CanBeBefore l (n ∷ rs) (i - 1) v k
+    s : ℕ
+    s = seen t (length l) k
+
+    in_row : Has longer i → HasColour (get_or row (i - 1) no_colours) v k ↔ CanBeSeen t l (n ∷ rs) (i - 1) v k
     in_row h = before_are l (n ∷ rs) (i - 1) _ (r.longer_to h) v k
 
-    in_before : Has ended i → n < i → HasColour (get_or before (i - n - 1) no_colours) v k ↔ CanBeBefore l rs (i - 1 - n) v k
+    in_before : Has ended i → n < i → HasColour (get_or before (i - n - 1) no_colours) v k ↔ CanBeSeen t l rs (i - 1 - n) v k
     in_before h a = before_are l rs (i - 1 - n) _ (r.before_to h a) v k
 
-    to : Told n i longer ended before row v k → Step l rs n i v k
-    to (inl at) = inl at
-    to (inr x) = search (rules, in_row, r.ended_to, in_before)
+    to : Told t l n i longer ended before row v k → (k < length l) × Step l rs n i v s
+    to (inl ((kl, low, high), blank)) = (kl, inl (omega arith, blank))
+    to (inr (inl (h, x))) = let y = (in_row h).0 x in (y.0, inr (far h, inl y.1))
+    to (inr (inr (h, inl (fill, (kl, low, high))))) = (kl, inr (omega arith, inr (r.ended_to h, inl (fill, omega arith, omega arith))))
+    to (inr (inr (h, inr (a, x)))) = let y = (in_before h a).0 x in (y.0, inr (omega arith, inr (r.ended_to h, inr (omega arith, y.1))))
 
-    from : Step l rs n i v k → Told n i longer ended before row v k
-    from (inl at) = inl at
-    from (inr (h, inl y)) = let x = r.longer_from h (gap_less l k v y.1 (n ∷ rs) (i - 1) y.2) in inr (inl (x, (in_row x).1 y))
-    from (inr (h, inr (e, y))) = let x = r.ended_from h e in search (rules, in_before x)
+    from : k < length l → Step l rs n i v s → Told t l n i longer ended before row v k
+    from kl (inl (at, blank)) = inl ((kl, omega arith, omega arith), blank)
+    from kl (inr (h, inl y)) = let x = r.longer_from h (gap_less l s v y.1 (n ∷ rs) (i - 1) y.2) in inr (inl (x, (in_row x).1 (kl, y)))
+    from kl (inr (h, inr (e, inl (fill, low, high)))) = inr (inr (r.ended_from h e, inl (fill, (kl, omega arith, omega arith))))
+    from kl (inr (h, inr (e, inr (a, y)))) =
+        let x = r.ended_from h e in let b : n < i = omega arith in inr (inr (x, inr (b, (in_before x b).1 (kl, y))))
 
 -- the masks of what can be filled and of what can be blank
-pub colours_are : (l : List Cell) (rs : List ℕ) (n i longer ended : ℕ) (before row : List ColourMasks) (m : ColourMasks) → 0 < n
-    → (Has longer i → 1 ≤ i) → IsReady l rs n i longer ended before row
+pub colours_are : {t : Bool} (l : List Cell) (rs : List ℕ) (n i own longer ended : ℕ) (before row : List ColourMasks) (m : ColourMasks) → 0 < n
+    → (Has longer i → 1 ≤ i) → IsReady t l rs n i longer ended before row → IsMaskOf (IsSeenIn t l i (i + 1)) own
     → IsMaskOf (λ k. (Has longer i × Has (get_or row (i - 1) no_colours).fillable k)
-    ⊎ (Has ended i × (((i - n ≤ k) × (k < i)) ⊎ ((n < i) × Has (get_or before (i - n - 1) no_colours).fillable k)))) m.fillable
-    → IsMaskOf (λ k. ((k ≡ i) ⊎ (Has longer i × Has (get_or row (i - 1) no_colours).blankable k))
-    ⊎ (Has ended i × (n < i) × Has (get_or before (i - n - 1) no_colours).blankable k)) m.blankable → AreColoursBefore l (n ∷ rs) i m
-colours_are l rs n i longer ended before row m some far r p q =
+    ⊎ (Has ended i × (IsSeenIn t l (i - n) i k ⊎ ((n < i) × Has (get_or before (i - n - 1) no_colours).fillable k)))) m.fillable
+    → IsMaskOf (λ k. (Has own k ⊎ (Has longer i × Has (get_or row (i - 1) no_colours).blankable k))
+    ⊎ (Has ended i × (n < i) × Has (get_or before (i - n - 1) no_colours).blankable k)) m.blankable → AreColoursBefore t l (n ∷ rs) i m
+colours_are l rs n i own longer ended before row m some far r o p q =
     let told = told_is l rs n i longer ended before row some far r in record {
       fillable_is = mask_same _ _ _ p (λ k h. (told true k).0 (search rules)) (λ k h. let t = (told true k).1 h in search rules);
-      blankable_is = mask_same _ _ _ q (λ k h. (told false k).0 (search rules)) (λ k h. let t = (told false k).1 h in search rules);
+      blankable_is = mask_same _ _ _ q (λ k h. (told false k).0 (search (rules, o.to k))) (λ k h. let t = (told false k).1 h in search (rules, o.from k));
     }

@@ -1,5 +1,5 @@
 -- Rows of what can be before the gaps of whole placings, written gap by gap.
-use Rattle.line_core.proofs.Names.{rules, eqb-true, none_has, true, ◌≡◌, ◌≢◌, ◌∙◌, ℕ, zero, suc, ◌+◌, ◌-◌, ◌<◌, ◌≤◌, List, ◌++◌, length, false, refl, sym, subst, arith, zero-add, inl, inr, get_or, set, take, map, Cell, Has, IsMaskOf, IsShifted, IsGapAfter, IsWholeEnd, behind, nat_eq, ◌*◌, ◌/◌, get_or-set_other, get_or-set_same, true≢false, drop, [], length-drop, drop_of_length-le, append-nil, get_or-take, get_or-drop, get_or-append-add, get_or_append_left, length-take-le, take_all, cases_eq, cases_lt, bit_at, IsMarked, number_at, ColourMasks, no_colours, AreColoursBefore, IsWholeGap, IsReady, IsRow, bit_at-suc, bit_at_lowest, bit_at-lt, same_from_bits}
+use Rattle.line_core.proofs.Names.{Bool, rules, eqb-true, none_has, true, ◌≡◌, ◌≢◌, ◌∙◌, ℕ, zero, suc, ◌+◌, ◌-◌, ◌<◌, ◌≤◌, List, ◌++◌, length, false, refl, sym, subst, arith, zero-add, inl, inr, get_or, set, take, map, Cell, Has, IsMaskOf, IsShifted, IsGapAfter, IsWholeEnd, behind, nat_eq, ◌*◌, ◌/◌, get_or-set_other, get_or-set_same, true≢false, drop, [], length-drop, drop_of_length-le, append-nil, get_or-take, get_or-drop, get_or-append-add, get_or_append_left, length-take-le, take_all, cases_eq, cases_lt, bit_at, IsMarked, number_at, ColourMasks, no_colours, AreColoursBefore, IsWholeGap, IsReady, IsRow, bit_at-suc, bit_at_lowest, bit_at-lt, same_from_bits}
 use Rattle.line_core.proofs.ColouredGaps.{whole_back, whole_end_back, whole_before_end}
 
 -- a number with one bit less is less
@@ -46,17 +46,17 @@ first_inside l gaps left p Q row walk h gap = (gap p (walk.within p h)).0.0
 pub ruleset walks = (left_inside, first_inside, mask_less, walk_none)
 
 -- a row is within its 128 places
-pub row_front : (l : List Cell) (clue : List ℕ) (j : ℕ) (rows : List ColourMasks) → length l ≤ 128 → IsRow l clue j 0 rows
-    → IsRow l clue j 0 (take 128 rows)
+pub row_front : {t : Bool} (l : List Cell) (clue : List ℕ) (j : ℕ) (rows : List ColourMasks) → length l ≤ 128 → IsRow t l clue j 0 rows
+    → IsRow t l clue j 0 (take 128 rows)
 row_front l clue j rows short told i whole =
     let inside : 0 + i < 128 = omega (arith, whole.0.0.0) in rw (get_or-take 128 rows (0 + i) no_colours inside) (told i whole)
 
 -- a gap after run j can be told by the gaps before it, in its row and in the row before
-pub ready_is : (l : List Cell) (clue : List ℕ) (j w gaps ends longer ended p : ℕ) (before row : List ColourMasks) → j < length clue
+pub ready_is : {t : Bool} (l : List Cell) (clue : List ℕ) (j w gaps ends longer ended p : ℕ) (before row : List ColourMasks) → j < length clue
     → 0 < get_or clue j 0 → IsMaskOf (IsWholeGap l clue (suc j)) gaps → IsMaskOf (IsWholeEnd l clue j) ends
-    → IsMaskOf (IsShifted w (Has gaps) 1) longer → IsMaskOf (IsShifted w (Has ends) 1) ended → p < w → Has gaps p → IsRow l clue j 0 before
-    → (1 ≤ p → Has gaps (p - 1) → AreColoursBefore l (behind 0 clue (suc j)) (p - 1) (get_or row (p - 1) no_colours))
-    → IsReady l (behind 0 clue j) (get_or clue j 0) p longer ended before row
+    → IsMaskOf (IsShifted w (Has gaps) 1) longer → IsMaskOf (IsShifted w (Has ends) 1) ended → p < w → Has gaps p → IsRow t l clue j 0 before
+    → (1 ≤ p → Has gaps (p - 1) → AreColoursBefore t l (behind 0 clue (suc j)) (p - 1) (get_or row (p - 1) no_colours))
+    → IsReady t l (behind 0 clue j) (get_or clue j 0) p longer ended before row
 ready_is l clue j w gaps ends longer ended p before row jl some gs es lm em within here told last =
     let whole = gs.to p here in
     let c = get_or clue j 0 in record {
@@ -76,11 +76,11 @@ pub kept_is : {A : Type 0} (number : A → ℕ) (P : ℕ → Type 0) (xs : List 
 kept_is number P xs i d m inside e p = subst (IsMaskOf P) (sym (e ∙ number_at number xs i d inside)) p
 
 -- the rows up to that of j runs are told
-abbrev pub AreRowsTo : List Cell → List ℕ → ℕ → List ColourMasks → Type 0
-AreRowsTo l clue j table = (q : ℕ) → q ≤ j → IsRow l clue q (128 * q) table
+abbrev pub AreRowsTo : Bool → List Cell → List ℕ → ℕ → List ColourMasks → Type 0
+AreRowsTo t l clue j table = (q : ℕ) → q ≤ j → IsRow t l clue q (128 * q) table
 
-pub rows_none : (l : List Cell) (clue : List ℕ) (table : List ColourMasks)
-    → ((i : ℕ) → IsWholeGap l clue 0 i → AreColoursBefore l [] i (get_or table i no_colours)) → AreRowsTo l clue 0 table
+pub rows_none : {t : Bool} (l : List Cell) (clue : List ℕ) (table : List ColourMasks)
+    → ((i : ℕ) → IsWholeGap l clue 0 i → AreColoursBefore t l [] i (get_or table i no_colours)) → AreRowsTo t l clue 0 table
 rows_none l clue table told zero h i whole = rw zero-add (told i whole)
 rows_none l clue table told (suc q) h i whole = absurd (omega arith)
 
@@ -92,14 +92,14 @@ pub put_back : (a : ℕ) (xs ys : List ColourMasks) → take a xs ++ (ys ++ drop
 put_back a xs ys = rw (drop_of_length-le (drop a xs) {i = length xs - a} (omega (arith, length-drop a xs)), append-nil) refl
 
 -- the last of them, seen from its place
-pub row_at : (l : List Cell) (clue : List ℕ) (j : ℕ) (table : List ColourMasks) → AreRowsTo l clue j table → IsRow l clue j 0 (drop (128 * j) table)
+pub row_at : {t : Bool} (l : List Cell) (clue : List ℕ) (j : ℕ) (table : List ColourMasks) → AreRowsTo t l clue j table → IsRow t l clue j 0 (drop (128 * j) table)
 row_at l clue j table told i whole = rw (get_or-drop (128 * j) table (0 + i) no_colours, zero-add i) (told j (omega arith) i whole)
 
 -- one more row, written behind the last of them
-pub rows_more : (l : List Cell) (clue : List ℕ) (j : ℕ) (table new : List ColourMasks) → length l ≤ 128 → 128 * j ≤ length table
-    → AreRowsTo l clue j table → IsRow l clue (j + 1) 128 new
+pub rows_more : {t : Bool} (l : List Cell) (clue : List ℕ) (j : ℕ) (table new : List ColourMasks) → length l ≤ 128 → 128 * j ≤ length table
+    → AreRowsTo t l clue j table → IsRow t l clue (j + 1) 128 new
     → ((k : ℕ) → k < 128 → get_or new k no_colours ≡ get_or (drop (128 * j) table) k no_colours)
-    → AreRowsTo l clue (j + 1) (take (128 * j) table ++ new)
+    → AreRowsTo t l clue (j + 1) (take (128 * j) table ++ new)
 rows_more l clue j table new short room told next same q le i whole =
     let front = take (128 * j) table in
     let size : length front ≡ 128 * j = length-take-le (128 * j) table room in

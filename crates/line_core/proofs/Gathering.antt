@@ -1,41 +1,12 @@
 -- What can be on a line with a cell coloured, told by what can be before and after that cell, or the run that covers it.
-use Rattle.line_core.proofs.Names.{allows, rules, ◌≡◌, ℕ, zero, suc, ◌+◌, ◌-◌, ◌<◌, ◌≤◌, Bool, true, false, List, ◌∷◌, length, map, get_or, set, drop, reverse, refl, ◌∙◌, arith, add-one, ◌⊎◌, inl, inr, ◌↔◌, cases_lt, and_from, and_parts, length-set, mask_same, ext_get_or, get_or-reverse, Has, IsMaskOf, IsShifted, Cell, Unknown, agrees, runs, SomeFrom, behind, MayBe, IsGapAhead, IsWholeEnd, ArePositive, ◌*◌, get_or-set_other, get_or-set_at, get_or_default, length-reverse, reverse-reverse, drop-set-lt, colour, ColourMasks, no_colours, coloured, AreWholeEnds, AreColours, AreColoursBefore, CanBeBefore, IsWholeGap, IsUnknownAt, AreMasks, AreMore, AreToldOf, AreBothSides, HasColour, AreLengths, number_at}
-use Rattle.line_core.proofs.ColourMasks.{Below, masks_are, masks_same, more_same, more_more, each_more}
-use Rattle.line_core.proofs.ColouredGaps.{before_are, EndWith, colour_is, coloured_less, coloured_other, behind_coloured, gap_less, end_less, end_step_to, end_step_from, whole_before_end}
+use Rattle.line_core.proofs.Names.{AreMore, allows, rules, ap, sym, cases_eq, get_or-set_same, true≢false, not, mask_same, get_or-drop, IsShifted, nat_eq, ◌≡◌, ℕ, zero, suc, ◌+◌, ◌-◌, ◌*◌, ◌<◌, ◌≤◌, Bool, true, false, List, ◌∷◌, length, get_or, set, drop, reverse, refl, ◌∙◌, arith, add-one, ◌⊎◌, inl, inr, ◌↔◌, cases_lt, and_from, and_parts, length-set, ext_get_or, get_or-reverse, Has, IsMarked, IsMaskOf, Cell, Unknown, agrees, runs, behind, MayBe, IsGapAhead, IsWholeEnd, ArePositive, get_or-set_other, get_or-set_at, get_or_default, length-reverse, reverse-reverse, drop-set-lt, colour, ColourMasks, PairMasks, no_colours, no_pair, masks_if, coloured, AreColours, CanBeBefore, IsWholeGap, AreMasks, ArePairsMore, AreToldOf, CanBeAfter, CanBeBesideGap, CanBeBesideRun, CanBeUpTo, CanBeWithBlank, CanBeWithFilled, HasColour, IsEndOver}
+use Rattle.line_core.specs.steps.Pairs.{ArePairs}
+use Rattle.line_core.proofs.ColourMasks.{AreAdded, Below, added_all, added_more, added_none, masks_are, masks_of, masks_same, more_more, read_at, more_same, no_below, one_below}
+use Rattle.line_core.proofs.ColouredGaps.{before_are, colour_is, coloured_less, coloured_other, behind_coloured, gap_less, end_less, end_step_to, end_step_from, whole_before_end}
 use Rattle.line_core.proofs.Certain.{CanBe}
 use Rattle.line_core.proofs.Joining.{closed_ahead_to, closed_ahead_from, blankable_to, blankable_from, reversed_gap}
 use Rattle.line_core.proofs.WholeEnds.{fillable_to, fillable_from, IsTold, told_mask}
 use Rattle.line_core.proofs.Reaching.{run_from_end}
-
--- ---- what goes with a gap, and with a run
-
--- a cell up to x can have a colour together with a blank cell at x that has j runs before it
-abbrev pub IsBeforeGap : List Cell → List ℕ → ℕ → ℕ → Bool → ℕ → Type 0
-IsBeforeGap line clue x j filled k = IsWholeGap line clue j x × CanBeBefore line (behind 0 clue j) x filled k
-
--- and a cell from x on, seen from the other end
-abbrev pub IsAfterGap : List Cell → List ℕ → ℕ → ℕ → Bool → ℕ → Type 0
-IsAfterGap line clue x j filled k =
-    IsWholeGap line clue j x × CanBeBefore (reverse line) (behind 0 (reverse clue) (length clue - j)) (length line - 1 - x) filled k
-
--- run j can end at e, and then covers x
-abbrev pub IsEndOver : List Cell → List ℕ → ℕ → ℕ → ℕ → Type 0
-IsEndOver line clue x j e = (x ≤ e) × (e < x + get_or clue j 0) × IsWholeEnd line clue j e
-
--- a cell can have a colour in run j, when that run covers x, or before it
-abbrev pub IsBeforeRun : List Cell → List ℕ → ℕ → ℕ → Bool → ℕ → Type 0
-IsBeforeRun line clue x j filled k =
-    ((filled ≡ true) × (e : ℕ) × IsEndOver line clue x j e × (e + 1 - get_or clue j 0 ≤ k) × (k ≤ e))
-    ⊎ ((i : ℕ) × IsEndOver line clue x j (i + get_or clue j 0) × CanBeBefore line (behind 0 clue j) i filled k)
-
--- the cell before a place is an end of run j with which it covers x
-abbrev pub IsPastEnd : List Cell → List ℕ → ℕ → ℕ → ℕ → Type 0
-IsPastEnd line clue x j i = (1 ≤ i) × (i < length line) × IsEndOver line clue x j (i - 1)
-
--- and after it, seen from the other end
-abbrev pub IsAfterRun : List Cell → List ℕ → ℕ → ℕ → Bool → ℕ → Type 0
-IsAfterRun line clue x j filled k =
-    (i : ℕ) × IsPastEnd line clue x j i × CanBeBefore (reverse line) (behind 0 (reverse clue) (length clue - (j + 1))) (length line - 1 - i) filled k
 
 -- ---- a line with a cell coloured
 
@@ -67,9 +38,6 @@ ahead_before l k (suc i) d y may h = search rules
 
 -- ---- the line seen from its other end
 
-abbrev pub CanBeAfter : List Cell → List ℕ → ℕ → ℕ → Bool → ℕ → Type 0
-CanBeAfter l clue j i d k = (i ≤ k) × MayBe l d k × IsGapAhead (coloured l k d) clue j i
-
 reverse-set : (l : List Cell) (k : ℕ) (c : Cell) → k < length l → set (reverse l) (length l - 1 - k) c ≡ reverse (set l k c)
 reverse-set l k c within = ext_get_or Unknown _ _ (search (rules, length-set, length-reverse))
     (λ z h. grind (arith, get_or-set_at, get_or-set_other, get_or-reverse, length-reverse, length-set))
@@ -90,196 +58,247 @@ whole_turned l clue j i jl il whole =
 
 -- ---- what goes with a cell of some colour
 
--- a cell that leaves both colours open is unknown
-pub unknown_is : (l : List Cell) (x : ℕ) → IsUnknownAt l x ↔ (MayBe l false x × MayBe l true x)
-unknown_is l x = (
-  λ u. let e = get_or_default l x Unknown (colour true) u.inside ∙ u.unknown in ((u.inside, rw e refl), (u.inside, rw e refl)),
-  λ (free, room). record { inside = free.0; unknown = get_or_default l x (colour true) Unknown free.0 ∙ both _ free.1 room.1 },
-)
-  where
-    both : (c : Cell) → allows c false ≡ true → allows c true ≡ true → c ≡ Unknown
-    both c free room = search rules
+-- an unknown cell can have each colour
+pub unknown_may : (l : List Cell) (x : ℕ) (c : Bool) → x < length l → get_or l x (colour true) ≡ Unknown → MayBe l c x
+unknown_may l x c within unknown =
+    let e = get_or_default l x Unknown (colour true) within ∙ unknown in (within, rw e (search rules))
 
 -- the masks of what can be on the line with x coloured
-colours_of : (l : List Cell) (clue : List ℕ) (x : ℕ) (c : Bool) (m : ColourMasks) → ArePositive clue → IsUnknownAt l x
+colours_of : (l : List Cell) (clue : List ℕ) (x : ℕ) (c : Bool) (m : ColourMasks) → ArePositive clue → MayBe l c x
     → AreMasks (GoesWith l clue x c) m → AreColours (coloured l x c) clue m
-colours_of l clue x c m pos unknown a = record { fillable_is = mask true _ a.fillable_is; blankable_is = mask false _ a.blankable_is }
+colours_of l clue x c m pos may a = record { fillable_is = mask true _ a.fillable_is; blankable_is = mask false _ a.blankable_is }
   where
     mask : (d : Bool) (n : ℕ) → IsMaskOf (GoesWith l clue x c d) n → IsMaskOf (IsTold (coloured l x c) clue d) n
     mask d n p = told_mask (coloured l x c) clue d _ n pos p (λ k.
-        rw (length-set l x (colour c)) (let swap = can_be_swap l clue x k c d (search (rules, unknown_is l x)) in (swap.1, swap.0)))
-
--- with a filled cell goes what goes with the ends of the run that covers it
-abbrev IsBesideRun : List Cell → List ℕ → ℕ → ℕ → Bool → ℕ → Type 0
-IsBesideRun l clue j e d k = EndWith l (behind 0 clue j) (get_or clue j 0) d e k ⊎ ((e + 1 < length l) × CanBeAfter l clue (j + 1) (e + 1) d k)
+        rw (length-set l x (colour c)) (let swap = can_be_swap l clue x k c d may in (swap.1, swap.0)))
 
 run_to : (l : List Cell) (clue : List ℕ) (x k : ℕ) (d : Bool) → GoesWith l clue x true d k
-    → (j : ℕ) × (j < length clue) × (e : ℕ) × IsEndOver l clue x j e × IsBesideRun l clue j e d k
+    → (j : ℕ) × (j < length clue) × (e : ℕ) × IsEndOver l clue j x e × CanBeBesideRun l clue j e d k
 run_to l clue x k d (may, can) =
     let (j, jl, (z, zb, (end, back))) = fillable_from (coloured l k d) clue x can in
     let size = length-set l k (colour d) in
-    let beside : IsBesideRun l clue j (x + z) d k = elim (cases_lt (x + z) k) [
+    let beside : CanBeBesideRun l clue j (x + z) d k = elim (cases_lt (x + z) k) [
       | inr inside ↦ inl (end_step_to l (behind 0 clue j) (get_or clue j 0) (x + z) k d (omega arith) may inside end)
       | inl past ↦ search (rules, closed_ahead_to (coloured l k d) clue (j + 1) (x + z + 1) (omega arith) (omega (arith, end.0)) back)
     ] in
     (j, jl, x + z, (omega arith, omega arith, search (rules, end_less, ahead_before)), beside)
 
-run_from : (l : List Cell) (clue : List ℕ) (x k j e : ℕ) (d : Bool) → ArePositive clue → j < length clue → IsEndOver l clue x j e
-    → IsBesideRun l clue j e d k → GoesWith l clue x true d k
+run_from : (l : List Cell) (clue : List ℕ) (x k j e : ℕ) (d : Bool) → ArePositive clue → j < length clue → IsEndOver l clue j x e
+    → CanBeBesideRun l clue j e d k → GoesWith l clue x true d k
 run_from l clue x k j e d pos jl (from, to, whole) beside =
     let same : x + (e - x) ≡ e = omega arith in
     let (may, end) = kept whole beside in (may, fillable_to (coloured l k d) clue x pos (j, jl, (e - x, omega arith, rw same end)))
   where
-    kept : IsWholeEnd l clue j e → IsBesideRun l clue j e d k → MayBe l d k × IsWholeEnd (coloured l k d) clue j e
+    kept : IsWholeEnd l clue j e → CanBeBesideRun l clue j e d k → MayBe l d k × IsWholeEnd (coloured l k d) clue j e
     kept (end, back) (inl near) = search (rules, end_step_from l (behind 0 clue j) (get_or clue j 0) e k d end near, drop-set-lt)
     kept ((enough, (front, cells)), back) (inr (next, (le, may, gap))) = search (rules, behind_coloured, coloured_other, closed_ahead_from)
 
+-- with a blank cell goes what goes with it as a gap
+pub gathered_blank : (l : List Cell) (clue : List ℕ) (x : ℕ) (m : ColourMasks) → ArePositive clue → MayBe l false x
+    → AreMasks (Below (length clue + 1) (CanBeWithBlank l clue x)) m → AreColours (coloured l x false) clue m
+gathered_blank l clue x m pos may_x a = colours_of l clue x false m pos may_x (masks_same _ _ m a (λ d k. (
+  λ (j, jl, ((gap, ahead), side)).
+      let le : j ≤ length clue = omega arith in
+      elim side [
+        | inl y ↦ search (rules, blankable_to (coloured l k d) clue x, drop-set-lt)
+        | inr y ↦ search (rules, blankable_to (coloured l k d) clue x, behind_coloured)
+      ],
+  λ (may, can).
+      let (j, jl, gap, ahead) = blankable_from (coloured l k d) clue x (omega (arith, length-set l k (colour d), may_x.0)) can in
+      let whole : IsWholeGap l clue j x = search (rules, gap_less, coloured_less, ahead_before) in
+      elim (cases_lt x k) [
+        | inl after ↦ (j, omega arith, (whole, inr (omega arith, may, ahead)))
+        | inr before ↦ (j, omega arith, (whole, inl (before, may, gap)))
+      ],
+)))
+
+-- and with a filled one what goes with the runs that cover it
+pub gathered_filled : (l : List Cell) (clue : List ℕ) (x : ℕ) (m : ColourMasks) → ArePositive clue → MayBe l true x
+    → AreMasks (Below (length clue) (CanBeWithFilled l clue x)) m → AreColours (coloured l x true) clue m
+gathered_filled l clue x m pos may_x a = colours_of l clue x true m pos may_x (masks_same _ _ m a (λ d k. (
+  λ (j, jl, (e, over, beside)). run_from l clue x k j e d pos jl over beside,
+  λ goes. let (j, jl, e, over, beside) = run_to l clue x k d goes in (j, jl, (e, over, beside)),
+)))
+
 -- ---- what the tables tell
 
--- what is told before a gap is added
-pub told_more : (line : List Cell) (runs : List ℕ) (i : ℕ) (P : Type 0) (m old new : ColourMasks) → P → AreColoursBefore line runs i m
-    → AreMore (HasColour m) old new → AreMore (λ d k. P × CanBeBefore line runs i d k) old new
-told_more line runs i P m old new holds told more = more_same _ _ old new more (λ d k. search (rules, before_are line runs i m told d k))
+-- what is told before a gap
+near_at : (l : List Cell) (clue : List ℕ) (before after : List ColourMasks) (j i : ℕ) → AreToldOf l clue before after → j ≤ length clue
+    → IsWholeGap l clue j i → (d : Bool) (k : ℕ) → HasColour (get_or before (128 * j + i) no_colours) d k ↔ CanBeBefore l (behind 0 clue j) i d k
+near_at l clue before after j i told jl whole d k =
+    let are = before_are l (behind 0 clue j) i _ (told.before_is j i jl whole) d k in (λ h. (are.0 h).1, λ h. are.1 (h.1.0, h))
+
+-- as it is read
+pub near_are : (l : List Cell) (clue : List ℕ) (before after : List ColourMasks) (j i p : ℕ) (read : ColourMasks) → AreToldOf l clue before after
+    → length l ≤ 128 → j ≤ length clue → IsWholeGap l clue j i → p ≡ i → read ≡ get_or before (128 * j + p) read → (d : Bool) (k : ℕ)
+    → HasColour read d k ↔ CanBeBefore l (behind 0 clue j) i d k
+near_are l clue before after j i p read told short jl whole at is d k =
+    let same = read_at before (128 * j + p) (128 * j + i) read (ap (λ (n : ℕ). 128 * j + n) at) (omega (arith, told.before_fits, whole.0.0.0)) is in
+    rw (sym same) at (near_at l clue before after j i told jl whole d k)
+
+-- and after it
+pub far_are : (l : List Cell) (clue : List ℕ) (before after : List ColourMasks) (j i p : ℕ) (read : ColourMasks) → AreToldOf l clue before after
+    → length l ≤ 128 → j ≤ length clue → IsWholeGap l clue j i → p ≡ length l - 1 - i → read ≡ get_or after (128 * (length clue - j) + p) read
+    → (d : Bool) (k : ℕ) → HasColour read d k ↔ CanBeAfter l clue j i d k
+far_are l clue before after j i p read told short jl whole at is d k =
+    let inside = whole.0.0.0 in
+    let q = length clue - j in
+    let same = read_at after (128 * q + p) (128 * q + (length l - 1 - i)) read (ap (λ (n : ℕ). 128 * q + n) at) (omega (arith, told.after_fits)) is in
+    let size : length (reverse l) - 1 - k ≡ length l - 1 - k = ap (λ (n : ℕ). n - 1 - k) (length-reverse l) in
+    let are = rw (sym same, size) at (before_are (reverse l) (behind 0 (reverse clue) q) (length l - 1 - i) _
+    (told.after_is q (length l - 1 - i) (omega (arith, length-reverse clue)) (whole_turned l clue j i jl inside whole)) d k) in (
+      λ h. let x = are.0 h in (after_turned l clue j i k d jl inside (omega (arith, x.0, length-reverse l))).0 x.1,
+      λ h. are.1 (omega (arith, h.1.0, length-reverse l), (after_turned l clue j i k d jl inside h.1.0).1 h),
+    )
 
 -- after an end of a run in whole placings that is not at the line's end there is a gap of whole placings
-gap_after_end : (l : List Cell) (clue : List ℕ) (j e : ℕ) → 0 < get_or clue j 0 → j < length clue → e + 1 < length l → IsWholeEnd l clue j e
+pub gap_after_end : (l : List Cell) (clue : List ℕ) (j e : ℕ) → 0 < get_or clue j 0 → j < length clue → e + 1 < length l → IsWholeEnd l clue j e
     → IsWholeGap l clue (j + 1) (e + 1)
 gap_after_end l clue j e some jl within (end, back) =
     let after = closed_ahead_to l clue (j + 1) (e + 1) (omega arith) (omega arith) back in
     search (rules, after, add-one, run_from_end l _ (get_or clue j 0) e some end)
 
--- the ends of run j, as a list keeps them, with which it covers a place
-pub end_over_is : {A : Type 0} (number : A → ℕ) (l : List Cell) (clue : List ℕ) (kept : List A) (default : A) (x j w ends over : ℕ)
-    → AreLengths w clue → AreWholeEnds l clue (map number kept) → length l ≤ w → j < length clue → length clue ≤ length kept
-    → ends ≡ number (get_or kept j default)
-    → IsMaskOf (λ e. (e < w) × (x ≤ e) × (e < x + get_or clue j 0) × Has ends e) over → IsMaskOf (IsEndOver l clue x j) over
-end_over_is number l clue kept default x j w ends over lengths wholes short jl fits same p =
-    let are : IsMaskOf (IsWholeEnd l clue j) ends = rw (same ∙ number_at number kept j default (omega arith)) (wholes j jl) in
-    mask_same _ _ over p (λ e h. search (rules, are.to)) (λ e h.
-    let last = (h.2.0.1.1 (get_or clue j 0 - 1) (omega arith)).0 in search (rules, are.from))
+-- an end of a run is on the line
+pub end_inside : (l : List Cell) (clue : List ℕ) (j e : ℕ) → 0 < get_or clue j 0 → IsWholeEnd l clue j e → e < length l
+end_inside l clue j e some whole = omega (arith, (whole.0.1.1 (get_or clue j 0 - 1) (omega arith)).0, whole.0.0)
 
--- the gaps before those ends
-pub gaps_before_are : (l : List Cell) (clue : List ℕ) (j x over low gaps : ℕ) → 0 < get_or clue j 0 → IsMaskOf (IsEndOver l clue x j) over
-    → IsMaskOf (λ i. Has over (i + (get_or clue j 0 - 1))) low → IsMaskOf (λ i. Has low (i + 1)) gaps
-    → IsMaskOf (λ i. IsEndOver l clue x j (i + get_or clue j 0)) gaps
-gaps_before_are l clue j x over low gaps some are lows are_gaps =
-    let e : (i : ℕ) → i + 1 + (get_or clue j 0 - 1) ≡ i + get_or clue j 0 = λ i. omega arith in
-    mask_same _ _ gaps are_gaps (λ i h. rw (e i) at (are.to _ (lows.to (i + 1) h))) (λ i h. lows.from (i + 1) (rw (e i) (are.from _ h)))
+-- the cells of a run
+pub run_is : (w s n e m up : ℕ) → e + 1 ≡ s + n → e < w → IsMaskOf (λ i. i < n) m → IsMaskOf (IsShifted w (Has m) s) up
+    → IsMaskOf (λ k. (s ≤ k) × (k ≤ e)) up
+run_is w s n e m up at short is ups = mask_same _ _ up ups (λ k h. (h.1, omega (arith, is.to (k - s) h.2)))
+    (λ k h. (omega arith, h.0, is.from (k - s) (omega arith)))
 
--- and those after them
-pub gaps_after_are : (l : List Cell) (clue : List ℕ) (w j x over up cells gaps : ℕ) → length l ≤ w → IsMaskOf (IsEndOver l clue x j) over
-    → IsMaskOf (IsShifted w (Has over) 1) up → IsMaskOf (λ i. i < length l) cells → IsMaskOf (λ i. Has up i × Has cells i) gaps
-    → IsMaskOf (IsPastEnd l clue x j) gaps
-gaps_after_are l clue w j x over up cells gaps short are ups are_cells are_gaps =
-    mask_same _ _ gaps are_gaps (λ i h. let u = ups.to i h.0 in (u.1, are_cells.to i h.1, are.to (i - 1) u.2))
-    (λ i h. (ups.from i (omega (arith, h.1), h.0, are.from (i - 1) h.2), are_cells.from i h.1))
+-- what goes with a run up to its last cell
+pub up_to_is : (l : List Cell) (clue : List ℕ) (before after : List ColourMasks) (j e run : ℕ) (m : ColourMasks) → AreToldOf l clue before after
+    → length l ≤ 128 → 0 < get_or clue j 0 → j < length clue → IsWholeEnd l clue j e → (let n = get_or clue j 0 in
+    let table = drop (128 * j) before in
+    IsMaskOf (λ k. (e + 1 - n ≤ k) × (k ≤ e)) run
+    → IsMaskOf (λ k. Has run k ⊎ ((0 < e + 1 - n) × Has (get_or table (e + 1 - n - 1) no_colours).fillable k)) m.fillable
+    → IsMaskOf (λ k. (0 < e + 1 - n) × Has (get_or table (e + 1 - n - 1) no_colours).blankable k) m.blankable
+    → AreMasks (λ d k. CanBeUpTo l (behind 0 clue j) n d e k) m)
+up_to_is l clue before after j e run m told short some jl whole r p q = masks_of _ m are
+  where
+    n : ℕ
+    n = get_or clue j 0
 
-pub gap_before_is : (l : List Cell) (clue : List ℕ) (j x i : ℕ) → 0 < get_or clue j 0 → j < length clue
-    → IsEndOver l clue x j (i + get_or clue j 0) → IsWholeGap l clue j i
-gap_before_is l clue j x i some jl end =
-    let same : i + get_or clue j 0 - get_or clue j 0 ≡ i = omega arith in
-    rw same at (whole_before_end l clue j (i + get_or clue j 0) jl some (omega arith) end.2)
+    read : n ≤ e → (d : Bool) (k : ℕ)
+        → HasColour (get_or (drop (128 * j) before) (e + 1 - n - 1) no_colours) d k ↔ CanBeBefore l (behind 0 clue j) (e - n) d k
+    read far d k =
+        let at : e + 1 - n - 1 ≡ e - n = omega arith in
+        rw (get_or-drop (128 * j) before (e + 1 - n - 1) no_colours, at)
+        (near_at l clue before after j (e - n) told (omega arith) (whole_before_end l clue j e jl some far whole) d k)
 
--- what is in a run that covers a place, and before it, is added
-pub run_before_more : (l : List Cell) (clue : List ℕ) (before after : List ColourMasks) (j x over part gaps : ℕ) (old mid new : ColourMasks)
-    → AreToldOf l clue before after → 0 < get_or clue j 0 → j < length clue → IsMaskOf (IsEndOver l clue x j) over
-    → IsMaskOf (λ i. IsEndOver l clue x j (i + get_or clue j 0)) gaps
-    → IsMaskOf (SomeFrom (Has over) (get_or clue j 0)) part → AreMore (λ d k. Has part k × (d ≡ true)) old mid
-    → AreMore (λ d k. (i : ℕ) × Has gaps i × HasColour (get_or before (128 * j + i) no_colours) d k) mid new
-    → AreMore (IsBeforeRun l clue x j) old new
-run_before_more l clue before after j x over part gaps old mid new told some jl are are_gaps parts run rows =
-    more_same _ _ old new (more_more _ _ old mid new run (each_more gaps before (λ i. 128 * j + i) (CanBeBefore l (behind 0 clue j)) mid new
-    (λ i h. before_are l _ i _ (told.before_is j i (omega arith) (gap_before_is l clue j x i some jl (are_gaps.to i h)))) rows))
-    (λ d k. (
-      λ h. elim h [
-        | inl (has_part, fill) ↦ (let x = parts.to k has_part in inl (fill, k + x.0, are.to (k + x.0) x.2, omega (arith, x.1), omega arith))
-        | inr (i, has_gap, can) ↦ inr (i, are_gaps.to i has_gap, can)
-      ],
-      λ h. elim h [
-        | inl (fill, e, end, past, le) ↦ (let same : k + (e - k) ≡ e = omega arith in
-            inl (parts.from k (e - k, omega arith, rw same (are.from e end)), fill))
-        | inr (i, end, can) ↦ inr (i, are_gaps.from i end, can)
-      ],
+    are : (d : Bool) (k : ℕ) → HasColour m d k ↔ CanBeUpTo l (behind 0 clue j) n d e k
+    are true k = (
+      λ h. elim (p.to k h) [ inl x ↦ (let y = r.to k x in inl (refl, y.0, y.1)) | inr (far, x) ↦ inr (omega arith, (read (omega arith) true k).0 x) ],
+      λ h. p.from k (elim h [ inl (fill, low, high) ↦ inl (r.from k (low, high)) | inr (far, x) ↦ inr (omega arith, (read far true k).1 x) ]),
+    )
+    are false k = (
+      λ h. let x = q.to k h in inr (omega arith, (read (omega arith) false k).0 x.1),
+      λ h. elim h [ inl x ↦ absurd (true≢false (sym x.0)) | inr (far, x) ↦ q.from k (omega arith, (read far false k).1 x) ],
+    )
+
+-- ---- pairs that get more
+
+pub pairs_same : (filled : Bool) (P Q : ℕ → Bool → ℕ → Type 0) (old new : List PairMasks) → ArePairsMore filled P old new
+    → ((x : ℕ) (d : Bool) (k : ℕ) → P x d k ↔ Q x d k) → ArePairsMore filled Q old new
+pairs_same filled P Q old new a same =
+    record { more = λ x h. more_same _ _ _ _ (a.more x h) (same x); other = a.other; count = a.count }
+
+-- and all that goes with it: up to its last cell, and after the gap after it
+pub beside_is : (l : List Cell) (clue : List ℕ) (before after : List ColourMasks) (j e p : ℕ) (read old new : ColourMasks) → AreToldOf l clue before after
+    → length l ≤ 128 → 0 < get_or clue j 0 → j < length clue → IsWholeEnd l clue j e → e + 1 < length l → p ≡ length l - 1 - (e + 1)
+    → read ≡ get_or after (128 * (length clue - (j + 1)) + p) read → AreMasks (λ d k. CanBeUpTo l (behind 0 clue j) (get_or clue j 0) d e k) old
+    → AreMore (HasColour read) old new → AreMasks (CanBeBesideRun l clue j e) new
+beside_is l clue before after j e p read old new told short some jl whole next at is a more =
+    let far = far_are l clue before after (j + 1) (e + 1) p read told short (omega arith) (gap_after_end l clue j e some jl next whole) at is in
+    masks_same _ _ new more (λ d k. (
+      λ h. elim h [ inl x ↦ inl ((masks_are _ old a d k).0 x) | inr x ↦ inr (next, (far d k).0 x) ],
+      λ h. elim h [ inl x ↦ inl ((masks_are _ old a d k).1 x) | inr x ↦ inr ((far d k).1 x.1) ],
     ))
 
--- and what is after it
-pub run_after_more : (l : List Cell) (clue : List ℕ) (before after : List ColourMasks) (j x gaps : ℕ) (old new : ColourMasks)
-    → AreToldOf l clue before after → 0 < get_or clue j 0 → j < length clue → IsMaskOf (IsPastEnd l clue x j) gaps
-    → AreMore (λ d k. (i : ℕ) × Has gaps i × HasColour (get_or after (128 * (length clue - 1 - j) + (length l - 1 - i)) no_colours) d k) old new
-    → AreMore (IsAfterRun l clue x j) old new
-run_after_more l clue before after j x gaps old new told some jl are rows =
-    more_same _ _ old new (each_more gaps after (λ i. 128 * (length clue - 1 - j) + (length l - 1 - i)) After old new row rows)
-    (λ d k. (λ (i, here, can). (i, are.to i here, can), λ (i, past, can). (i, are.from i past, can)))
+-- one more pair gets the colours
+pub pairs_one : (filled : Bool) (from p q : ℕ) (C : Bool → ℕ → Type 0) (old sum : List PairMasks) (default new : PairMasks) → q ≡ p → p < length sum
+    → from ≤ p → ArePairsMore filled (λ x d k. (from ≤ x) × (x < p) × C d k) old sum
+    → AreMore C (masks_if filled (get_or sum q default)) (masks_if filled new) → masks_if (not filled) new ≡ masks_if (not filled) (get_or sum q default)
+    → ArePairsMore filled (λ x d k. (from ≤ x) × (x < p + 1) × C d k) old (set sum q new)
+pairs_one filled from p q C old sum default new at inside le a more other = record {
+  more = λ x h. elim (cases_eq x p) [
+    | inl e ↦ rw (at, e, get_or-set_same sum p new no_pair inside) (more_same _ _ _ _
+        (more_more _ _ _ _ _ (rw e at (a.more x h)) (rw here at more)) (λ d k. search rules))
+    | inr ne ↦ rw (at, get_or-set_other sum p x new no_pair ne) (more_same _ _ _ _ (a.more x h) (λ d k. search rules))
+  ];
+  other = λ x. elim (cases_eq x p) [
+    | inl e ↦ rw (at, e, get_or-set_same sum p new no_pair inside) (other ∙ ap (λ (m : PairMasks). masks_if (not filled) m) here ∙ rw e at (a.other x))
+    | inr ne ↦ rw (at, get_or-set_other sum p x new no_pair ne) (a.other x)
+  ];
+  count = rw at (length-set sum p new) ∙ a.count;
+}
   where
-    After : ℕ → Bool → ℕ → Type 0
-    After i = CanBeBefore (reverse l) (behind 0 (reverse clue) (length clue - (j + 1))) (length l - 1 - i)
+    here : get_or sum q default ≡ get_or sum p no_pair
+    here = rw at (get_or_default sum p default no_pair inside)
 
-    row : (i : ℕ) → Has gaps i → (d : Bool) (k : ℕ)
-        → HasColour (get_or after (128 * (length clue - 1 - j) + (length l - 1 - i)) no_colours) d k ↔ After i d k
-    row i h =
-        let (first, inside, end) = are.to i h in
-        let back : i - 1 + 1 ≡ i = omega arith in
-        let runs_left : length clue - 1 - j ≡ length clue - (j + 1) = omega arith in
-        let gap = whole_turned l clue (j + 1) i (omega arith) inside (rw back at (gap_after_end l clue j (i - 1) some jl (omega arith) end.2)) in
-        rw runs_left (before_are (reverse l) _ _ _ (told.after_is (length clue - (j + 1)) (length l - 1 - i) (omega (arith, length-reverse clue)) gap))
+-- what is added to pairs at each of some places, of which some are left
+pub record ArePairsAdded (filled : Bool) (places left : ℕ) (P : ℕ → ℕ → Bool → ℕ → Type 0) (old new : List PairMasks) : Type 0 where
+  pub within : (i : ℕ) → Has left i → Has places i
+  pub added : (x : ℕ) → x < length old → AreAdded places left (P x) (masks_if filled (get_or old x no_pair)) (masks_if filled (get_or new x no_pair))
+  pub other : (x : ℕ) → masks_if (not filled) (get_or new x no_pair) ≡ masks_if (not filled) (get_or old x no_pair)
+  pub count : length new ≡ length old
 
--- ---- the masks
+pub pairs_none : (filled : Bool) (places : ℕ) (P : ℕ → ℕ → Bool → ℕ → Type 0) (old : List PairMasks) → ArePairsAdded filled places places P old old
+pairs_none filled places P old = record { within = λ i h. h; added = λ x h. added_none places (P x) _; other = λ x. refl; count = refl }
 
--- what is gathered from both sides
-gathered : (l : List Cell) (clue : List ℕ) (x : ℕ) (c : Bool) (near far new : ColourMasks) (P Q : Bool → ℕ → Type 0) → ArePositive clue
-    → IsUnknownAt l x → AreMasks P near → AreMasks Q far → AreBothSides (length l) near far new
-    → ((d : Bool) (k : ℕ) → (P d k ⊎ ((k < length l) × Q d (length l - 1 - k))) ↔ GoesWith l clue x c d k) → AreColours (coloured l x c) clue new
-gathered l clue x c near far new P Q pos unknown a b both same =
-    colours_of l clue x c new pos unknown (masks_same _ _ new both
-    (λ d k. search (rules, masks_are P near a d k, masks_are Q far b d (length l - 1 - k), same d k)))
+pub pairs_more : (filled : Bool) (places left next p : ℕ) (P : ℕ → ℕ → Bool → ℕ → Type 0) (old sum new : List PairMasks)
+    → ArePairsAdded filled places left P old sum → Has left p → IsMaskOf (IsMarked (Has left) p false) next
+    → ArePairsMore filled (λ x. P x p) sum new → ArePairsAdded filled places next P old new
+pairs_more filled places left next p P old sum new a here marked more = record {
+  within = λ i h. elim (marked.to i h) [ inl x ↦ a.within i x.0 | inr x ↦ a.within i (rw x.0 here) ];
+  added = λ x h. added_more _ _ _ p (P x) _ _ _ (a.added x h) here marked (more.more x (omega (arith, h, a.count)));
+  other = λ x. more.other x ∙ a.other x;
+  count = more.count ∙ a.count;
+}
 
--- what can be on the line if x is blank
-pub gathered_blank : (l : List Cell) (clue : List ℕ) (x : ℕ) (near far new : ColourMasks) → ArePositive clue → IsUnknownAt l x
-    → AreMasks (Below (length clue + 1) (IsBeforeGap l clue x)) near → AreMasks (Below (length clue + 1) (IsAfterGap l clue x)) far
-    → AreBothSides (length l) near far new → AreColours (coloured l x false) clue new
-gathered_blank l clue x near far new pos unknown a b both = gathered l clue x false near far new _ _ pos unknown a b both (λ d k. (
-  λ h. elim h [
-    | inl (j, jl, ((gap, ahead), y)) ↦
-        (let le : j ≤ length clue = omega arith in search (rules, blankable_to (coloured l k d) clue x, drop-set-lt))
-    | inr (kl, (j, jl, ((gap, ahead), can))) ↦
-        (let le : j ≤ length clue = omega arith in
-        let y = (after_turned l clue j x k d le unknown.inside kl).0 can in
-        search (rules, blankable_to (coloured l k d) clue x, behind_coloured))
-  ],
-  λ (may, can).
-      let (j, jl, gap, ahead) = blankable_from (coloured l k d) clue x (omega (arith, length-set l k (colour d), unknown.inside)) can in
-      let whole : IsWholeGap l clue j x = search (rules, gap_less, coloured_less, ahead_before) in
-      elim (cases_lt x k) [
-        | inl after ↦ (let turned = (after_turned l clue j x k d jl unknown.inside may.0).1 (omega arith, may, ahead) in
-            inr (may.0, (j, omega arith, (whole, turned))))
-        | inr before ↦ inl (j, omega arith, (whole, (before, may, gap)))
-      ],
-))
+pub pairs_all : (filled : Bool) (places left : ℕ) (P : ℕ → ℕ → Bool → ℕ → Type 0) (old new : List PairMasks)
+    → ArePairsAdded filled places left P old new → nat_eq left 0 ≡ true
+    → ArePairsMore filled (λ x d k. (i : ℕ) × Has places i × P x i d k) old new
+pairs_all filled places left P old new a none =
+    record { more = λ x h. added_all _ _ _ _ _ (a.added x h) none; other = a.other; count = a.count }
 
--- and if it is filled
-pub gathered_filled : (l : List Cell) (clue : List ℕ) (x : ℕ) (near far new : ColourMasks) → ArePositive clue → IsUnknownAt l x
-    → AreMasks (Below (length clue) (IsBeforeRun l clue x)) near → AreMasks (Below (length clue) (IsAfterRun l clue x)) far
-    → AreBothSides (length l) near far new → AreColours (coloured l x true) clue new
-gathered_filled l clue x near far new pos unknown a b both = gathered l clue x true near far new _ _ pos unknown a b both (λ d k. (
-  λ h. elim h [
-    | inl (j, jl, inl (fill, e, over, past, le)) ↦ run_from l clue x k j e d pos jl over (inl (inl (fill, past, le)))
-    | inl (j, jl, inr (i, over, can)) ↦
-        (let same : i + get_or clue j 0 - get_or clue j 0 ≡ i = omega arith in
-        run_from l clue x k j (i + get_or clue j 0) d pos jl over (inl (inr (omega arith, rw same can))))
-    | inr (kl, (j, jl, (i, (first, inside, over), can))) ↦
-        (let back : i - 1 + 1 ≡ i = omega arith in
-        let turned = (after_turned l clue (j + 1) i k d (omega arith) inside kl).0 can in
-        run_from l clue x k j (i - 1) d pos jl over (inr (rw back (inside, turned))))
-  ],
-  λ goes.
-      let (j, jl, e, over, sides) = run_to l clue x k d goes in
-      elim sides [
-        | inl (inl (fill, past, le)) ↦ inl (j, jl, inl (fill, e, over, past, le))
-        | inl (inr (far, can)) ↦ (let same : e - get_or clue j 0 + get_or clue j 0 ≡ e = omega arith in
-            inl (j, jl, inr (e - get_or clue j 0, rw same over, can)))
-        | inr (next, y) ↦
-            (let back : e + 1 - 1 ≡ e = omega arith in
-            let turned = (after_turned l clue (j + 1) (e + 1) k d (omega arith) next goes.0.0).1 y in
-            inr (goes.0.0, (j, jl, (e + 1, (omega arith, next, rw back over), turned))))
-      ],
-))
+-- ---- the pairs of a line
+
+-- what can be with each cell blank that has less than so many runs before it, and filled by one of the first so many
+pub record AreGathered (l : List Cell) (clue : List ℕ) (gaps runs : ℕ) (pairs : List PairMasks) : Type 0 where
+  pub room : length l ≤ length pairs
+  pub blank : (x : ℕ) → x < length l → AreMasks (Below gaps (CanBeWithBlank l clue x)) (get_or pairs x no_pair).if_blank
+  pub filled : (x : ℕ) → x < length l → AreMasks (Below runs (CanBeWithFilled l clue x)) (get_or pairs x no_pair).if_filled
+
+pub gathered_none : (l : List Cell) (clue : List ℕ) (pairs : List PairMasks) → length l ≤ length pairs
+    → ((x : ℕ) → x < length l → get_or pairs x no_pair ≡ no_pair) → AreGathered l clue 0 0 pairs
+gathered_none l clue pairs room none = record {
+  room = room;
+  blank = λ x h. no_below _ _ (ap (λ (p : PairMasks). p.if_blank) (none x h));
+  filled = λ x h. no_below _ _ (ap (λ (p : PairMasks). p.if_filled) (none x h));
+}
+
+pub gathered_gaps : (l : List Cell) (clue : List ℕ) (j runs : ℕ) (old new : List PairMasks) → AreGathered l clue j runs old
+    → ArePairsMore false (λ x. CanBeWithBlank l clue x j) old new → AreGathered l clue (j + 1) runs new
+gathered_gaps l clue j runs old new a more = record {
+  room = omega (arith, a.room, more.count);
+  blank = λ x h. one_below _ j _ _ (a.blank x h) (more.more x (omega (arith, h, a.room)));
+  filled = λ x h. rw (more.other x) (a.filled x h);
+}
+
+pub gathered_run : (l : List Cell) (clue : List ℕ) (gaps j : ℕ) (old new : List PairMasks) → AreGathered l clue gaps j old
+    → ArePairsMore true (λ x. CanBeWithFilled l clue x j) old new → AreGathered l clue gaps (j + 1) new
+gathered_run l clue gaps j old new a more = record {
+  room = omega (arith, a.room, more.count);
+  blank = λ x h. rw (more.other x) (a.blank x h);
+  filled = λ x h. one_below _ j _ _ (a.filled x h) (more.more x (omega (arith, h, a.room)));
+}
+
+pub gathered_all : (l : List Cell) (clue : List ℕ) (pairs : List PairMasks) → ArePositive clue
+    → AreGathered l clue (length clue + 1) (length clue) pairs → ArePairs l clue pairs
+gathered_all l clue pairs pos a = λ x h unknown. record {
+  filled_is = gathered_filled l clue x _ pos (unknown_may l x true h unknown) (a.filled x h);
+  blank_is = gathered_blank l clue x _ pos (unknown_may l x false h unknown) (a.blank x h);
+}

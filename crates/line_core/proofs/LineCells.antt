@@ -1,5 +1,5 @@
 -- The cells of a line that may have a colour, and the lengths of runs.
-use Rattle.std.proofs.Common.{◌↔◌, ◌≡◌, ℕ, ◌+◌, ◌<◌, ◌≤◌, true, false, List, length, get_or, set, sym, subst, arith, rules, inl, inr}
+use Rattle.std.proofs.Common.{◌↔◌, ◌≡◌, ℕ, ◌+◌, ◌<◌, ◌≤◌, true, false, List, length, reverse, get_or, set, sym, subst, arith, rules, inl, inr}
 use Rattle.grid_core.specs.declared.cells.Cell.{Cell}
 use Rattle.grid_core.specs.declared.cells.Cell.TheVariants.{Unknown}
 use Rattle.grid_core.specs.Cells.{allows, is_filled}
@@ -7,6 +7,7 @@ use Rattle.place_sets.specs.Masks.{Has, has, IsMaskOf}
 use Rattle.place_sets.proofs.HasLemmas.{true_has}
 use Rattle.place_sets.proofs.WordSteps.{none_is as is_none, some_place}
 use Rattle.std.proofs.lemmas.Bool.{false_from_ne_true, cases_lt}
+use Rattle.std.proofs.lemmas.List.{get_or-reverse, length-reverse}
 use Rattle.std.proofs.lemmas.Nat.Bits.{bit_at-zero}
 use Rattle.line_core.specs.steps.Reach.{MayBe, AreLengths}
 
@@ -40,3 +41,10 @@ written_more P xs j v l here below k h = search rules
 -- a number of a clue is the length of a run
 pub length_at : (width : ℕ) (clue : List ℕ) (j : ℕ) → AreLengths width clue → j < length clue → (0 < get_or clue j 0) × (get_or clue j 0 ≤ width)
 length_at width clue j are l = (search rules, search rules)
+
+-- a clue that is seen from its other end has the same numbers
+pub lengths_turned : (width : ℕ) (clue : List ℕ) → AreLengths width clue → AreLengths width (reverse clue)
+lengths_turned width clue are = record {
+  positive = λ k d h. search (rules, get_or-reverse, length-reverse, are.positive);
+  short = λ k d h. search (rules, get_or-reverse, length-reverse, are.short);
+}

@@ -19,7 +19,7 @@ pub use Rattle.grid_core.specs.Cells.{CellExtends, Extends, agrees, allows, colo
 pub use Rattle.grid_core.specs.Runs.{is_positive, runs}
 pub use Rattle.grid_core.specs.declared.cells.Cell.{Cell}
 pub use Rattle.grid_core.specs.declared.cells.Cell.TheVariants.{Blank, Filled, Unknown}
-pub use Rattle.line_core.proofs.LineCells.{lacks, length_at, none_has, none_in, none_is, written_more}
+pub use Rattle.line_core.proofs.LineCells.{lacks, length_at, lengths_turned, none_has, none_in, none_is, written_more}
 pub use Rattle.line_core.proofs.RunLaws.{ArePositive, runs_after-close, runs_after-false, runs_after-nil, runs_after-true, runs_after-zero}
 pub use Rattle.line_core.specs.Deduction.{deduced, shared, shared_at}
 pub use Rattle.line_core.specs.Ends.{AreStarts, all_starts, run_starts, starts_run}
@@ -32,9 +32,9 @@ pub use Rattle.line_core.specs.steps.Passes.{IsPassOver, padded}
 pub use Rattle.line_core.specs.steps.Reach.{AreLengths, HasPlacing, IsBlankable, IsEnd, IsEndAfter, IsFillable, IsGap, IsGapAfter, IsGapAhead, IsStartAfter, IsWholeEnd, MayBe, MayBeginBlank, behind}
 pub use Rattle.line_core.specs.Told.{certain_by, told_by}
 pub use Rattle.std.proofs.lemmas.Grind.{common_steps, get_or-set_at}
-pub use Rattle.line_core.specs.Pairs.{ColourMasks, coloured, no_colours, no_pair}
-pub use Rattle.line_core.specs.steps.Pairs.{AreColours, AreColoursBefore, AreWholeEnds, CanBeBefore, IsPairAt, IsWholeGap}
-pub use Rattle.line_core.specs.steps.Gathers.{AreBothSides, AreMasks, AreMore, AreToldOf, HasColour, IsUnknownAt}
+pub use Rattle.line_core.specs.Pairs.{ColourMasks, PairMasks, coloured, masks_if, no_colours, no_pair}
+pub use Rattle.line_core.specs.steps.Pairs.{AreColours, AreColoursBefore, AreWholeEnds, CanBeBefore, CanBeSeen, IsPairAt, IsWholeGap, seen}
+pub use Rattle.line_core.specs.steps.Gathers.{AreMasks, AreMore, ArePairsMore, AreToldOf, CanBeAfter, CanBeBesideGap, CanBeBesideRun, CanBeUpTo, CanBeWithBlank, CanBeWithFilled, HasColour, IsEndOver}
 pub use Rattle.place_sets.proofs.LevelSteps.{levels_none, none_at, number_at}
 pub use Rattle.line_core.specs.steps.Befores.{IsReady, IsRow}
 pub use Rattle.std.proofs.lemmas.List.Sums.{list_all-from_AllPass, sum_by-take-le, sum_by_more}

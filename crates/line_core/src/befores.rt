@@ -2,11 +2,11 @@
 
 ghost use Rattle.std.specs.Prelude.{◌≡◌, ◌+◌, ◌-◌, ◌*◌, ◌<◌, ◌≤◌, ◌⊎◌, ℕ, List, [], ◌∷◌, length, map, slice_index_or};
 ghost use Rattle.grid_core.specs.declared.cells.Cell.{Cell};
-ghost use Rattle.place_sets.specs.Masks.{Has, IsMaskOf, IsShifted};
+ghost use Rattle.place_sets.specs.Masks.{Has, IsMaskOf};
 ghost use Rattle.line_core.specs.steps.Passes.{IsSpanOf};
 ghost use Rattle.line_core.specs.steps.Reach.{AreLengths, IsGapAfter, IsWholeEnd};
 ghost use Rattle.line_core.specs.Pairs.{no_colours};
-ghost use Rattle.line_core.specs.steps.Pairs.{AreColoursBefore, AreTold, AreWholeEnds, AreWholeGaps, IsWholeGap};
+ghost use Rattle.line_core.specs.steps.Pairs.{AreColoursBefore, AreTold, AreWholeEnds, AreWholeGaps, IsWholeGap, seen};
 ghost use Rattle.line_core.specs.steps.Befores.{IsReady, IsRow};
 
 use crate::pairs::Colours;
@@ -49,18 +49,27 @@ pub fn write_wholes<W: PlaceSet>(
     }
 }
 
+/// Some adjacent cells of a line of `len` cells by their places as they are seen, from the line's other end or not.
+fn seen_cells<W: PlaceSet, const TURNED: bool>(len: u16, first: u16, count: u16) -> W
+    requires len { len ≤ W.WIDTH }
+    requires count { (0 < count) × (first + count ≤ len) }
+    ensures { IsMaskOf (λ k. (k < len) × (first ≤ seen TURNED len k) × (seen TURNED len k < first + count)) (W.number result) }
+{
+    let from = if TURNED { len - first - count } else { first };
+    first_places::<W>(count).shifted_up(from)
+}
+
 /// The colours before a gap, as far as a longer gap gives them: its own cell is blank, and the others can be
 /// what they can before the cell before, if that is such a gap too.
-fn colours_in_gap<W: PlaceSet>(place: u16, longer: W, row: &[Colours<W>]) -> Colours<W>
+fn colours_in_gap<W: PlaceSet>(place: u16, own: W, longer: W, row: &[Colours<W>]) -> Colours<W>
     requires place { place < W.WIDTH }
     requires longer { Has (W.number longer) place → 1 ≤ place }
     requires row { place ≤ length row.now }
     ensures fillable { IsMaskOf (λ k. Has (W.number longer) place
         × Has (slice_index_or row.now (place - 1) no_colours).fillable k) result.fillable }
-    ensures blankable { IsMaskOf (λ k. (k ≡ place) ⊎ (Has (W.number longer) place
+    ensures blankable { IsMaskOf (λ k. Has (W.number own) k ⊎ (Has (W.number longer) place
         × Has (slice_index_or row.now (place - 1) no_colours).blankable k)) result.blankable }
 {
-    let own = W::first().shifted_up(place);
     if !longer.contains(place) {
         return Colours {
             fillable: W::empty(),
@@ -70,80 +79,81 @@ fn colours_in_gap<W: PlaceSet>(place: u16, longer: W, row: &[Colours<W>]) -> Col
     let colours = &row[usize::from(place - 1)];
     Colours {
         fillable: colours.fillable,
-        blankable: colours.blankable.union(own),
+        blankable: own.union(colours.blankable),
     }
 }
 
 /// The colours with a run that starts at a place: its own cells are filled, and the others can be what they can
 /// before the gap before it.
-fn run_and_before<W: PlaceSet>(start: u16, run: W, before: &[Colours<W>]) -> Colours<W>
-    requires start { start < W.WIDTH }
-    requires before { start ≤ length before.now }
-    ensures fillable { IsMaskOf (λ k. IsShifted W.WIDTH (Has (W.number run)) start k
+pub fn run_and_before<W: PlaceSet>(start: u16, run: W, before: &[Colours<W>]) -> Colours<W>
+    requires { start ≤ length before.now }
+    ensures fillable { IsMaskOf (λ k. Has (W.number run) k
         ⊎ ((0 < start) × Has (slice_index_or before.now (start - 1) no_colours).fillable k)) result.fillable }
     ensures blankable { IsMaskOf (λ k. (0 < start) × Has (slice_index_or before.now (start - 1) no_colours).blankable k) result.blankable }
 {
-    let own = run.shifted_up(start);
     if start == 0 {
         return Colours {
-            fillable: own,
+            fillable: run,
             blankable: W::empty(),
         };
     }
     let colours = &before[usize::from(start - 1)];
     Colours {
-        fillable: own.union(colours.fillable),
+        fillable: run.union(colours.fillable),
         blankable: colours.blankable,
     }
 }
 
 /// The colours before a gap, as far as a run gives them that ends right before it.
-fn colours_to_run<W: PlaceSet>(
+fn colours_to_run<W: PlaceSet, const TURNED: bool>(
+    len: u16,
     place: u16,
     number: u16,
-    run: W,
     ended: W,
     before: &[Colours<W>],
 ) -> Colours<W>
-    requires place { place < W.WIDTH }
-    requires run { IsMaskOf (λ k. k < number) (W.number run) }
+    requires len { len ≤ W.WIDTH }
+    requires place { place < len }
+    requires number { 0 < number }
     requires ended { Has (W.number ended) place → number ≤ place }
     requires before { place ≤ length before.now }
-    ensures fillable { IsMaskOf (λ k. Has (W.number ended) place × (((place - number ≤ k) × (k < place))
+    ensures fillable { IsMaskOf (λ k. Has (W.number ended) place
+        × (((k < len) × (place - number ≤ seen TURNED len k) × (seen TURNED len k < place))
         ⊎ ((number < place) × Has (slice_index_or before.now (place - number - 1) no_colours).fillable k))) result.fillable }
     ensures blankable { IsMaskOf (λ k. Has (W.number ended) place
         × (number < place) × Has (slice_index_or before.now (place - number - 1) no_colours).blankable k) result.blankable }
 {
     if ended.contains(place) {
-        run_and_before(place - number, run, before)
+        let start = place - number;
+        run_and_before(start, seen_cells::<W, TURNED>(len, start, number), before)
     } else {
         Colours::none()
     }
 }
 
 /// The colours before a gap after a run of `number` cells.
-fn colours_before<W: PlaceSet>(
+fn colours_before<W: PlaceSet, const TURNED: bool>(
+    len: u16,
     place: u16,
     number: u16,
-    run: W,
     longer: W,
     ended: W,
     before: &[Colours<W>],
     row: &[Colours<W>],
 ) -> Colours<W>
-    requires place { place < W.WIDTH }
+    requires len { len ≤ W.WIDTH }
+    requires place { place < len }
     requires number { 0 < number }
-    requires run { IsMaskOf (λ k. k < number) (W.number run) }
     requires longer { Has (W.number longer) place → 1 ≤ place }
     requires ended { Has (W.number ended) place → number ≤ place }
     requires before { place ≤ length before.now }
     requires row { place ≤ length row.now }
-    ensures { (line : List Cell) (runs : List ℕ)
-        → IsReady line runs number place (W.number longer) (W.number ended) before.now row.now
-        → AreColoursBefore line (number ∷ runs) place result }
+    ensures { (line : List Cell) (runs : List ℕ) → len ≡ length line
+        → IsReady TURNED line runs number place (W.number longer) (W.number ended) before.now row.now
+        → AreColoursBefore TURNED line (number ∷ runs) place result }
 {
-    let in_gap = colours_in_gap(place, longer, row);
-    let to_run = colours_to_run(place, number, run, ended, before);
+    let in_gap = colours_in_gap(place, seen_cells::<W, TURNED>(len, place, 1), longer, row);
+    let to_run = colours_to_run::<W, TURNED>(len, place, number, ended, before);
     Colours {
         fillable: in_gap.fillable.union(to_run.fillable),
         blankable: in_gap.blankable.union(to_run.blankable),
@@ -152,12 +162,13 @@ fn colours_before<W: PlaceSet>(
 
 /// Writes the colours before each gap of whole placings that has no run before it.
 #[tactic(auto, using(crate::proofs::GapRows::walks))]
-fn write_first<W: PlaceSet>(gaps: W, row: &mut [Colours<W>])
+fn write_first<W: PlaceSet, const TURNED: bool>(len: u16, gaps: W, row: &mut [Colours<W>])
     ghost line: { List Cell }
+    requires len { (len ≡ length line) × (len ≤ W.WIDTH) }
     requires short { length line ≤ 128 }
     requires gaps { (i : ℕ) → Has (W.number gaps) i → IsGapAfter line [] i }
     requires room { length line ≤ length row.old }
-    ensures row { (i : ℕ) → Has (W.number gaps) i → AreColoursBefore line [] i (slice_index_or row.new i no_colours) }
+    ensures row { (i : ℕ) → Has (W.number gaps) i → AreColoursBefore TURNED line [] i (slice_index_or row.new i no_colours) }
     ensures count { length row.new ≡ length row.old }
 {
     let mut left = gaps;
@@ -166,7 +177,7 @@ fn write_first<W: PlaceSet>(gaps: W, row: &mut [Colours<W>])
         left = left.marked(place, false);
         row[usize::from(place)] = Colours {
             fillable: W::empty(),
-            blankable: first_places(place + 1),
+            blankable: seen_cells::<W, TURNED>(len, 0, place + 1),
         };
     }
 }
@@ -174,21 +185,28 @@ fn write_first<W: PlaceSet>(gaps: W, row: &mut [Colours<W>])
 /// Writes the colours before each gap of whole placings after run j into the second of two rows, of which the first
 /// has those before the gaps before the run.
 #[tactic(auto, using(crate::proofs::GapRows::walks))]
-fn write_row<W: PlaceSet>(clue: &[u16], j: usize, gaps: W, ends: W, rows: &mut [Colours<W>])
+fn write_row<W: PlaceSet, const TURNED: bool>(
+    len: u16,
+    clue: &[u16],
+    j: usize,
+    gaps: W,
+    ends: W,
+    rows: &mut [Colours<W>],
+)
     ghost line: { List Cell }
+    requires len { (len ≡ length line) × (len ≤ W.WIDTH) }
     requires clue { AreLengths W.WIDTH clue.now }
     requires j { j < length clue.now }
     requires short { length line ≤ 128 }
     requires gaps { IsMaskOf (IsWholeGap line clue.now (j + 1)) (W.number gaps) }
     requires ends { IsMaskOf (IsWholeEnd line clue.now j) (W.number ends) }
-    requires before { IsRow line clue.now j 0 rows.old }
+    requires before { IsRow TURNED line clue.now j 0 rows.old }
     requires room { 256 ≤ length rows.old }
-    ensures row { IsRow line clue.now (j + 1) 128 rows.new }
+    ensures row { IsRow TURNED line clue.now (j + 1) 128 rows.new }
     ensures before { (k : ℕ) → k < 128 → slice_index_or rows.new k no_colours ≡ slice_index_or rows.old k no_colours }
     ensures count { length rows.new ≡ length rows.old }
 {
     let number = clue[j];
-    let run = first_places::<W>(number);
     let longer = gaps.shifted_up(1);
     let ended = ends.shifted_up(1);
     let (before, row) = rows.split_at_mut(ROW);
@@ -196,32 +214,35 @@ fn write_row<W: PlaceSet>(clue: &[u16], j: usize, gaps: W, ends: W, rows: &mut [
     while !left.is_empty() {
         let place = left.first_place();
         left = left.marked(place, false);
-        let colours = colours_before(place, number, run, longer, ended, before, row);
+        let colours = colours_before::<W, TURNED>(len, place, number, longer, ended, before, row);
         row[usize::from(place)] = colours;
     }
 }
 
-/// Writes for each gap of whole placings the colours that cells up to it can have together with it.
-pub fn write_before<W: PlaceSet>(
+/// Writes for each gap of whole placings the colours that cells up to it can have together with it, by their places
+/// as they are seen.
+pub fn write_before<W: PlaceSet, const TURNED: bool>(
+    len: u16,
     clue: &[u16],
     gaps: &[W::Kept; GAPS],
     ends: &[W::Kept; GAPS],
     table: &mut [Colours<W>],
 )
     ghost line: { List Cell }
+    requires len { (len ≡ length line) × (len ≤ W.WIDTH) }
     requires clue { AreLengths W.WIDTH clue.now }
     requires count { length clue.now ≤ MOST_RUNS }
     requires short { length line ≤ 128 }
     requires gaps { AreWholeGaps line clue.now (map W.kept_number gaps.now) }
     requires ends { AreWholeEnds line clue.now (map W.kept_number ends.now) }
     requires room { 128 * (length clue.now + 1) ≤ length table.old }
-    ensures table { AreTold line clue.now table.new }
+    ensures table { AreTold TURNED line clue.now table.new }
     ensures count { length table.new ≡ length table.old }
 {
-    write_first(W::of_kept(gaps[0]), table);
+    write_first::<W, TURNED>(len, W::of_kept(gaps[0]), table);
     for j in 0..clue.len() {
         let next = W::of_kept(gaps[j + 1]);
         let run_ends = W::of_kept(ends[j]);
-        write_row(clue, j, next, run_ends, &mut table[ROW * j..]);
+        write_row::<W, TURNED>(len, clue, j, next, run_ends, &mut table[ROW * j..]);
     }
 }

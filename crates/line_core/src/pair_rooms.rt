@@ -1,6 +1,6 @@
 //! All pairs of a line, in room that is made once.
 
-ghost use Rattle.std.specs.Prelude.{◌≡◌, ◌+◌, ◌*◌, ◌<◌, ◌≤◌, List, length, map, reverse, vec_capacity, vec_len, IfOk};
+ghost use Rattle.std.specs.Prelude.{◌≡◌, ◌+◌, ◌*◌, ◌<◌, ◌≤◌, List, length, map, reverse, true, vec_capacity, vec_len, IfOk};
 ghost use Rattle.grid_core.specs.declared.cells.Cell.{Cell};
 ghost use Rattle.line_core.specs.Pairs.{TellOf};
 ghost use Rattle.grid_core.specs.declared.limits.TheConstants.{MOST_RUNS};
@@ -30,8 +30,9 @@ fn make_rows<W: PlaceSet>(table: &mut Vec<Colours<W>>, runs: usize)
     }
 }
 
-/// Writes the gaps and the ends of runs in whole placings, and the colours before each of those gaps.
-fn write_told<W: PlaceSet>(
+/// Writes the gaps and the ends of runs in whole placings, and the colours before each of those gaps, by the places of
+/// cells as they are seen.
+fn write_told<W: PlaceSet, const TURNED: bool>(
     span: &Span<W>,
     clue: &[u16],
     ahead: &mut [W::Kept; GAPS],
@@ -47,14 +48,15 @@ fn write_told<W: PlaceSet>(
     requires room { 128 * (length clue.now + 1) ≤ length table.old }
     ensures gaps { AreWholeGaps line clue.now (map W.kept_number gaps.new) }
     ensures ends { AreWholeEnds line clue.now (map W.kept_number ends.new) }
-    ensures table { AreTold line clue.now table.new }
+    ensures table { AreTold TURNED line clue.now table.new }
     ensures count { length table.new ≡ length table.old }
 {
     write_wholes(span, clue, ahead, gaps, ends);
-    write_before(clue, gaps, ends, table);
+    write_before::<W, TURNED>(span.len, clue, gaps, ends, table);
 }
 
-/// Writes the same of the line and of the clue as they are seen from their other end.
+/// Writes the same of the line and of the clue as they are seen from their other end; the cells of colours have
+/// their own places.
 fn write_told_turned<W: PlaceSet>(
     span: &Span<W>,
     clue: &[u16],
@@ -69,14 +71,14 @@ fn write_told_turned<W: PlaceSet>(
     requires count { length clue.now ≤ MOST_RUNS }
     requires short { length line ≤ 128 }
     requires room { 128 * (length clue.now + 1) ≤ length table.old }
-    ensures table { AreTold (reverse line) (reverse clue.now) table.new }
+    ensures table { AreTold true (reverse line) (reverse clue.now) table.new }
     ensures count { length table.new ≡ length table.old }
 {
     let mut numbers = [0; MOST_RUNS];
     let turned = &mut numbers[..clue.len()];
     turned.copy_from_slice(clue);
     turned.reverse();
-    write_told(&reversed(span), turned, ahead, gaps, ends, table);
+    write_told::<W, true>(&reversed(span), turned, ahead, gaps, ends, table);
 }
 
 /// Writes for each unknown cell of a line and each colour what can be on the line with that colour there, with room
@@ -103,8 +105,8 @@ fn write_pairs<W: PlaceSet>(
     ensures count { length pairs.new ≡ length pairs.old }
 {
     write_told_turned(span, clue, ahead, gaps, ends, after);
-    write_told(span, clue, ahead, gaps, ends, before);
-    gather_pairs(span, clue, gaps, ends, before, after, pairs);
+    write_told::<W, false>(span, clue, ahead, gaps, ends, before);
+    gather_pairs(span.len, clue, gaps, ends, before, after, pairs);
 }
 
 /// The room that pairs of lines take, each part of it written only once it is needed.

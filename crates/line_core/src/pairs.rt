@@ -1,13 +1,14 @@
 //! What is certain of a line once one more of its cells is known.
 
-ghost use Rattle.std.specs.Prelude.{◌≡◌, ◌<◌, ◌≤◌, List, length, slice_index_or, true, IsTrue};
+ghost use Rattle.std.specs.Prelude.{◌≡◌, ◌<◌, ◌≤◌, List, length, not, slice_index_or, true, IsTrue};
 ghost use Rattle.grid_core.specs.declared.cells.Cell.{Cell};
 ghost use Rattle.line_core.specs.steps.Passes.{IsSpanOf};
 ghost use Rattle.line_core.specs.steps.Pairs.{AreColours, ArePairs, IsPairAt, LeaveOpen};
 ghost use Rattle.grid_core.specs.Cells.{colour};
 ghost use Rattle.grid_core.specs.declared.cells.Cell.TheVariants.{Unknown};
 ghost use Rattle.line_core.specs.steps.Reach.{AreLengths};
-ghost use Rattle.line_core.specs.Pairs.{no_colours, masks_if};
+ghost use Rattle.line_core.specs.Pairs.{no_colours, no_pair, masks_if};
+ghost use Rattle.line_core.specs.steps.Gathers.{AreMore, HasColour};
 ghost use Rattle.line_core.specs.Told.{told_by};
 
 use crate::deduction::{certain, colours};
@@ -46,6 +47,24 @@ impl<W: PlaceSet> Colours<W> {
         }
     }
 
+    /// Adds the cells of others.
+    pub(crate) fn add(&mut self, more: &Colours<W>)
+        ensures { AreMore (HasColour more.now) self.old self.new }
+    {
+        self.fillable = self.fillable.union(more.fillable);
+        self.blankable = self.blankable.union(more.blankable);
+    }
+
+    /// The cells of both.
+    pub(crate) fn with(&self, more: &Colours<W>) -> Colours<W>
+        ensures { AreMore (HasColour more.now) self.now result }
+    {
+        Colours {
+            fillable: self.fillable.union(more.fillable),
+            blankable: self.blankable.union(more.blankable),
+        }
+    }
+
     /// What is certain of a line of `len` cells: none if its first cell can have no colour.
     pub fn certain(&self, len: u16) -> Option<LineOf<W>>
         requires { (1 ≤ len) × (len ≤ W.WIDTH) }
@@ -79,8 +98,10 @@ impl<W: PlaceSet> Model for Pair<W> {
 }
 
 impl<W: PlaceSet> Pair<W> {
-    /// What stands where nothing was written.
-    pub fn none() -> Pair<W> {
+    /// Nothing with either colour.
+    pub fn none() -> Pair<W>
+        ensures { result ≡ no_pair }
+    {
         Pair {
             if_filled: Colours::none(),
             if_blank: Colours::none(),
@@ -95,6 +116,18 @@ impl<W: PlaceSet> Pair<W> {
             &self.if_filled
         } else {
             &self.if_blank
+        }
+    }
+
+    /// Adds colours to what can be if the cell has a colour.
+    pub(crate) fn add_if(&mut self, filled: bool, more: &Colours<W>)
+        ensures more { AreMore (HasColour more.now) (masks_if filled self.old) (masks_if filled self.new) }
+        ensures other { masks_if (not filled) self.new ≡ masks_if (not filled) self.old }
+    {
+        if filled {
+            self.if_filled.add(more);
+        } else {
+            self.if_blank.add(more);
         }
     }
 }

@@ -1,5 +1,5 @@
 -- What the masks of a table of pairs mean.
-use Rattle.std.specs.Prelude.{◌≡◌, ℕ, ◌+◌, ◌*◌, ◌<◌, ◌≤◌, Bool, true, false, ◌||◌, List, length, slice_index_or}
+use Rattle.std.specs.Prelude.{◌≡◌, ℕ, ◌+◌, ◌-◌, ◌*◌, ◌<◌, ◌≤◌, Bool, true, false, ◌||◌, List, length, slice_index_or}
 use Rattle.grid_core.specs.declared.cells.Cell.{Cell}
 use Rattle.grid_core.specs.declared.cells.Cell.TheVariants.{Unknown}
 use Rattle.grid_core.specs.Cells.{colour}
@@ -29,10 +29,19 @@ ArePairs line clue pairs = (x : ℕ) → x < length line → slice_index_or line
 abbrev pub CanBeBefore : List Cell → List ℕ → ℕ → Bool → ℕ → Type 0
 CanBeBefore line runs i filled k = (k ≤ i) × MayBe line filled k × IsGapAfter (coloured line k filled) runs i
 
+-- where a cell of a line of `len` cells stands: as it is seen from its other end, or as it is
+abbrev pub seen : Bool → ℕ → ℕ → ℕ
+seen true len k = len - 1 - k
+seen false len k = k
+
+-- and cell k of the line that is seen so
+abbrev pub CanBeSeen : Bool → List Cell → List ℕ → ℕ → Bool → ℕ → Type 0
+CanBeSeen turned line runs i filled k = (k < length line) × CanBeBefore line runs i filled (seen turned (length line) k)
+
 -- the masks of those cells
-pub record AreColoursBefore (line : List Cell) (runs : List ℕ) (i : ℕ) (masks : ColourMasks) : Type 0 where
-  pub fillable_is : IsMaskOf (CanBeBefore line runs i true) masks.fillable
-  pub blankable_is : IsMaskOf (CanBeBefore line runs i false) masks.blankable
+pub record AreColoursBefore (turned : Bool) (line : List Cell) (runs : List ℕ) (i : ℕ) (masks : ColourMasks) : Type 0 where
+  pub fillable_is : IsMaskOf (CanBeSeen turned line runs i true) masks.fillable
+  pub blankable_is : IsMaskOf (CanBeSeen turned line runs i false) masks.blankable
 
 -- a cell is blank in some placing, with the first j runs before it
 abbrev pub IsWholeGap : List Cell → List ℕ → ℕ → ℕ → Type 0
@@ -48,6 +57,6 @@ AreWholeEnds line clue masks = (j : ℕ) → j < length clue → IsMaskOf (IsWho
 
 -- for each gap of whole placings, by the number of runs before it and its place, the colours before it,
 -- in rows of 128
-abbrev pub AreTold : List Cell → List ℕ → List ColourMasks → Type 0
-AreTold line clue table = (j i : ℕ) → j ≤ length clue → IsWholeGap line clue j i
-    → AreColoursBefore line (behind 0 clue j) i (slice_index_or table (128 * j + i) no_colours)
+abbrev pub AreTold : Bool → List Cell → List ℕ → List ColourMasks → Type 0
+AreTold turned line clue table = (j i : ℕ) → j ≤ length clue → IsWholeGap line clue j i
+    → AreColoursBefore turned line (behind 0 clue j) i (slice_index_or table (128 * j + i) no_colours)

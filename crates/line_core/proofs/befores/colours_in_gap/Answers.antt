@@ -10,10 +10,5 @@ returns-clause-blankable g c =
     let read = get_or_read row _ _ (omega arith) c.index-row-from.is no_colours in
     let e : g.W.PlaceSet.number c.colours.inside.blankable ≡ (get_or row (place - 1) no_colours).blankable =
     ap (λ (m : ColourMasks). m.blankable) (c.colours.view_is ∙ read ∙ ap (λ (i : ℕ). get_or row i no_colours) c.from.ensures) in
-    mask_same _ _ _ c.union.ensures (λ k h. elim h [
-      | inl b ↦ inr (longer, rw e at b)
-      | inr o ↦ inl (let x = c.shifted_up-own.ensures.to k o in let z = c.first.ensures.to (k - place) x.2 in omega arith)
-    ]) (λ k h. elim h [
-      | inl o ↦ inr (c.shifted_up-own.ensures.from k (omega arith, omega arith, c.first.ensures.from (k - place) (omega arith)))
-      | inr b ↦ inl (rw e b.1)
-    ])
+    mask_same _ _ _ c.union.ensures (λ k h. elim h [ inl o ↦ inl o | inr b ↦ inr (longer, rw e at b) ])
+    (λ k h. elim h [ inl o ↦ inl o | inr b ↦ inr (rw e b.1) ])

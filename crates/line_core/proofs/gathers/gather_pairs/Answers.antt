@@ -1,34 +1,50 @@
--- `gather_pairs`: the pair of one more unknown cell is written.
-use Rattle.line_core.proofs.Names.{rules, ◌<◌, length, sym, ap, ◌∙◌, arith, length-set, mask_same}
-use Rattle.line_core.proofs.GapRows.{mask_less, walk_more, walk_last, walk_none}
-use Rattle.line_core.proofs.Gathering.{unknown_is}
+-- `gather_pairs`: gap by gap and run by run, and at last the gap after all runs.
+use Rattle.line_core.proofs.Names.{rules, arith, ◌≡◌, ◌∙◌, ◌≤◌, length, recursion_from_All, IsWholeEnd, IsWholeGap}
+use Rattle.line_core.proofs.GapRows.{kept_is}
+use Rattle.line_core.proofs.Gathering.{gathered_all, gathered_gaps, gathered_none, gathered_run}
 use Rattle.line_core.proofs.gathers.gather_pairs.Goals as goal
 
-pub loop-left-smaller : goal.loop-left-smaller
-loop-left-smaller g c = mask_less _ _ _ c.first_place-place.ensures.in_mask c.marked-left.ensures
-
-pub loop-left-init : goal.loop-left-init
-loop-left-init g c =
-    let span = c.requires.1.1.1.0 in
+pub loop-j-init : goal.loop-j-init
+loop-j-init g c =
+    let given = c.requires.1.1.1 in
     record {
-      size = search rules;
-      unknown = mask_same _ _ _ c.intersection-left.ensures (λ x h. (unknown_is g.line x).1 (span.free_is.to x h.0, span.room_is.to x h.1))
-          (λ x u. let two = (unknown_is g.line x).0 u in (span.free_is.from x two.0, span.room_is.from x two.1));
-      written = walk_none _ _ _ _;
+      gathered = gathered_none g.line _ _ (omega (arith, given.1.1.1.1.1.1, c.clear.ensures.count))
+          (λ x h. c.clear.ensures.none x (omega (arith, h, given.0.len_is)));
+      count = c.clear.ensures.count;
     }
 
-pub loop-left-preserved : goal.loop-left-preserved
-loop-left-preserved g c =
-    let before = c.loop-left.invariant in
-    let here = before.unknown.to _ (before.written.within _ c.first_place-place.ensures.in_mask) in
-    let inside : c.first_place-place.result < length c.loop-left.pairs = omega (arith, before.size, here.inside, c.requires.1.1.1.1.1.1.1.1.1.1) in
+pub add_gaps-requires : goal.add_gaps-requires
+add_gaps-requires g c = λ κs within.
+    let given = c.requires.1.1.1 in
+    let j = c.loop-j.j in
+    let gap = kept_is g.W.PlaceSet.kept_number (IsWholeGap g.line c.args.clue.now j) c.args.gaps.now j _ _ (omega (arith, c.told-gaps, given.1.1.0))
+    c.of_kept.ensures (given.1.1.1.0 j (omega arith)) in search (rules, c.loop-j.invariant.gathered.room)
+
+pub add_run-requires : goal.add_run-requires
+add_run-requires g c = λ κs within.
+    let given = c.requires.1.1.1 in
+    let j = c.loop-j.j in
+    let end = kept_is g.W.PlaceSet.kept_number (IsWholeEnd g.line c.args.clue.now j) c.args.ends.now j _ _ (omega (arith, c.told-ends, given.1.1.0))
+    c.of_kept-in-loop-j.ensures (given.1.1.1.1.0 j c.loop-j-test.true) in
+    let room : length g.line ≤ length c.add_gaps.new.pairs = omega (arith, c.loop-j.invariant.gathered.room, c.add_gaps.ensures.count) in search rules
+
+pub loop-j-preserved : goal.loop-j-preserved
+loop-j-preserved g c =
+    let before = c.loop-j.invariant in
     record {
-      size = ap length c.write_pair.ensures ∙ length-set c.loop-left.pairs _ _ ∙ before.size;
-      unknown = before.unknown;
-      written = rw c.write_pair.ensures (walk_more _ _ _ c.first_place-place.result _ _ _ _ _ inside (search rules) c.marked-left.ensures
-          (record { filled_is = c.colours_if_filled.ensures; blank_is = c.colours_if_blank.ensures }) before.written);
+      gathered = gathered_run _ _ _ _ _ _ (gathered_gaps _ _ _ _ _ _ before.gathered c.add_gaps.ensures) c.add_run.ensures;
+      count = c.add_run.ensures.count ∙ c.add_gaps.ensures.count ∙ before.count;
     }
+
+pub add_gaps-requires-2 : goal.add_gaps-requires-2
+add_gaps-requires-2 g c = λ κs within.
+    let given = c.requires.1.1.1 in
+    let count = length c.args.clue.now in
+    let gap = kept_is g.W.PlaceSet.kept_number (IsWholeGap g.line c.args.clue.now count) c.args.gaps.now count _ _ (omega (arith, c.told-gaps, given.1.1.0))
+    c.of_kept-last.ensures (given.1.1.1.0 count (omega arith)) in search (rules, c.loop-j.invariant.gathered.room)
 
 pub returns-clause-pairs : goal.returns-clause-pairs
-returns-clause-pairs g c = λ x within unknown. walk_last _ _ _ _ _ (sym c.is_empty.ensures ∙ c.loop-left-test.false) c.loop-left.invariant.written x
-    (c.loop-left.invariant.unknown.from x (record { inside = within; unknown = unknown }))
+returns-clause-pairs g c =
+    let e : c.loop-j.j ≡ length c.args.clue.now = (let test = c.loop-j-test.false in omega arith) in
+    gathered_all g.line _ _ (recursion_from_All _ _ c.requires.1.1.1.1.0.positive)
+    (gathered_gaps _ _ _ _ _ _ (rw e at c.loop-j.invariant.gathered) c.add_gaps-2.ensures)

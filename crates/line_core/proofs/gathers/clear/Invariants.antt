@@ -1,0 +1,9 @@
+-- What the loop of `clear` keeps: the pairs up to a place are cleared.
+use Rattle.line_core.proofs.Names.{◌≡◌, ℕ, ◌<◌, length, get_or, no_pair}
+use Rattle.line_core.proofs.gathers.clear.Given as goal
+
+abbrev pub invariant-loop-place : goal.invariant-loop-place
+invariant-loop-place g l = record {
+  none : (x : ℕ) → x < l.place → get_or l.pairs x no_pair ≡ no_pair;
+  count : length l.pairs ≡ length l.fn.pairs;
+}

@@ -1,0 +1,13 @@
+-- `write_told_turned`: what is told of the line and the clue that are seen from their other end.
+use Rattle.line_core.proofs.Names.{rules, ◌∙◌, ◌≡◌, ap, sym, reverse, length-reverse, lengths_turned}
+use Rattle.line_core.proofs.pair_rooms.write_told_turned.Goals as goal
+
+pub write_told-requires : goal.write_told-requires
+write_told-requires g c = λ κs within.
+    let same : c.reverse.new.self ≡ reverse c.args.clue.now = c.reverse.ensures.after ∙ ap reverse c.copy_from_slice.ensures.after in
+    let lengths = rw (sym same) at (lengths_turned _ c.args.clue.now c.requires.1.1.1.1.0) in search (rules, same, length-reverse)
+
+pub returns-clause-table : goal.returns-clause-table
+returns-clause-table g c =
+    let same : c.reverse.new.self ≡ reverse c.args.clue.now = c.reverse.ensures.after ∙ ap reverse c.copy_from_slice.ensures.after in
+    rw same at c.write_told.ensures.table
