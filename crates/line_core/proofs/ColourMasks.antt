@@ -20,10 +20,6 @@ masks_same P Q m a same = masks_of Q m (λ d k. search (rules, masks_are P m a d
 pub more_same : (P Q : Bool → ℕ → Type 0) (old new : ColourMasks) → AreMore P old new → ((d : Bool) (k : ℕ) → P d k ↔ Q d k) → AreMore Q old new
 more_same P Q old new a same = masks_same _ _ new a (λ d k. search (rules, same d k))
 
--- and nothing is added
-pub none_more : (P : Bool → ℕ → Type 0) (m : ColourMasks) → ((d : Bool) (k : ℕ) → P d k → ⊥) → AreMore P m m
-none_more P m none = masks_of _ m (λ d k. search (rules, none d k))
-
 -- two things are added, one after the other
 pub more_more : (P Q : Bool → ℕ → Type 0) (old mid new : ColourMasks) → AreMore P old mid → AreMore Q mid new → AreMore (λ d k. P d k ⊎ Q d k) old new
 more_more P Q old mid new a b = masks_same _ _ new b (λ d k. search (rules, masks_are _ mid a d k))
@@ -60,9 +56,6 @@ pub record AreAdded (places left : ℕ) (P : ℕ → Bool → ℕ → Type 0) (o
   pub to : (d : Bool) (k : ℕ) → HasColour new d k → HasColour old d k ⊎ ((i : ℕ) × Has places i × P i d k)
   pub kept : (d : Bool) (k : ℕ) → HasColour old d k → HasColour new d k
   pub added : (i : ℕ) (d : Bool) (k : ℕ) → Has places i → P i d k → Has left i ⊎ HasColour new d k
-
-pub added_none : (places : ℕ) (P : ℕ → Bool → ℕ → Type 0) (old : ColourMasks) → AreAdded places places P old old
-added_none places P old = record { within = λ i h. h; to = λ d k h. inl h; kept = λ d k h. h; added = λ i d k h x. inl h }
 
 pub added_more : (places left next p : ℕ) (P : ℕ → Bool → ℕ → Type 0) (old sum new : ColourMasks) → AreAdded places left P old sum → Has left p
     → IsMaskOf (IsMarked (Has left) p false) next → AreMore (P p) sum new → AreAdded places next P old new

@@ -1,7 +1,7 @@
 -- What can be on a line with a cell coloured, told by what can be before and after that cell, or the run that covers it.
-use Rattle.line_core.proofs.Names.{AreMore, allows, rules, ap, sym, cases_eq, get_or-set_same, true≢false, not, mask_same, get_or-drop, IsShifted, nat_eq, ◌≡◌, ℕ, zero, suc, ◌+◌, ◌-◌, ◌*◌, ◌<◌, ◌≤◌, Bool, true, false, List, ◌∷◌, length, get_or, set, drop, reverse, refl, ◌∙◌, arith, add-one, ◌⊎◌, inl, inr, ◌↔◌, cases_lt, and_from, and_parts, length-set, ext_get_or, get_or-reverse, Has, IsMarked, IsMaskOf, Cell, Unknown, agrees, runs, behind, MayBe, IsGapAhead, IsWholeEnd, ArePositive, get_or-set_other, get_or-set_at, get_or_default, length-reverse, reverse-reverse, drop-set-lt, colour, ColourMasks, PairMasks, no_colours, no_pair, masks_if, coloured, AreColours, CanBeBefore, IsWholeGap, AreMasks, ArePairsMore, AreToldOf, CanBeAfter, CanBeBesideGap, CanBeBesideRun, CanBeUpTo, CanBeWithBlank, CanBeWithFilled, HasColour, IsEndOver}
+use Rattle.line_core.proofs.Names.{AreMore, allows, rules, ap, sym, cases_eq, get_or-set_same, true≢false, not, mask_same, get_or-drop, IsShifted, nat_eq, ◌≡◌, ℕ, zero, suc, ◌+◌, ◌-◌, ◌*◌, ◌<◌, ◌≤◌, Bool, true, false, List, ◌∷◌, length, length_at, get_or, set, drop, reverse, refl, ◌∙◌, arith, add-one, ◌⊎◌, inl, inr, ◌↔◌, cases_lt, and_from, and_parts, length-set, ext_get_or, get_or-reverse, Has, IsMarked, IsMaskOf, Cell, Unknown, agrees, runs, behind, MayBe, IsGapAhead, IsWholeEnd, ArePositive, get_or-set_other, get_or-set_at, get_or_default, length-reverse, reverse-reverse, drop-set-lt, colour, ColourMasks, PairMasks, no_colours, no_pair, masks_if, coloured, AreColours, CanBeBefore, IsWholeGap, AreMasks, ArePairsMore, AreToldOf, CanBeAfter, CanBeBesideGap, CanBeBesideRun, CanBeUpTo, CanBeWithBlank, CanBeWithFilled, HasColour, IsEndOver}
 use Rattle.line_core.specs.steps.Pairs.{ArePairs}
-use Rattle.line_core.proofs.ColourMasks.{AreAdded, Below, added_all, added_more, added_none, masks_are, masks_of, masks_same, more_more, read_at, more_same, no_below, one_below}
+use Rattle.line_core.proofs.ColourMasks.{AreAdded, Below, added_all, added_more, masks_are, masks_of, masks_same, more_more, read_at, more_same, no_below, one_below}
 use Rattle.line_core.proofs.ColouredGaps.{before_are, colour_is, coloured_less, coloured_other, behind_coloured, gap_less, end_less, end_step_to, end_step_from, whole_before_end}
 use Rattle.line_core.proofs.Certain.{CanBe}
 use Rattle.line_core.proofs.Joining.{closed_ahead_to, closed_ahead_from, blankable_to, blankable_from, reversed_gap}
@@ -162,6 +162,8 @@ gap_after_end l clue j e some jl within (end, back) =
 pub end_inside : (l : List Cell) (clue : List ℕ) (j e : ℕ) → 0 < get_or clue j 0 → IsWholeEnd l clue j e → e < length l
 end_inside l clue j e some whole = omega (arith, (whole.0.1.1 (get_or clue j 0 - 1) (omega arith)).0, whole.0.0)
 
+pub ruleset ends = (end_inside, length_at)
+
 -- the cells of a run
 pub run_is : (w s n e m up : ℕ) → e + 1 ≡ s + n → e < w → IsMaskOf (λ i. i < n) m → IsMaskOf (IsShifted w (Has m) s) up
     → IsMaskOf (λ k. (s ≤ k) × (k ≤ e)) up
@@ -244,9 +246,6 @@ pub record ArePairsAdded (filled : Bool) (places left : ℕ) (P : ℕ → ℕ �
   pub added : (x : ℕ) → x < length old → AreAdded places left (P x) (masks_if filled (get_or old x no_pair)) (masks_if filled (get_or new x no_pair))
   pub other : (x : ℕ) → masks_if (not filled) (get_or new x no_pair) ≡ masks_if (not filled) (get_or old x no_pair)
   pub count : length new ≡ length old
-
-pub pairs_none : (filled : Bool) (places : ℕ) (P : ℕ → ℕ → Bool → ℕ → Type 0) (old : List PairMasks) → ArePairsAdded filled places places P old old
-pairs_none filled places P old = record { within = λ i h. h; added = λ x h. added_none places (P x) _; other = λ x. refl; count = refl }
 
 pub pairs_more : (filled : Bool) (places left next p : ℕ) (P : ℕ → ℕ → Bool → ℕ → Type 0) (old sum new : List PairMasks)
     → ArePairsAdded filled places left P old sum → Has left p → IsMaskOf (IsMarked (Has left) p false) next

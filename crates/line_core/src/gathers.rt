@@ -53,6 +53,7 @@ fn colours_with_gap<W: PlaceSet>(
 }
 
 /// What can be on a line with run j at one of its ends in whole placings.
+#[tactic(auto, using(crate::proofs::Gathering::ends))]
 fn colours_with_run<W: PlaceSet>(
     len: u16,
     clue: &[u16],

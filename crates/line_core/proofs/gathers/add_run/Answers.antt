@@ -16,9 +16,6 @@ overflow_add-next g c =
     let number = length_at _ c.args.clue.now c.args.j given.1.0 given.1.1.1.0 in
     omega (arith, end_inside g.line c.args.clue.now c.args.j _ number.0 whole, given.0.short, given.0.len_is)
 
-pub overflow_sub-next : goal.overflow_sub-next
-overflow_sub-next g c = (c.requires.1.1.1.1.1.1.0.to _ (c.loop-left.invariant.within _ c.first_place-end.ensures.in_mask)).0.0
-
 pub add_to_each-requires : goal.add_to_each-requires
 add_to_each-requires g c =
     let given = c.requires.1.1 in

@@ -5,18 +5,6 @@ use Rattle.line_core.proofs.GapRows.{part_is}
 use Rattle.line_core.proofs.Gathering.{beside_is, end_inside, run_is, up_to_is}
 use Rattle.line_core.proofs.gathers.colours_with_run.Goals as goal
 
-pub overflow_add-next : goal.overflow_add-next
-overflow_add-next g c =
-    let given = c.requires.1.1 in
-    let number = length_at _ c.args.clue.now c.args.j given.1.0 given.1.1.1.0 in
-    omega (arith, end_inside g.line c.args.clue.now c.args.j c.args.end number.0 given.1.1.1.1.0, given.0.short, given.0.len_is)
-
-pub shifted_up-run-requires : goal.shifted_up-run-requires
-shifted_up-run-requires g c =
-    let given = c.requires.1.1 in
-    let number = length_at _ c.args.clue.now c.args.j given.1.0 given.1.1.1.0 in
-    omega (arith, end_inside g.line c.args.clue.now c.args.j c.args.end number.0 given.1.1.1.1.0, given.0.len_is, given.0.within, number)
-
 pub run_and_before-colours-requires : goal.run_and_before-colours-requires
 run_and_before-colours-requires g c =
     let given = c.requires.1.1 in
