@@ -92,14 +92,6 @@ pub progress-keeps : (f : List Cell → Option (List Cell)) (r : Progress) (old 
     f new ≡ f old
 progress-keeps f r old new h k = search rules
 
--- if no line is marked after steps that keep the closure, the cells are the closure of the first ones
-pub closed_after : (p : Nonogram) (marks : LineMarks) (first cells middle new : List Cell) (r : Progress) → r ≢ Dead →
-    Progresses (closure (lines_of p)) r cells middle → new ≡ middle → HasMarks p marks new → AreUnmarked marks →
-    closure (lines_of p) cells ≡ closure (lines_of p) first → Some new ≡ closure (lines_of p) first
-closed_after p marks first cells middle new r n h e m unmarked same =
-    sym (unmarked_closed p marks new m unmarked) ∙ ap (closure (lines_of p)) e ∙
-    progress-keeps (closure (lines_of p)) r cells middle n h ∙ same
-
 -- a line stays as it is if a cell of another line of its side is written
 apart_kept : (p : Nonogram) (cells : List Cell) (side : Side) (i b k j : ℕ) (c : Cell) → i < count_on side p.width p.height →
     b < count_on (crossing side) p.width p.height → k ≡ place_on side p.width i b → j < count_on side p.width p.height → j ≢ i →

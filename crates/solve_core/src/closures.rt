@@ -1,30 +1,34 @@
 //! The closure of a grid, by a mark at each line that may have more to give.
-ghost use Rattle.std.specs.Prelude.{◌≡◌, ◌≢◌, ℕ, ◌+◌, ◌*◌, ◌<◌, ◌≤◌, ◌↔◌, true, false, List, length, slice_set, slice_index_or, IsTrue};
+ghost use Rattle.std.specs.Prelude.{◌≡◌, ◌≢◌, ℕ, ◌+◌, ◌*◌, ◌<◌, ◌≤◌, ◌↔◌, true, false, List, None, length, slice_set, slice_index_or, IsTrue, IfOk};
 ghost use Rattle.grid_core.specs.Cells.{is_filled, is_known};
 ghost use Rattle.grid_core.specs.Nonogram.{Nonogram, crossing, line_on, lines_of};
 ghost use Rattle.grid_core.specs.steps.Sides.{count_on};
 ghost use Rattle.place_sets.specs.Masks.{Has, has, IsMarked, IsMaskOf};
 ghost use Rattle.grid_core.specs.declared.cells.Cell.{Cell as CellValue};
 ghost use Rattle.grid_core.specs.declared.cells.Cell.TheVariants.{Unknown};
+ghost use Rattle.grid_core.specs.declared.sides.Side.{Side as SideValue};
 ghost use Rattle.solve_core.specs.Closure.{closure};
 ghost use Rattle.solve_core.specs.steps.Closers.{AreFresh, IsIdle, IsMemoryOf};
 ghost use Rattle.solve_core.specs.steps.Deductions.{AreRight};
-ghost use Rattle.solve_core.specs.steps.LineMarks.{marks_on, IsMarkedOn, IsUnmarkedOn, StayFresh};
+ghost use Rattle.solve_core.specs.steps.LineMarks.{marks_on, IsMarkedOn, StayFresh};
 ghost use Rattle.solve_core.specs.steps.LinePairs.{IsNeutralAt};
 ghost use Rattle.solve_core.specs.steps.Marks.{HasMarks, IsLearned, MarksChanges, HasWork, LeavesWork, Progresses, IsAtRest};
 ghost use Rattle.solve_core.specs.Closure.{if_alive};
 ghost use Rattle.solve_core.specs.steps.Trails.{CanSettle, IsTrailed, cleared};
 ghost use Rattle.solve_core.specs.steps.Boards.{fresh_board, IsBoardOf};
+ghost use Rattle.solve_core.specs.steps.Widths.{FitsIn};
 ghost use Rattle.solve_core.specs.declared.closures.Progress.TheVariants.{Dead, Same};
 
 use crate::boards::Board;
+use crate::dead_ends::DeadEnds;
 use crate::deductions::Deductions;
 use crate::grid_lines::GridLines;
 use crate::learners::Learner;
 use crate::marks::Marks;
-use grid_core::{Cell, Puzzle, Side};
+use grid_core::{Cell, NoMemory, Puzzle, Side};
 use line_core::{LineOf, LineSet};
 use place_sets::PlaceSet;
+use std::alloc::Global;
 use std::marker::Model;
 
 /// What became of a grid by a step that adds to what is known.
@@ -38,15 +42,6 @@ pub enum Progress {
     Changed,
 }
 
-impl Progress {
-    /// Whether a contradiction was found.
-    pub fn is_dead(self) -> bool
-        ensures { IsTrue result ↔ (self ≡ Dead) }
-    {
-        matches!(&self, Progress::Dead)
-    }
-}
-
 /// What closing works with: tables, what is remembered of lines, and a mark for each line that may have more to
 /// give.
 #[derive(Drop)]
@@ -57,6 +52,7 @@ pub struct Closer<W: LineSet> {
     fresh: Marks<W>,
     /// How many copies in succession were alive, at most 16.
     calm: u8,
+    dead_ends: DeadEnds<W>,
 }
 
 /// How many copies in succession are alive before tables are made: while colours are refuted, lines change too
@@ -112,6 +108,7 @@ fn learn_line<W: LineSet, B: Learner<W>>(
     board: &mut B,
     marks: &mut Marks<W>,
     fresh: &mut Marks<W>,
+    dead_ends: &mut DeadEnds<W>,
 ) -> Progress
     requires i { i < count_on side puzzle.now.width puzzle.now.height }
     requires board { IsBoardOf puzzle.now (B.board board.old) }
@@ -128,6 +125,7 @@ fn learn_line<W: LineSet, B: Learner<W>>(
 {
     let old = board.line(side, i);
     let Some(new) = deductions.deduce(puzzle, side, i, old) else {
+        dead_ends.note(side, i, W::empty());
         return Progress::Dead;
     };
     let changes = old.changes(&new);
@@ -137,12 +135,13 @@ fn learn_line<W: LineSet, B: Learner<W>>(
     let open = open_changes(deductions, side, i, &new, changes, fresh, B::KEEPS);
     marks.add(side.crossing(), open);
     board.learn(side, i, &new, changes);
+    dead_ends.note(side, i, changes);
     Progress::Changed
 }
 
 impl<W: LineSet> Closer<W> {
     /// Closes grids by these deductions of their lines. No line is marked.
-    pub fn new(deductions: Deductions<W>) -> Closer<W>
+    pub fn new(deductions: Deductions<W>, dead_ends: DeadEnds<W>) -> Closer<W>
         ensures { (p : Nonogram) → AreRight W.WIDTH p deductions → IsIdle p result }
     {
         Closer {
@@ -150,12 +149,36 @@ impl<W: LineSet> Closer<W> {
             marks: Marks::none(),
             fresh: Marks::none(),
             calm: 0,
+            dead_ends,
         }
     }
 
-    /// Its deductions.
-    pub fn into_deductions(self) -> Deductions<W> {
-        self.deductions
+    /// Makes the room for closing grids of a puzzle, of that of another one, if there is one.
+    pub fn for_puzzle(
+        alloc: Global,
+        other: Option<Closer<W>>,
+        puzzle: &Puzzle,
+    ) -> Result<Closer<W>, NoMemory>
+        requires { FitsIn W.WIDTH puzzle.now }
+        ensures { IfOk result (λ closer. IsMemoryOf puzzle.now closer) }
+    {
+        let (deductions, dead_ends) = match other {
+            Some(
+                Closer {
+                    deductions,
+                    marks: _,
+                    fresh: _,
+                    calm: _,
+                    dead_ends,
+                },
+            ) => (Some(deductions), Some(dead_ends)),
+            None => (None, None),
+        };
+        let cells = usize::from(puzzle.width()) * usize::from(puzzle.height());
+        Ok(Closer::new(
+            Deductions::new(alloc, deductions, puzzle)?,
+            DeadEnds::new(alloc, dead_ends, cells)?,
+        ))
     }
 
     /// Deduces line i of a side.
@@ -186,56 +209,76 @@ impl<W: LineSet> Closer<W> {
             board,
             &mut self.marks,
             &mut self.fresh,
+            &mut self.dead_ends,
         )
     }
 
-    /// Deduces each marked line of a side.
-    fn deduce_side<B: Learner<W>>(&mut self, puzzle: &Puzzle, side: Side, board: &mut B) -> Progress
+    /// Deduces those of some lines of a side that are marked.
+    fn deduce_side<B: Learner<W>>(
+        &mut self,
+        puzzle: &Puzzle,
+        side: Side,
+        lines: W,
+        board: &mut B,
+    ) -> Progress
         requires work { HasWork puzzle.now self.old (B.board board.old).cells }
         requires size { IsBoardOf puzzle.now (B.board board.old) }
         ensures progress { Progresses (closure (lines_of puzzle.now)) result (B.board board.old).cells (B.board board.new).cells }
         ensures work { LeavesWork result puzzle.now self.new (B.board board.new).cells }
-        ensures unmarked { result ≢ Dead → IsUnmarkedOn self.new.marks side }
+        ensures unmarked { result ≢ Dead → (i : ℕ) → Has (W.number lines) i → IsMarkedOn self.new.marks side i → ⊥ }
         ensures same { result ≡ Same → marks_on (crossing side) self.new.marks ≡ marks_on (crossing side) self.old.marks }
         ensures trail { B.KEEPS ≡ true → IsTrailed (B.board board.old) (B.board board.new) }
         ensures size { IsBoardOf puzzle.now (B.board board.new) }
         ensures tables { self.new.kept.tables ≡ self.old.kept.tables }
     {
         let mut progress = Progress::Same;
-        let mut from = 0;
-        while let Some(i) = self.marks.first(side, from) {
+        let mut left = self.marks.on(side).intersection(lines);
+        while !left.is_empty() {
+            let i = left.first_place();
             match self.deduce_line(puzzle, side, i, board) {
                 Progress::Dead => return Progress::Dead,
                 Progress::Same => {}
                 Progress::Changed => progress = Progress::Changed,
             }
-            from = i + 1;
+            left = left.marked(i, false);
         }
         progress
     }
 
-    /// Deduces marked lines until none is marked: all rows in turn, then all columns, and again. Returns
-    /// whether the grid is alive.
-    fn deduce_marked<B: Learner<W>>(&mut self, puzzle: &Puzzle, board: &mut B) -> bool
+    /// Deduces marked lines until none of some lines is marked: all rows in turn, then all columns, and again.
+    /// Returns whether the grid is alive.
+    fn deduce_marked<B: Learner<W>>(
+        &mut self,
+        puzzle: &Puzzle,
+        board: &mut B,
+        lines: &Marks<W>,
+    ) -> bool
         requires work { HasWork puzzle.now self.old (B.board board.old).cells }
         requires size { IsBoardOf puzzle.now (B.board board.old) }
-        ensures closed { if_alive result (B.board board.new).cells ≡ closure (lines_of puzzle.now) (B.board board.old).cells }
-        ensures rest { IsTrue result → IsAtRest puzzle.now self.new (B.board board.new).cells }
+        ensures dead { result ≡ false → closure (lines_of puzzle.now) (B.board board.old).cells ≡ None }
+        ensures alive { IsTrue result → closure (lines_of puzzle.now) (B.board board.new).cells
+            ≡ closure (lines_of puzzle.now) (B.board board.old).cells }
+        ensures marks { IsTrue result → HasMarks puzzle.now self.new.marks (B.board board.new).cells }
+        ensures unmarked { IsTrue result → (side : SideValue) (i : ℕ) →
+            IsMarkedOn lines.now side i → IsMarkedOn self.new.marks side i → ⊥ }
         ensures trail { B.KEEPS ≡ true → IsTrailed (B.board board.old) (B.board board.new) }
         ensures size { IsBoardOf puzzle.now (B.board board.new) }
         ensures fresh { AreFresh puzzle.now self.new.fresh self.new.kept.tables (B.board board.new).cells }
         ensures tables { self.new.kept.tables ≡ self.old.kept.tables }
         ensures memory { IsMemoryOf puzzle.now self.new }
     {
+        let mut side = Side::Rows;
         loop {
-            if self.deduce_side(puzzle, Side::Rows, board).is_dead() {
-                return false;
-            }
-            match self.deduce_side(puzzle, Side::Columns, board) {
+            match self.deduce_side(puzzle, side, lines.on(side), board) {
                 Progress::Dead => return false,
-                Progress::Same => return true,
+                Progress::Same => {
+                    if side == Side::Columns {
+                        return true;
+                    }
+                }
                 Progress::Changed => {}
             }
+            side = side.crossing();
         }
     }
 
@@ -251,7 +294,7 @@ impl<W: LineSet> Closer<W> {
         ensures fresh { AreFresh puzzle.now self.new.fresh self.new.kept.tables (B.board board.new).cells }
         ensures tables { self.new.kept.tables ≡ self.old.kept.tables }
     {
-        let alive = self.deduce_marked(puzzle, board);
+        let alive = self.deduce_marked(puzzle, board, &Marks::all());
         if !alive {
             self.marks = Marks::none();
         }
@@ -306,6 +349,27 @@ impl<W: LineSet> Closer<W> {
         self.fresh = Marks::none();
     }
 
+    /// Gives an unknown cell of a board at rest a colour, and marks its row and its column.
+    fn settle(&mut self, puzzle: &Puzzle, board: &mut Board<W>, place: usize, colour: Cell)
+        requires rest { IsAtRest puzzle.now self.old board.old.cells }
+        requires fresh { AreFresh puzzle.now self.old.fresh self.old.kept.tables board.old.cells }
+        requires size { IsBoardOf puzzle.now board.old }
+        requires cell { CanSettle board.old.cells place colour }
+        ensures work { HasWork puzzle.now self.new board.new.cells }
+        ensures cells { board.new.cells ≡ slice_set board.old.cells place colour }
+        ensures tables { self.new.kept.tables ≡ self.old.kept.tables }
+        ensures trail { IsTrailed board.old board.new }
+        ensures size { IsBoardOf puzzle.now board.new }
+    {
+        let width = usize::from(puzzle.width());
+        let (x, y) = (place % width, place / width);
+        self.marks.set(Side::Rows, y as u16, true);
+        self.marks.set(Side::Columns, x as u16, true);
+        self.fresh.set(Side::Rows, y as u16, false);
+        self.fresh.set(Side::Columns, x as u16, false);
+        board.settle(x, y, colour);
+    }
+
     /// Gives an unknown cell of a board at rest a colour, and closes the board by what that says of the
     /// cell's row and its column. Returns whether it is alive; dead cells are open. No line is marked then,
     /// and the board leads back to where it was.
@@ -328,14 +392,39 @@ impl<W: LineSet> Closer<W> {
         ensures trail { IsTrailed board.old board.new }
         ensures size { IsBoardOf puzzle.now board.new }
     {
-        let width = usize::from(puzzle.width());
-        let (x, y) = (place % width, place / width);
-        self.marks.set(Side::Rows, y as u16, true);
-        self.marks.set(Side::Columns, x as u16, true);
-        self.fresh.set(Side::Rows, y as u16, false);
-        self.fresh.set(Side::Columns, x as u16, false);
-        board.settle(x, y, colour);
+        self.settle(puzzle, board, place, colour);
         self.propagate(puzzle, board)
+    }
+
+    /// As `assign`, but the lines by which the same guess died before come first.
+    pub fn guess(
+        &mut self,
+        puzzle: &Puzzle,
+        board: &mut Board<W>,
+        place: usize,
+        colour: Cell,
+    ) -> bool
+        requires rest { IsAtRest puzzle.now self.old board.old.cells }
+        requires fresh { AreFresh puzzle.now self.old.fresh self.old.kept.tables board.old.cells }
+        requires size { IsBoardOf puzzle.now board.old }
+        requires cell { CanSettle board.old.cells place colour }
+        ensures closed { if_alive result board.new.cells ≡ closure (lines_of puzzle.now) (slice_set board.old.cells place colour) }
+        ensures idle { IsIdle puzzle.now self.new }
+        ensures rest { IsTrue result → IsAtRest puzzle.now self.new board.new.cells }
+        ensures fresh { AreFresh puzzle.now self.new.fresh self.new.kept.tables board.new.cells }
+        ensures tables { self.new.kept.tables ≡ self.old.kept.tables }
+        ensures trail { IsTrailed board.old board.new }
+        ensures size { IsBoardOf puzzle.now board.new }
+    {
+        self.settle(puzzle, board, place, colour);
+        let hints = self.dead_ends.start(place, colour);
+        let alive = self.deduce_marked(puzzle, board, &hints) && self.propagate(puzzle, board);
+        self.dead_ends.stop();
+        if !alive {
+            self.marks = Marks::none();
+            self.dead_ends.remember(place, colour);
+        }
+        alive
     }
 
     /// Gives an unknown cell of a board at rest a colour, on a copy. Returns whether the copy is alive, which

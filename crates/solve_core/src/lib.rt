@@ -4,6 +4,7 @@
 mod boards;
 mod branches;
 mod closures;
+mod dead_ends;
 mod deductions;
 mod findings;
 mod grid_lines;

@@ -5,6 +5,7 @@ ghost use Rattle.solve_core.specs.Report.{grid_of, line_grid, unknown_grid};
 ghost use Rattle.solve_core.specs.steps.Widths.{FitsIn};
 
 use crate::closures::Closer;
+use crate::dead_ends::DeadEnds;
 use crate::deductions::Deductions;
 use crate::grid_lines::GridLines;
 use crate::rooms::emptied;
@@ -48,7 +49,7 @@ fn line_grid_within<W: LineSet>(alloc: Global, puzzle: &Puzzle) -> Result<Option
     let rows = emptied(alloc, Vec::new(alloc), usize::from(height))?;
     let columns = emptied(alloc, Vec::new(alloc), usize::from(width))?;
     let deductions = Deductions::with_room(alloc, None, 1, 0, 0)?;
-    let mut closer = Closer::<W>::new(deductions);
+    let mut closer = Closer::<W>::new(deductions, DeadEnds::new(alloc, None, 0)?);
     let mut lines = GridLines::unknown(rows, columns, width, height);
     Ok(closed_grid(&mut closer, puzzle, &mut lines, grid))
 }

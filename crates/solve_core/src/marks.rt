@@ -3,12 +3,12 @@ ghost use Rattle.std.specs.Prelude.{◌≡◌, ◌<◌, ◌≤◌, ◌↔◌, �
 ghost use Rattle.grid_core.specs.declared.sides.Side.{Side as SideValue};
 ghost use Rattle.grid_core.specs.Nonogram.{crossing};
 ghost use Rattle.grid_core.specs.steps.Sides.{count_on};
-ghost use Rattle.place_sets.specs.Masks.{Has, has, IsFirstFrom, IsMarked, IsMaskOf};
+ghost use Rattle.place_sets.specs.Masks.{Has, has, IsMarked, IsMaskOf};
 ghost use Rattle.solve_core.specs.steps.LineMarks.{marks_on, AreUnmarked, IsMarkedOn};
 
 use grid_core::Side;
 use line_core::LineSet;
-use place_sets::{first_from, first_places};
+use place_sets::first_places;
 use std::marker::Model;
 
 /// A mark for each line of a grid: those of the rows in one set, and those of the columns in another.
@@ -34,6 +34,16 @@ impl<W: LineSet> Marks<W> {
         Marks {
             rows: W::empty(),
             columns: W::empty(),
+        }
+    }
+
+    /// A mark at each line.
+    pub fn all() -> Marks<W>
+        ensures { (side : SideValue) (i : ℕ) → i < W.WIDTH → IsMarkedOn result side i }
+    {
+        Marks {
+            rows: W::full(),
+            columns: W::full(),
         }
     }
 
@@ -106,13 +116,5 @@ impl<W: LineSet> Marks<W> {
             Side::Rows => self.rows,
             Side::Columns => self.columns,
         }
-    }
-
-    /// The first marked line of a side from one on, if there is one.
-    pub fn first(&self, side: Side, from: u16) -> Option<u16>
-        requires { from ≤ W.WIDTH }
-        ensures { IsFirstFrom W.WIDTH (marks_on side self.now) from result }
-    {
-        first_from(self.on(side), from)
     }
 }

@@ -104,7 +104,7 @@ fn explore<W: LineSet>(
     ensures size { IsSizeOf puzzle.now solutions.new.width solutions.new.height }
 {
     closer.forget_fresh();
-    if !closer.assign(puzzle, board, place, colour) {
+    if !closer.guess(puzzle, board, place, colour) {
         return None;
     }
     look_at(board, place, pick, solutions)

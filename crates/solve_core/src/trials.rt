@@ -20,7 +20,6 @@ ghost use Rattle.solve_core.specs.declared.closures.Progress.TheVariants.{Dead, 
 
 use crate::boards::{Board, BoardRoom};
 use crate::closures::{Closer, Progress};
-use crate::deductions::Deductions;
 use crate::witnesses::Witnesses;
 use grid_core::{Cell, NoMemory, Puzzle};
 use line_core::LineSet;
@@ -110,7 +109,7 @@ impl<W: LineSet> TrialRoom<W> {
         ensures memory { IfOk result (λ room. IsMemoryOf puzzle.now room.closer) }
         ensures room { IfOk result (λ room. HasTrialRoom puzzle.now room.filled room.blank room.witnesses.room) }
     {
-        let (deductions, filled, blank, witnesses) = match others {
+        let (closer, filled, blank, witnesses) = match others {
             Some(
                 TrialRoom {
                     closer,
@@ -118,17 +117,12 @@ impl<W: LineSet> TrialRoom<W> {
                     blank,
                     witnesses,
                 },
-            ) => (
-                Some(closer.into_deductions()),
-                Some(filled),
-                Some(blank),
-                Some(witnesses),
-            ),
+            ) => (Some(closer), Some(filled), Some(blank), Some(witnesses)),
             None => (None, None, None, None),
         };
         let (width, height) = (puzzle.width(), puzzle.height());
         Ok(TrialRoom {
-            closer: Closer::new(Deductions::new(alloc, deductions, puzzle)?),
+            closer: Closer::for_puzzle(alloc, closer, puzzle)?,
             filled: BoardRoom::new(alloc, filled, width, height)?,
             blank: BoardRoom::new(alloc, blank, width, height)?,
             witnesses: Witnesses::new(alloc, witnesses, puzzle)?,

@@ -6,33 +6,33 @@ use Rattle.solve_core.proofs.SearchSteps.{next-unknown, alive-fewer, known-befor
 use Rattle.solve_core.proofs.ClosureLaws.{closure-IsLeastClosed}
 use Rattle.solve_core.proofs.search.explore.Goals as goal
 
-pub assign-requires-clause-cell : goal.assign-requires-clause-cell
-assign-requires-clause-cell g c =
+pub guess-requires-clause-cell : goal.guess-requires-clause-cell
+guess-requires-clause-cell g c =
     let p = c.args.puzzle.now in
     let at = next-unknown (picked c.args.pick p.width) (picked-IsPick c.args.pick p.width) (lines_of p) c.args.board.now.cells
     c.args.place c.requires.next in
     record { within = at.0; unknown = at.1; known = c.requires.colour }
 
-pub returns-then-not-assign-clause-goes_on : goal.returns-then-not-assign-clause-goes_on
-returns-then-not-assign-clause-goes_on g c =
+pub returns-then-not-guess-clause-goes_on : goal.returns-then-not-guess-clause-goes_on
+returns-then-not-guess-clause-goes_on g c =
     let p = c.args.puzzle.now in
     let rule = picked c.args.pick p.width in
     let lines = lines_of p in
     let old = c.args.board.now in
-    let new = c.assign.new.board in
+    let new = c.guess.new.board in
     let given = set old.cells c.args.place c.args.colour in
     λ branches w.
     let same : owed_by rule p branches new ≡ events rule lines given ++ owed_by rule p branches old =
-    trailed-pending rule lines old new branches c.assign.ensures.trail w
-    ∙ closed-events rule (picked-IsPick c.args.pick p.width) lines given None (owed_by rule p branches old) c.if-not-assign.ensures.closed in
+    trailed-pending rule lines old new branches c.guess.ensures.trail w
+    ∙ closed-events rule (picked-IsPick c.args.pick p.width) lines given None (owed_by rule p branches old) c.if-not-guess.ensures.closed in
     record {
-      under_way = record { work = trailed-work rule lines old new branches c.assign.ensures.trail w; older = tt; next_open = tt };
+      under_way = record { work = trailed-work rule lines old new branches c.guess.ensures.trail w; older = tt; next_open = tt };
       ends = λ spent left. ap (ending p c.args.solutions.now.grids spent left) same;
       fewer = omega (arith, ap length same);
     }
 
 pub look_at-requires-clause-known : goal.look_at-requires-clause-known
-look_at-requires-clause-known g c = search (rules, known-before, c.requires.next, c.if-not-assign.ensures.closed)
+look_at-requires-clause-known g c = search (rules, known-before, c.requires.next, c.if-not-guess.ensures.closed)
 
 pub returns-clause-goes_on : goal.returns-clause-goes_on
 returns-clause-goes_on g c =
@@ -40,24 +40,24 @@ returns-clause-goes_on g c =
     let rule = picked c.args.pick p.width in
     let lines = lines_of p in
     let old = c.args.board.now in
-    let new = c.assign.new.board in
+    let new = c.guess.new.board in
     let given = set old.cells c.args.place c.args.colour in
     let at = next-unknown rule (picked-IsPick c.args.pick p.width) lines old.cells c.args.place c.requires.next in
     λ branches w.
     let same : guess_at (events rule lines) new.cells (rule new.cells) ++ owed_by rule p branches new ≡
     events rule lines given ++ owed_by rule p branches old =
     closed-events rule (picked-IsPick c.args.pick p.width) lines given (Some new.cells) (owed_by rule p branches new)
-    c.if-not-assign.ensures.closed
-    ∙ ap (λ es. events rule lines given ++ es) (trailed-pending rule lines old new branches c.assign.ensures.trail w) in
+    c.if-not-guess.ensures.closed
+    ∙ ap (λ es. events rule lines given ++ es) (trailed-pending rule lines old new branches c.guess.ensures.trail w) in
     record {
       under_way = record {
-        work = trailed-work rule lines old new branches c.assign.ensures.trail w;
+        work = trailed-work rule lines old new branches c.guess.ensures.trail w;
         older = search (rules, before-more, length-append, alive-fewer);
         next_open = search (rules, closure-IsLeastClosed);
       };
-      ends = λ spent left. (rw c.assign.ensures.size.0 at c.look_at.ensures.ending) p c.requires.size spent left
+      ends = λ spent left. (rw c.guess.ensures.size.0 at c.look_at.ensures.ending) p c.requires.size spent left
           (owed_by rule p branches new) ∙ ap (ending p c.args.solutions.now.grids spent left) same;
-      fewer = omega (arith, (rw c.assign.ensures.size.0 at c.look_at.ensures.fewer) p (owed_by rule p branches new), ap length same);
+      fewer = omega (arith, (rw c.guess.ensures.size.0 at c.look_at.ensures.fewer) p (owed_by rule p branches new), ap length same);
     }
 
 pub look_at-requires-clause-start : goal.look_at-requires-clause-start
@@ -65,4 +65,4 @@ look_at-requires-clause-start g c =
     let p = c.args.puzzle.now in
     let at = next-unknown (picked c.args.pick p.width) (picked-IsPick c.args.pick p.width) (lines_of p) c.args.board.now.cells
     c.args.place c.requires.next in
-    omega (arith, at.0, c.assign.ensures.size.2, c.requires.board.2)
+    omega (arith, at.0, c.guess.ensures.size.2, c.requires.board.2)

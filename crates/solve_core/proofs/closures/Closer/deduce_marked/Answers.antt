@@ -1,34 +1,29 @@
--- `Closer::deduce_marked`: if a pass over the columns learns nothing, no mark is left: the board is closed.
-use Rattle.solve_core.proofs.Names.{◌∙◌, sym, true≢false, AreUnmarked, IsTrailed, TrailedGrid, rules}
+-- `Closer::deduce_marked`: a pass takes the marks of a side; if one over the columns learns nothing, the rows have none.
+use Rattle.solve_core.proofs.Names.{◌≡◌, ◌≢◌, ◌∙◌, ℕ, Has, Side, Rows, Columns, crossing, LineMarks, marks_on, IsMarkedOn, Dead, sym, rules}
 use Rattle.solve_core.proofs.TrailSteps.{trailed-trans}
-use Rattle.solve_core.proofs.GridSteps.{closed_after, progress-keeps}
-use Rattle.solve_core.proofs.SideLines.{by_side}
+use Rattle.solve_core.proofs.GridSteps.{progress-keeps}
 use Rattle.solve_core.proofs.closures.Closer.deduce_marked.Goals as goal
-use Rattle.solve_core.proofs.closures.Closer.deduce_marked.Given.{Over}
-use Rattle.solve_core.proofs.closures.Closer.deduce_marked.Goals.{In-Same}
-
-twice : (a b c d : TrailedGrid) → IsTrailed a b → IsTrailed b c → IsTrailed c d → IsTrailed a d
-twice a b c d x y z = trailed-trans a c d (trailed-trans a b c x y) z
-
-unmarked : (g : Over) (c : In-Same g) → AreUnmarked c.deduce_side-in-loop-self.new.self.marks
-unmarked g c = search (rules, by_side, true≢false)
-
-pub returns-in-Same-clause-closed : goal.returns-in-Same-clause-closed
-returns-in-Same-clause-closed g c =
-    let board = g.B.Learner.board in
-    closed_after c.args.puzzle.now c.deduce_side-in-loop-self.new.self.marks (board c.args.board.now).cells (board c.loop-self.board).cells
-    (board c.deduce_side.new.board).cells (board c.deduce_side-in-loop-self.new.board).cells c.deduce_side.result
-    (λ e. true≢false (sym (c.is_dead.ensures.1 e) ∙ c.if-is_dead.false)) c.deduce_side.ensures.progress c.in-Same.ensures.progress
-    c.in-Same.ensures.work.marks (unmarked g c) c.loop-self.invariant.closed
-
-pub returns-then-is_dead-clause-trail : goal.returns-then-is_dead-clause-trail
-returns-then-is_dead-clause-trail g c = search (rules, trailed-trans)
+use Rattle.solve_core.proofs.closures.Closer.deduce_marked.Goals.{in-Same+else-eq, in-Changed}
 
 pub returns-in-Dead-clause-trail : goal.returns-in-Dead-clause-trail
-returns-in-Dead-clause-trail g c = search (rules, twice)
+returns-in-Dead-clause-trail g c = λ keeps. trailed-trans _ _ _ (c.loop-side.invariant.trail keeps) (c.deduce_side.ensures.trail keeps)
 
-pub returns-in-Same-clause-trail : goal.returns-in-Same-clause-trail
-returns-in-Same-clause-trail g c = search (rules, twice)
+-- after a pass over the rows none of them has a mark
+passed : (side : Side) (lines marks : LineMarks) (n : ℕ) → n ≡ marks_on side lines → ((i : ℕ) → Has n i → IsMarkedOn marks side i → ⊥) →
+    crossing side ≡ Columns → (i : ℕ) → IsMarkedOn lines Rows i → IsMarkedOn marks Rows i → ⊥
+passed Rows lines marks n e none next = rw e at none
+passed Columns lines marks n e none next = cc
 
-pub loop-self-preserved : goal.loop-self-preserved
-loop-self-preserved g c = search (rules, twice, progress-keeps, true≢false)
+pub loop-side-preserved : goal.loop-side-preserved
+loop-side-preserved g c =
+    let kept = c.loop-side.invariant in
+    let pass = c.deduce_side.ensures in
+    let alive : c.deduce_side.result ≢ Dead = elim c.match-deduce_side.branch [ in-Same+else-eq w ↦ λ dead. cc | in-Changed w ↦ λ dead. cc ] in
+    record {
+      work = elim c.match-deduce_side.branch [ in-Same+else-eq w ↦ search rules | in-Changed w ↦ search rules ];
+      trail = λ keeps. trailed-trans _ _ _ (kept.trail keeps) (pass.trail keeps);
+      size = pass.size;
+      tables = pass.tables ∙ kept.tables;
+      closed = progress-keeps _ _ _ _ alive pass.progress ∙ kept.closed;
+      rows = λ columns. passed c.loop-side.side _ _ _ c.on.ensures (pass.unmarked alive) (sym c.crossing-side.ensures ∙ columns);
+    }

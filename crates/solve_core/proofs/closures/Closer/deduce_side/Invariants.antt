@@ -1,10 +1,11 @@
--- What the loop of `Closer::deduce_side` keeps: what `progress` says, and that no line passed has a mark.
-use Rattle.solve_core.proofs.Names.{◌≡◌, ◌≢◌, ◌-◌, ◌<◌, ◌≤◌, ℕ, true, crossing, lines_of, Dead, Same, closure, marks_on, IsMarkedOn, HasWork, Progresses, IsTrailed, IsBoardOf}
+-- What the loop of `Closer::deduce_side` keeps: what `progress` says, and that the lines with a mark are those left.
+use Rattle.solve_core.proofs.Names.{◌≡◌, ◌≢◌, ◌<◌, ℕ, true, Has, count_on, crossing, lines_of, Dead, Same, closure, marks_on, IsMarkedOn, HasWork, Progresses, IsTrailed, IsBoardOf}
 use Rattle.solve_core.proofs.closures.Closer.deduce_side.Given as goal
 
-abbrev pub invariant-loop-i : goal.invariant-loop-i
-invariant-loop-i g l =
+abbrev pub invariant-loop-side : goal.invariant-loop-side
+invariant-loop-side g l =
     let board = g.B.Learner.board in
+    let number = g.W.PlaceSet.number in
     record {
       work : HasWork l.puzzle l.self (board l.board).cells;
       trail : g.B.Learner.KEEPS ≡ true → IsTrailed (board l.fn.board) (board l.board);
@@ -13,9 +14,9 @@ invariant-loop-i g l =
       progress : Progresses (closure (lines_of l.puzzle)) l.progress (board l.fn.board).cells (board l.board).cells;
       alive : l.progress ≢ Dead;
       same : l.progress ≡ Same → marks_on (crossing l.side) l.self.marks ≡ marks_on (crossing l.side) l.fn.self.marks;
-      passed : (k : ℕ) → k < l.from → IsMarkedOn l.self.marks l.side k → ⊥;
-      within : l.from ≤ g.W.PlaceSet.WIDTH;
+      left : (k : ℕ) → Has (number l.fn.lines) k → IsMarkedOn l.self.marks l.side k → Has (number l.left) k;
+      within : (k : ℕ) → Has (number l.left) k → k < count_on l.side l.puzzle.width l.puzzle.height;
     }
 
-abbrev pub decreases-loop-i : goal.decreases-loop-i
-decreases-loop-i g l = g.W.PlaceSet.WIDTH - l.from
+abbrev pub decreases-loop-side : goal.decreases-loop-side
+decreases-loop-side g l = g.W.PlaceSet.number l.left

@@ -1,0 +1,5 @@
+-- `Closer::for_puzzle`: what is made closes the puzzle's grids.
+use Rattle.solve_core.proofs.closures.Closer.for_puzzle.Goals as goal
+
+pub returns : goal.returns
+returns g c = (c.new-3.ensures c.args.puzzle.now c.in_ok-new.ensures).memory
