@@ -42,8 +42,8 @@ pub enum Progress {
     Changed,
 }
 
-/// What closing works with: tables, what is remembered of lines, and a mark for each line that may have more to
-/// give.
+/// What closing works with: tables, what is remembered of lines and of guesses that died, and a mark for each line
+/// that may have more to give.
 #[derive(Drop)]
 pub struct Closer<W: LineSet> {
     deductions: Deductions<W>,
@@ -213,7 +213,7 @@ impl<W: LineSet> Closer<W> {
         )
     }
 
-    /// Deduces those of some lines of a side that are marked.
+    /// Deduces the marked ones of some lines of a side.
     fn deduce_side<B: Learner<W>>(
         &mut self,
         puzzle: &Puzzle,
@@ -245,8 +245,8 @@ impl<W: LineSet> Closer<W> {
         progress
     }
 
-    /// Deduces marked lines until none of some lines is marked: all rows in turn, then all columns, and again.
-    /// Returns whether the grid is alive.
+    /// Deduces the marked ones of some lines until none of them is marked: the rows in turn, then the columns, and
+    /// again. Returns whether the grid is alive.
     fn deduce_marked<B: Learner<W>>(
         &mut self,
         puzzle: &Puzzle,

@@ -13,8 +13,7 @@ const MOST_STEPS: usize = 1024;
 /// The most places that sets have in which dead ends are remembered.
 const MOST_PLACES: u16 = 128;
 
-/// What a guess made certain of a line: the line as a set of one place, and the places of its cells that it
-/// learned.
+/// What a line learned since a guess: the line as a set of one place, and the places of its cells that changed.
 #[derive(Drop)]
 struct Step<W: LineSet> {
     side: Side,
@@ -63,7 +62,7 @@ impl<W: LineSet> DeadEnds<W> {
         })
     }
 
-    /// The lines by which a guess died when it last did. What is made certain of lines is noted from here on.
+    /// The lines by which a guess died when it last did. What lines learn is noted from here on.
     pub fn start(&mut self, place: usize, colour: Cell) -> Marks<W> {
         self.steps.clear();
         self.noting = true;
@@ -79,7 +78,7 @@ impl<W: LineSet> DeadEnds<W> {
         }
     }
 
-    /// Notes what line i of a side learned, nothing if it is dead.
+    /// Notes which cells of line i of a side changed, none if it is dead.
     pub fn note(&mut self, side: Side, i: u16, changes: W)
         requires { i < W.WIDTH }
     {
@@ -97,7 +96,8 @@ impl<W: LineSet> DeadEnds<W> {
         self.noting = false;
     }
 
-    /// The line of the last step, and the lines that learned something that mattered to it.
+    /// The line of the last step, which is dead, and back from there each line that changed where one of these
+    /// crosses it.
     fn reasons(&self) -> Marks<W> {
         let mut reasons = Marks::none();
         for step in self.steps.iter().rev() {

@@ -1,4 +1,4 @@
--- `Closer::deduce_marked`: a pass takes the marks of a side; if one over the columns learns nothing, the rows have none.
+-- `Closer::deduce_marked`: a pass takes the marks of a side, and if it learns nothing it gives the other one none.
 use Rattle.solve_core.proofs.Names.{◌≡◌, ◌≢◌, ◌∙◌, ℕ, Has, Side, Rows, Columns, crossing, LineMarks, marks_on, IsMarkedOn, Dead, sym, rules}
 use Rattle.solve_core.proofs.TrailSteps.{trailed-trans}
 use Rattle.solve_core.proofs.GridSteps.{progress-keeps}
@@ -18,7 +18,8 @@ pub loop-side-preserved : goal.loop-side-preserved
 loop-side-preserved g c =
     let kept = c.loop-side.invariant in
     let pass = c.deduce_side.ensures in
-    let alive : c.deduce_side.result ≢ Dead = elim c.match-deduce_side.branch [ in-Same+else-eq w ↦ λ dead. cc | in-Changed w ↦ λ dead. cc ] in
+    let alive : c.deduce_side.result ≢ Dead =
+    elim c.match-deduce_side.branch [ in-Same+else-eq w ↦ λ dead. cc | in-Changed w ↦ λ dead. cc ] in
     record {
       work = elim c.match-deduce_side.branch [ in-Same+else-eq w ↦ search rules | in-Changed w ↦ search rules ];
       trail = λ keeps. trailed-trans _ _ _ (kept.trail keeps) (pass.trail keeps);

@@ -1,4 +1,4 @@
--- What the loop of `Closer::deduce_marked` keeps: the cells' closure; each turn settles some, or goes on to the columns.
+-- What the loop of `Closer::deduce_marked` keeps: the cells' closure; each turn settles some, or takes a side.
 use Rattle.solve_core.proofs.Names.{◌≡◌, ◌+◌, ◌*◌, ℕ, true, Side, Rows, Columns, IsMarkedOn, lines_of, closure, HasWork, IsTrailed, unknown_count, IsBoardOf}
 use Rattle.solve_core.proofs.closures.Closer.deduce_marked.Given as goal
 
@@ -14,7 +14,7 @@ invariant-loop-side g l =
       rows : l.side ≡ Columns → (i : ℕ) → IsMarkedOn l.lines Rows i → IsMarkedOn l.self.marks Rows i → ⊥;
     }
 
--- how many sides a pass over one has left to go
+-- how many sides come after one
 abbrev pub sides_left : Side → ℕ
 sides_left Rows = 1
 sides_left Columns = 0
