@@ -100,6 +100,7 @@ fn open_changes<W: LineSet>(
 
 /// Writes what is certain of line i of a side, and marks the lines that cross it at the cells that it learned, if
 /// they may have more to give.
+#[inline(always)]
 fn learn_line<W: LineSet, B: Learner<W>>(
     deductions: &mut Deductions<W>,
     puzzle: &Puzzle,
@@ -182,6 +183,7 @@ impl<W: LineSet> Closer<W> {
     }
 
     /// Deduces line i of a side.
+    #[inline(always)]
     fn deduce_line<B: Learner<W>>(
         &mut self,
         puzzle: &Puzzle,
@@ -267,18 +269,20 @@ impl<W: LineSet> Closer<W> {
         ensures tables { self.new.kept.tables ≡ self.old.kept.tables }
         ensures memory { IsMemoryOf puzzle.now self.new }
     {
-        let mut side = Side::Rows;
         loop {
-            match self.deduce_side(puzzle, side, lines.on(side), board) {
+            if let Progress::Dead = self.deduce_side(
+                puzzle,
+                Side::Rows,
+                lines.on(Side::Rows),
+                board,
+            ) {
+                return false;
+            }
+            match self.deduce_side(puzzle, Side::Columns, lines.on(Side::Columns), board) {
                 Progress::Dead => return false,
-                Progress::Same => {
-                    if side == Side::Columns {
-                        return true;
-                    }
-                }
+                Progress::Same => return true,
                 Progress::Changed => {}
             }
-            side = side.crossing();
         }
     }
 

@@ -1,30 +1,39 @@
--- `Closer::deduce_marked`: a pass takes the marks of a side, and if it learns nothing it gives the other one none.
-use Rattle.solve_core.proofs.Names.{◌≡◌, ◌≢◌, ◌∙◌, ℕ, Has, Side, Rows, Columns, crossing, LineMarks, marks_on, IsMarkedOn, Dead, sym, rules}
+-- `Closer::deduce_marked`: if a pass over the columns learns nothing, the rows have no mark from the pass before.
+use Rattle.solve_core.proofs.Names.{◌≡◌, ◌≢◌, ◌∙◌, ℕ, Dead, Same, Has, Side, Rows, Columns, LineMarks, marks_on, IsMarkedOn, closure, lines_of, refl, IsTrailed, TrailedGrid, rules}
 use Rattle.solve_core.proofs.TrailSteps.{trailed-trans}
 use Rattle.solve_core.proofs.GridSteps.{progress-keeps}
 use Rattle.solve_core.proofs.closures.Closer.deduce_marked.Goals as goal
-use Rattle.solve_core.proofs.closures.Closer.deduce_marked.Goals.{in-Same+else-eq, in-Changed}
+
+twice : (a b c d : TrailedGrid) → IsTrailed a b → IsTrailed b c → IsTrailed c d → IsTrailed a d
+twice a b c d x y z = trailed-trans a c d (trailed-trans a b c x y) z
+
+not_dead : Same ≢ Dead
+not_dead e = cc
+
+-- of some lines none has a mark if no row had one before, and no column has one since
+unmarked : (lines old new : LineMarks) (m n : ℕ) → m ≡ marks_on Rows lines → n ≡ marks_on Columns lines
+    → ((i : ℕ) → Has m i → IsMarkedOn old Rows i → ⊥) → marks_on Rows new ≡ marks_on Rows old → ((i : ℕ) → Has n i → IsMarkedOn new Columns i → ⊥)
+    → (side : Side) (i : ℕ) → IsMarkedOn lines side i → IsMarkedOn new side i → ⊥
+unmarked lines old new m n e f rows same columns Rows i h k = rows i (rw e h) (rw same at k)
+unmarked lines old new m n e f rows same columns Columns i h k = columns i (rw f h) k
 
 pub returns-in-Dead-clause-trail : goal.returns-in-Dead-clause-trail
-returns-in-Dead-clause-trail g c = λ keeps. trailed-trans _ _ _ (c.loop-side.invariant.trail keeps) (c.deduce_side.ensures.trail keeps)
+returns-in-Dead-clause-trail g c = λ keeps. trailed-trans _ _ _ (c.loop-self.invariant.trail keeps) (c.deduce_side.ensures.trail keeps)
 
--- after a pass over the rows none of them has a mark
-passed : (side : Side) (lines marks : LineMarks) (n : ℕ) → n ≡ marks_on side lines → ((i : ℕ) → Has n i → IsMarkedOn marks side i → ⊥) →
-    crossing side ≡ Columns → (i : ℕ) → IsMarkedOn lines Rows i → IsMarkedOn marks Rows i → ⊥
-passed Rows lines marks n e none next = rw e at none
-passed Columns lines marks n e none next = cc
+pub returns-in-Dead-deduce_side : goal.returns-in-Dead-deduce_side
+returns-in-Dead-deduce_side g c =
+    let same = progress-keeps _ _ _ _ c.in_default.not-Dead c.deduce_side.ensures.progress ∙ c.loop-self.invariant.closed in search (rules, twice)
 
-pub loop-side-preserved : goal.loop-side-preserved
-loop-side-preserved g c =
-    let kept = c.loop-side.invariant in
-    let pass = c.deduce_side.ensures in
-    let alive : c.deduce_side.result ≢ Dead =
-    elim c.match-deduce_side.branch [ in-Same+else-eq w ↦ λ dead. cc | in-Changed w ↦ λ dead. cc ] in
-    record {
-      work = elim c.match-deduce_side.branch [ in-Same+else-eq w ↦ search rules | in-Changed w ↦ search rules ];
-      trail = λ keeps. trailed-trans _ _ _ (kept.trail keeps) (pass.trail keeps);
-      size = pass.size;
-      tables = pass.tables ∙ kept.tables;
-      closed = progress-keeps _ _ _ _ alive pass.progress ∙ kept.closed;
-      rows = λ columns. passed c.loop-side.side _ _ _ c.on.ensures (pass.unmarked alive) (sym c.crossing-side.ensures ∙ columns);
-    }
+pub returns-in-Same : goal.returns-in-Same
+returns-in-Same g c =
+    let first = c.deduce_side.ensures in
+    let pass = c.in-Same.ensures in
+    let close = closure (lines_of c.args.puzzle.now) in
+    let same = progress-keeps close _ _ _ not_dead pass.progress ∙ progress-keeps close _ _ _ c.in_default.not-Dead first.progress
+    ∙ c.loop-self.invariant.closed in
+    let none = unmarked c.args.lines.now c.deduce_side.new.self.marks c.deduce_side-in-loop-self.new.self.marks _ _ c.on.ensures c.on-in-loop-self.ensures
+    (first.unmarked c.in_default.not-Dead) (pass.same refl) (pass.unmarked not_dead) in
+    search (rules, twice)
+
+pub loop-self-preserved : goal.loop-self-preserved
+loop-self-preserved g c = search (rules, twice, progress-keeps)
