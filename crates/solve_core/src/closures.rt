@@ -216,6 +216,8 @@ impl<W: LineSet> Closer<W> {
     }
 
     /// Deduces the marked ones of some lines of a side.
+    // Inlined for each side with all that it calls, it asks nowhere which one it is.
+    #[inline(always)]
     fn deduce_side<B: Learner<W>>(
         &mut self,
         puzzle: &Puzzle,
