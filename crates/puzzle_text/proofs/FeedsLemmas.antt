@@ -8,8 +8,6 @@ IsOther byte = not (eqb byte 10) ≡ true
 abbrev IsClean : List ℕ → Type 0
 IsClean bytes = All IsOther bytes
 
--- ---- what holds of a line's text, and of its parts, holds of a field's text
-
 module _ (P : List ℕ → Type 0) (cut : (n : ℕ) (bytes : List ℕ) → P bytes → P (drop n bytes))
     (turn : (bytes : List ℕ) → P bytes → P (reverse bytes)) where
   of_start : (bytes : List ℕ) → P bytes → P (trim_start bytes)
@@ -43,8 +41,6 @@ clean_strip byte bytes h = cond_both _ _ _ IsClean (λ _. All-take IsOther (leng
 clean_text : (line : Line) → has_no_feed line.text ≡ true → has_no_feed (quoted_text line) ≡ true
 clean_text line h = search (rules, list_all-from_AllPass, of_text IsClean (All-drop IsOther) clean_reverse, AllPass-from_list_all)
 
--- ---- lines
-
 -- a line without its line feed has none
 abbrev IsRaw : List ℕ → Type 0
 IsRaw raw = IsClean (strip_last 10 raw)
@@ -66,8 +62,6 @@ clean_lines number (raw ∷ raws) h =
 pub lines_have_no_feed : (bytes : List ℕ) (text : List Line) → text_lines bytes ≡ Ok text → HaveNoFeed text
 lines_have_no_feed bytes text e = search (rules, clean_lines, all_raw)
 
--- ---- fields
-
 -- the lines that a filter keeps have no line feed in them either
 pub clean_filter : (p : Line → Bool) (text : List Line) → HaveNoFeed text → HaveNoFeed (filter p text)
 clean_filter p text h = search (recursion_from_All, All-filter, All-from_recursion)
@@ -85,7 +79,7 @@ least_none m n e = search rules
 
 each_none : (numbers : List (Option ℕ)) → least_of numbers ≡ None → AllByRecursion (λ number. number ≡ None) numbers
 each_none [] e = tt
-each_none (number ∷ numbers) e = let parts = least_none number (least_of numbers) e in (parts.0, each_none numbers parts.1)
+each_none (number ∷ numbers) e = search (rules, each_none numbers, least_none)
 
 -- if no line is bad, the texts may stand in their fields
 pub lawful_texts : (stray : Option ℕ) (text : List Line) → HaveNoFeed text → bad_line stray text ≡ None → IsDescription (texts_of text)
@@ -110,9 +104,7 @@ short_first : (word : List ℕ) (kept : List KeywordLine) → are_short kept ≡
 short_first word [] h = refl
 short_first word (found ∷ kept) h = search (rules, short_first word kept, and_parts, leb-true, short_here)
 
-or_stray : (stray : Option ℕ) → least stray None ≡ stray
-or_stray stray = search rules
-
 -- if no line is long, no text is
 pub short_lines : (stray : Option ℕ) (kept : List KeywordLine) → are_short kept ≡ true → bad_line stray (map shown_keyword kept) ≡ stray
-short_lines stray kept h = search (short_first, or_stray)
+short_lines None kept h = search short_first
+short_lines (Some number) kept h = search short_first

@@ -2,8 +2,6 @@
 use Rattle.puzzle_text.proofs.Names.{rules, ◌≡◌, ℕ, ◌≤◌, Bool, true, false, List, [], ◌∷◌, refl, Option, Some, Result, option_and_then, list_all, and_parts, le-leb, leb-true, TextFault, is_run, Line, number_within, pieces, ◌>>=◌, each, each_some, clue_of, clues_of, size_of, two_sizes, size_line, both_clues}
 use Rattle.puzzle_text.specs.Laws.{GreaterLimitKeeps, KeepsAnswer}
 
--- ---- options
-
 -- what old gives, new gives
 abbrev KeepsSome : {A : Type 0} → Option A → Option A → Type 0
 KeepsSome {A} old new = (x : A) → old ≡ Some x → new ≡ Some x
@@ -17,8 +15,6 @@ some-each : {X Y : Type 0} (f g : X → Option Y) (xs : List X) → ((x : X) →
 some-each f g [] next = λ x e. e
 some-each f g (x ∷ xs) next = search (rules, some-each f g xs next, some-bind)
 
--- ---- results
-
 keeps-same : {A : Type 0} (r : Result A TextFault) → KeepsAnswer r r
 keeps-same r = λ _ _. refl
 
@@ -30,8 +26,6 @@ keeps-each : {X Y : Type 0} (f g : X → Result Y TextFault) (xs : List X) → (
     → KeepsAnswer (each f xs) (each g xs)
 keeps-each f g [] next = λ _ _. refl
 keeps-each f g (x ∷ xs) next = search (keeps-bind, keeps-same, next x, keeps-each f g xs next)
-
--- ---- numbers, sizes and clues
 
 module _ (a b : ℕ) (le : a ≤ b) where
   number_keeps : (piece : List ℕ) → KeepsSome (number_within a piece) (number_within b piece)

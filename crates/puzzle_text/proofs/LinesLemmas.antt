@@ -1,12 +1,12 @@
 -- Lemmas on lines.
-use Rattle.puzzle_text.proofs.Names.{rules, ◌≡◌, ℕ, ◌+◌, ◌<◌, true, eqb, List, [], ◌∷◌, length, take, drop, get_or, refl, arith, inl, inr, Option, Some, None, position_or_len, position, cases_Bool, false_from_ne_true, le-ltb, lt-ltb, ltb-true, ltb-false, take_all, drop_all, get_or-take, length-take-le, take-take, fails_before_first, position_or_len_is, cond_some, numbered_from, raw_lines, strip_last, trim, position-Some}
+use Rattle.puzzle_text.proofs.Names.{rules, ◌≡◌, ℕ, ◌+◌, ◌<◌, true, eqb, List, [], ◌∷◌, length, take, drop, get_or, refl, arith, Option, Some, None, position_or_len, position, cases_Bool, false_from_ne_true, le-ltb, lt-ltb, ltb-true, ltb-false, take_all, drop_all, get_or-take, length-take-le, take-take, fails_before_first, position_or_len_is, cond_some, numbered_from, raw_lines, strip_last, trim, position-Some}
 use Rattle.memchr.specs.Find.{IsFirstByte, is_byte}
 
 -- the first line is the bytes up to the first line feed
 cut_at : (bytes : List ℕ) → 0 < length bytes → raw_lines bytes ≡ take (position_or_len (λ byte. eqb byte 10) bytes + 1) bytes
     ∷ raw_lines (drop (position_or_len (λ byte. eqb byte 10) bytes + 1) bytes)
 cut_at [] h = absurd (omega arith)
-cut_at (byte ∷ []) h = elim (cases_Bool (eqb byte 10)) [ inl feed ↦ rw feed refl | inr other ↦ rw other refl ]
+cut_at (byte ∷ []) h = search (rules, cases_Bool)
 cut_at (byte ∷ next ∷ bytes) h = search (rules, cut_at (next ∷ bytes) (omega arith), cases_Bool)
 
 -- the first line ends at the first line feed
@@ -17,8 +17,6 @@ cut_at_feed bytes i e = search (rules, cond_some, ltb-true, cut_at)
 -- and if there is none, with the text
 pub cut_at_end : (bytes : List ℕ) → 0 < length bytes → position (λ byte. eqb byte 10) bytes ≡ None → raw_lines bytes ≡ bytes ∷ []
 cut_at_end bytes h e = search (rules, ltb-false, cut_at, take_all, drop_all)
-
--- ---- the first line feed
 
 -- what a search for a line feed gives
 pub feed_found : (bytes : List ℕ) (found : Option ℕ) → IsFirstByte (is_byte 10) bytes found → found ≡ position (λ byte. eqb byte 10) bytes

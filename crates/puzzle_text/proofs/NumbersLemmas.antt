@@ -1,5 +1,5 @@
--- Lemmas on numbers in a line.
-use Rattle.puzzle_text.proofs.Names.{cond_some, slice_split_first, rules, ◌≡◌, ℕ, zero, suc, ◌+◌, ◌-◌, ◌*◌, ◌<◌, ◌≤◌, true, false, not, List, [], ◌∷◌, length, take, drop, get_or, refl, arith, Option, Some, None, option_and_then, option_map, list_all, position, position_or_len, is_ascii_digit, digits_value, and-false, cases_Bool, le-leb, lt-leb, ltb-true, ltb-false, ne_eqb, nat_tests, get_or-take, get_or_default, length-take-le, take_all, drop_all, take-take, slice_split_none, AllPass-from_list_all, fails_before_first, position_or_len_is, prefix_len-le-length, list_all_at, list_all_more, digits_value-take-le, numbers_within, is_separator, number_within, pieces, position-Some, prefix_len_stops}
+-- Lemmas on numbers in a line, and on the sums of clues.
+use Rattle.puzzle_text.proofs.Names.{cond_some, slice_split_first, rules, ◌≡◌, ℕ, zero, suc, ◌+◌, ◌-◌, ◌*◌, ◌<◌, ◌≤◌, true, false, not, List, [], ◌∷◌, length, take, drop, get_or, refl, arith, Option, Some, None, option_and_then, option_map, list_all, position, position_or_len, is_ascii_digit, digits_value, and-false, cases_Bool, le-leb, lt-leb, ltb-true, ltb-false, ne_eqb, nat_tests, get_or-take, get_or_default, length-take-le, take_all, drop_all, take-take, slice_split_none, AllPass-from_list_all, fails_before_first, position_or_len_is, prefix_len-le-length, list_all_at, list_all_more, digits_value-take-le, numbers_within, is_separator, number_within, pieces, position-Some, prefix_len_stops, sum, and_parts, leb-true, sum_by-cons, is_clue, is_run}
 use borrow.Author.Count.{below_more}
 use Rattle.std.proofs.lemmas.Int.Digits.{digits_value_more}
 
@@ -15,8 +15,6 @@ next_value bytes i h digit = search (rules, digits_value_more, nat_tests)
 -- a front that is past the limit already
 pub past_limit : (limit : ℕ) (piece : List ℕ) (i : ℕ) → limit < digits_value 10 (take i piece) → number_within limit piece ≡ None
 past_limit limit piece i h = search (rules, lt-leb, digits_value-take-le)
-
--- ---- the first piece
 
 -- the first separator's place, or the length
 abbrev end_of : List ℕ → ℕ
@@ -76,3 +74,11 @@ module _ (limit : ℕ) (text : List ℕ) (some : 0 < length text) (first : is_se
   number_past i h digits past =
       let within = clear_within text i h (digits_clear text i h digits) in
       by_first None (past_limit limit (take (end_of text) text) i (rw (take-take i (end_of text) text within) past))
+
+runs_sum : (numbers : List ℕ) → list_all (is_run 256) numbers ≡ true → sum numbers ≤ 256 * length numbers
+runs_sum [] runs = omega arith
+runs_sum (number ∷ numbers) runs = grind (arith, nat_tests, sum_by-cons (λ (x : ℕ). x) number numbers, runs_sum numbers)
+
+-- how many numbers a clue has, and how many cells it fills
+pub clue_bounds : (numbers : List ℕ) → is_clue 256 numbers ≡ true → (length numbers ≤ 128) × (sum numbers ≤ 32768)
+clue_bounds numbers clue = search (rules, and_parts, leb-true, runs_sum)

@@ -1,5 +1,5 @@
 -- What is written is read again: lines, numbers, clues and the lines of clues.
-use Rattle.puzzle_text.proofs.Names.{rules, ◌≡◌, true, leb, ℕ, ◌+◌, ◌-◌, ◌<◌, ◌≤◌, false, eqb, List, [], ◌∷◌, ◌++◌, length, get_or, refl, append_assoc, arith, list_all, flat_map, AllByRecursion, leb-true, cond-false, ne_eqb, eq-eqb, take_at, get_or_at, get_or-reverse, length-append, reverse-reverse, nat_tests, All-from_recursion, All-get_or, Line, raw_lines, numbered_from, trim, trim_start, strip_last, without_ending, is_blank, ◌^◌, not, map, All, ap, Some, decimal, slice_split, is_ascii_digit, AllDigits, and_parts, le-leb, append-nil, get_or_default, slice_split_none, slice_split_at, digit_at, digit_from_value, decimal_is_IsNumeral, decimal_nonempty, is_run, is_clue, is_empty, is_separator, pieces, numbers_within, clue_of_numbers, clue_of, clue_text, suc, ◌*◌, Ok, flat_map-map, get_or_append_left, get_or-append_right, length-decimal-le, size_of, two_sizes, clue_line, clue_lines, two_numbers, all-weaker, all_pass, all-map, filter_all, all-append}
+use Rattle.puzzle_text.proofs.Names.{rules, ◌≡◌, true, ℕ, ◌+◌, ◌-◌, ◌<◌, ◌≤◌, false, eqb, List, [], ◌∷◌, ◌++◌, length, get_or, refl, append_assoc, arith, list_all, flat_map, AllByRecursion, leb-true, cond-false, ne_eqb, eq-eqb, take_at, get_or_at, get_or-reverse, length-append, reverse-reverse, nat_tests, All-from_recursion, All-get_or, Line, raw_lines, numbered_from, trim, trim_start, strip_last, without_ending, is_blank, ◌^◌, not, map, All, ap, Some, decimal, slice_split, is_ascii_digit, AllDigits, and_parts, inr, IsSeparator, le-leb, append-nil, get_or_default, slice_split_none, slice_split_at, digit_at, digit_from_value, decimal_is_IsNumeral, decimal_nonempty, is_clue, is_empty, is_separator, pieces, numbers_within, clue_of, clue_text, ◌*◌, Ok, get_or_append_left, get_or-append_right, length-decimal-le, size_of, two_sizes, clue_line, clue_lines, two_numbers, all-weaker, all_pass, all-map, filter_all, all-append}
 use Rattle.puzzle_text.proofs.SaidLines.{SayAll}
 
 -- a line's text as it is written: no byte below a space, and no blank at either end
@@ -51,10 +51,6 @@ line_kept text kept = search (rules, strip_last_is)
 pub tidy_solid : (text : List ℕ) → 0 < length text → AllByRecursion (λ byte. 33 ≤ byte) text → IsTidy text
 tidy_solid text some high = search (rules, All-from_recursion, all-weaker, All-get_or)
 
--- so is a word
-pub tidy_word : (text : List ℕ) → list_all (leb 33) text ≡ true → 0 < length text → IsTidy text
-tidy_word text high some = tidy_solid text some (all_pass (leb 33) (λ byte. 33 ≤ byte) (λ byte h. leb-true 33 byte h) text high)
-
 -- texts as lines, numbered from here
 abbrev pub numbered : ℕ → List (List ℕ) → List Line
 numbered number [] = []
@@ -66,8 +62,6 @@ pub lines_kept : (number : ℕ) (texts : List (List ℕ)) → AllByRecursion IsK
 lines_kept number [] kept = refl
 lines_kept number (text ∷ texts) kept = search (rules, lines_kept (number + 1) texts kept.1, append_assoc, raw_lines-feed, line_kept)
 
--- ---- numbers and clues
-
 -- what decimal can write
 abbrev pub IsWord : ℕ → Type 0
 IsWord n = n < 2 ^ 64
@@ -76,20 +70,7 @@ no_separator : (n : ℕ) → IsWord n → All (λ byte. is_separator byte ≡ fa
 no_separator n h k d lt =
     grind (arith, nat_tests, digit_at (decimal n) k (decimal_is_IsNumeral n h).0.1 lt, get_or_default (decimal n) k d 0 lt)
 
--- a byte that may stand between the numbers of a clue
-pub record IsSpacing (separator : ℕ) : Type 0 where
-  pub cuts : is_separator separator ≡ true
-  pub high : 32 ≤ separator
-
--- a space may stand between numbers
-pub space : IsSpacing 32
-space = record { cuts = refl; high = omega arith }
-
--- a comma may stand between numbers
-pub comma : IsSpacing 44
-comma = record { cuts = refl; high = omega arith }
-
-split_clue : (s n : ℕ) (ns : List ℕ) → IsSpacing s → AllByRecursion IsWord (n ∷ ns)
+split_clue : (s n : ℕ) (ns : List ℕ) → IsSeparator s → AllByRecursion IsWord (n ∷ ns)
     → slice_split is_separator (clue_text s (n ∷ ns)) ≡ map decimal (n ∷ ns)
 split_clue s n [] spacing h = rw append-nil (slice_split_none is_separator (decimal n) (no_separator n h.0))
 split_clue s n (m ∷ ns) by h = search (rules, split_clue s m ns by h.1, append-nil, slice_split_none, no_separator, slice_split_at)
@@ -98,7 +79,7 @@ pub filled : (n : ℕ) → IsWord n → not (is_empty (decimal n)) ≡ true
 filled n h = ap not (ne_eqb (length (decimal n)) 0 (λ e. omega (arith, decimal_nonempty n h)))
 
 -- the pieces of a written clue are its numbers
-pub pieces_of_clue : (s n : ℕ) (ns : List ℕ) → IsSpacing s → AllByRecursion IsWord (n ∷ ns)
+pub pieces_of_clue : (s n : ℕ) (ns : List ℕ) → IsSeparator s → AllByRecursion IsWord (n ∷ ns)
     → pieces (clue_text s (n ∷ ns)) ≡ map decimal (n ∷ ns)
 pieces_of_clue s n ns spacing h =
     let full = λ (piece : List ℕ). not (is_empty piece) in
@@ -114,44 +95,34 @@ numbers_again limit [] wide h = refl
 numbers_again limit (n ∷ ns) wide h = search (rules, numbers_again limit ns wide h.1, le-leb, decimal_is_IsNumeral, filled, all_digits)
 
 -- the numbers of a clue are no more than the limit
-pub runs : (limit : ℕ) (ns : List ℕ) → list_all (is_run limit) ns ≡ true → AllByRecursion (λ n. n ≤ limit) ns
-runs limit ns h = all_pass (is_run limit) (λ n. n ≤ limit) (λ n run. leb-true n limit (and_parts _ _ run).1) ns h
+pub runs : (limit : ℕ) (clue : List ℕ) → is_clue limit clue ≡ true → AllByRecursion (λ n. n ≤ limit) clue
+runs limit clue h = search (rules, all_pass, leb-true, and_parts)
 
--- numbers within a limit can be written
-pub words : (limit : ℕ) (ns : List ℕ) → limit < 2 ^ 64 → AllByRecursion (λ n. n ≤ limit) ns → AllByRecursion IsWord ns
-words limit ns wide h = all-weaker (λ n. n ≤ limit) IsWord (λ n low. omega arith) ns h
-
-pub clue_is : (limit : ℕ) (ns : List ℕ) → is_clue limit ns ≡ true → clue_of_numbers limit ns ≡ Some ns
-clue_is limit ns h = search rules
+-- the numbers of a clue can be written
+pub word_clue : (limit : ℕ) (clue : List ℕ) → limit < 2 ^ 64 → is_clue limit clue ≡ true → AllByRecursion IsWord clue
+word_clue limit clue wide h = all-weaker (λ n. n ≤ limit) IsWord (λ n low. omega arith) clue (runs limit clue h)
 
 -- a clue that is written is read again
-pub clue_again : (s limit : ℕ) (clue : List ℕ) → IsSpacing s → limit < 2 ^ 64 → is_clue limit clue ≡ true
+pub clue_again : (s limit : ℕ) (clue : List ℕ) → IsSeparator s → limit < 2 ^ 64 → is_clue limit clue ≡ true
     → clue_of limit (clue_text s clue) ≡ Some clue
 clue_again s limit [] spacing wide h = rw (le-leb 0 limit (omega arith)) refl
-clue_again s limit (n ∷ ns) spacing wide h =
-    let within = runs limit (n ∷ ns) (and_parts _ _ h).1 in
-    search (rules, pieces_of_clue s n ns spacing (words limit (n ∷ ns) wide within), numbers_again limit (n ∷ ns) wide within, clue_is)
-
--- the texts of clues with their line feeds are the lines of clues
-pub fed_clues : (s : ℕ) (clues : List (List ℕ)) → flat_map with_feed (map (clue_text s) clues) ≡ clue_lines s clues
-fed_clues s clues = flat_map-map with_feed (clue_text s) clues
-
--- ---- tidy lines
+clue_again s limit (n ∷ ns) by wide h =
+    search (rules, pieces_of_clue s n ns by (word_clue limit (n ∷ ns) wide h), numbers_again limit (n ∷ ns) wide (runs limit (n ∷ ns) h))
 
 -- two tidy texts with a byte between them are a tidy text
-pub tidy-join : (s : ℕ) (a b : List ℕ) → IsSpacing s → IsTidy a → IsTidy b → IsTidy (a ++ s ∷ b)
+pub tidy-join : (s : ℕ) (a b : List ℕ) → IsSeparator s → IsTidy a → IsTidy b → IsTidy (a ++ s ∷ b)
 tidy-join s a b spacing p q = search (rules, some_byte, all-append, get_or_append_left, get_or-append_right, length-append)
 
-digits_inked : (ds : List ℕ) → AllDigits 10 ds → AllByRecursion (λ byte. 33 ≤ byte) ds
-digits_inked [] h = tt
-digits_inked (c ∷ cs) h = let r = digit_from_value c h.0 in (omega (arith, r.0), digits_inked cs h.1)
+-- digits are a tidy text
+pub tidy_digits : (ds : List ℕ) → 0 < length ds → list_all is_ascii_digit ds ≡ true → IsTidy ds
+tidy_digits ds some h = tidy_solid ds some (all_pass is_ascii_digit _ (λ c digit. grind (arith, nat_tests)) ds h)
 
 -- a number is a tidy text
 pub tidy_decimal : (n : ℕ) → IsWord n → IsTidy (decimal n)
-tidy_decimal n h = let numeral = (decimal_is_IsNumeral n h).0 in tidy_solid (decimal n) numeral.0 (digits_inked (decimal n) numeral.1)
+tidy_decimal n h = let numeral = (decimal_is_IsNumeral n h).0 in tidy_digits (decimal n) numeral.0 (all_digits (decimal n) numeral.1)
 
 -- a clue is a tidy text
-pub tidy_clue : (s : ℕ) (numbers : List ℕ) → IsSpacing s → AllByRecursion IsWord numbers → IsTidy (clue_text s numbers)
+pub tidy_clue : (s : ℕ) (numbers : List ℕ) → IsSeparator s → AllByRecursion IsWord numbers → IsTidy (clue_text s numbers)
 tidy_clue s [] spacing h = record { inked = (omega arith, tt); first = omega arith; last = omega arith }
 tidy_clue s (n ∷ []) spacing h = rw append-nil (tidy_decimal n h.0)
 tidy_clue s (n ∷ m ∷ ns) spacing h = search (rules, tidy_clue s (m ∷ ns) spacing h.1, append-nil, tidy_decimal, tidy-join)
@@ -161,32 +132,25 @@ pub numbered-append : (k : ℕ) (xs ys : List (List ℕ)) → numbered k (xs ++ 
 numbered-append k [] ys = ap (λ (n : ℕ). numbered n ys) (omega arith)
 numbered-append k (x ∷ xs) ys = search (rules, numbered-append (k + 1) xs ys)
 
--- ---- the lines of clues
-
--- the numbers of a clue can be written
-pub word_clue : (limit : ℕ) (clue : List ℕ) → limit < 2 ^ 64 → is_clue limit clue ≡ true → AllByRecursion IsWord clue
-word_clue limit clue wide h = words limit clue wide (runs limit clue (and_parts _ _ h).1)
-
 -- what the line of a clue begins with
 pub first_digit : (s : ℕ) (clue : List ℕ) → AllByRecursion IsWord clue
     → (48 ≤ get_or (clue_text s clue) 0 0) × (get_or (clue_text s clue) 0 0 ≤ 57)
 first_digit s clue h = search (rules, decimal_is_IsNumeral, digit_at, get_or_append_left)
 
 pub some_text : (text : List ℕ) → 48 ≤ get_or text 0 0 → not (is_empty text) ≡ true
-some_text [] h = absurd (omega arith)
-some_text (byte ∷ bytes) h = ap not (ne_eqb (suc (length bytes)) 0 (λ e. omega arith))
+some_text text h = ap not (ne_eqb (length text) 0 (λ e. omega (arith, some_byte text)))
 
 -- the lines of clues say these clues
-pub say_clues : (s limit k : ℕ) (clues : List (List ℕ)) → IsSpacing s → limit < 2 ^ 64
+pub say_clues : (s limit k : ℕ) (clues : List (List ℕ)) → IsSeparator s → limit < 2 ^ 64
     → AllByRecursion (λ clue. is_clue limit clue ≡ true) clues → SayAll limit (numbered k (map (clue_text s) clues)) clues
 say_clues s limit k [] spacing wide h = record { full = tt; hash = tt; count = refl; said = refl }
 say_clues s limit k (clue ∷ clues) spacing wide h =
     search (rules, say_clues s limit (k + 1) clues spacing wide h.1, first_digit, word_clue, some_text, ne_eqb, clue_again)
 
--- the lines of clues are tidy
-pub tidy_clues : (s limit : ℕ) (clues : List (List ℕ)) → IsSpacing s → limit < 2 ^ 64
-    → AllByRecursion (λ clue. is_clue limit clue ≡ true) clues → AllByRecursion IsTidy (map (clue_text s) clues)
-tidy_clues s limit clues spacing wide h = search (all-map, tidy_clue, word_clue)
+-- the lines of clues are whole lines
+pub kept_clues : (s limit : ℕ) (clues : List (List ℕ)) → IsSeparator s → limit < 2 ^ 64
+    → AllByRecursion (λ clue. is_clue limit clue ≡ true) clues → AllByRecursion IsKept (map (clue_text s) clues)
+kept_clues s limit clues spacing wide h = search (all-map, kept_tidy, tidy_clue, word_clue)
 
 -- a size that is written is read again
 pub size_again : (limit n : ℕ) → limit < 2 ^ 64 → 1 ≤ n → n ≤ limit → size_of limit (decimal n) ≡ Ok n
@@ -207,24 +171,23 @@ pub length_lines : (s limit : ℕ) (clues : List (List ℕ)) → limit < 1000 �
     → length (clue_lines s clues) ≤ 514 * length clues
 length_lines s limit [] wide h = omega arith
 length_lines s limit (clue ∷ clues) wide h =
-    let parts = and_parts (leb (length clue) 128) _ h.0 in
-    let small = all-weaker _ (λ n. n < 1000) (λ n low. omega arith) clue (runs limit clue parts.1) in
-    omega (arith, length-append {A = ℕ}, length_lines s limit clues wide h.1, length_clue s clue small (leb-true (length clue) 128 parts.0))
+    let small = all-weaker _ (λ n. n < 1000) (λ n low. omega arith) clue (runs limit clue h.0) in
+    search (rules, length-append, length_lines s limit clues wide h.1, length_clue s clue small, leb-true, and_parts)
 
 module _ (limit a b : ℕ) (wide : limit < 2 ^ 64) (first : (1 ≤ a) × (a ≤ limit)) (second : (1 ≤ b) × (b ≤ limit)) where
   size_words : AllByRecursion IsWord (a ∷ b ∷ [])
   size_words = (omega (arith, first.1), (omega (arith, second.1), tt))
 
-  -- sizes are a tidy text, which isn't blank
-  pub tidy_sizes : IsTidy (clue_text 32 (a ∷ b ∷ []))
-  tidy_sizes = tidy_clue 32 (a ∷ b ∷ []) space size_words
+  -- sizes are a whole line, which isn't blank
+  pub kept_sizes : IsKept (clue_text 32 (a ∷ b ∷ []))
+  kept_sizes = kept_tidy _ (tidy_clue 32 (a ∷ b ∷ []) (inr refl) size_words)
 
   pub some_sizes : not (is_empty (clue_text 32 (a ∷ b ∷ []))) ≡ true
   some_sizes = some_text (clue_text 32 (a ∷ b ∷ [])) (first_digit 32 (a ∷ b ∷ []) size_words).0
 
   -- sizes that are written are read again
   pub sizes_are : two_sizes limit (pieces (clue_text 32 (a ∷ b ∷ []))) ≡ Ok (a, b)
-  sizes_are = search (pieces_of_clue, space, size_words, size_again)
+  sizes_are = search (pieces_of_clue 32 a (b ∷ []) (inr refl) size_words, size_again)
 
 -- a text in .mk or .nin is short enough to be read
 pub length_within : (limit a b : ℕ) (rows columns : List (List ℕ)) → limit ≤ 256 → a ≤ limit → b ≤ limit

@@ -1,43 +1,78 @@
--- What is written in .mk is read again.
-use Rattle.puzzle_text.proofs.Names.{rules, ◌≡◌, ℕ, ◌≤◌, List, [], ◌∷◌, ◌++◌, length, map, refl, append_assoc, arith, Ok, flat_map, AllByRecursion, append-nil, length-append, flat_map-append, Nonogram, plain, IsNonogramWithin, mk_of, read_mk, clue_text, text_mk, all-append, all-weaker}
-use Rattle.puzzle_text.proofs.SaidLines.{mk_lines, short_lines}
-use Rattle.puzzle_text.proofs.ReadBack.{IsTidy, with_feed, numbered, lines_kept, IsKept, kept_tidy, space, tidy_clues, fed_clues, numbered-append, say_clues, some_sizes, tidy_sizes, sizes_are, length_within}
+-- What is written in .mk and in .nin is read again.
+use Rattle.puzzle_text.proofs.Names.{flat_map-map, rules, ◌≡◌, ℕ, ◌≤◌, List, [], ◌∷◌, ◌++◌, length, map, refl, append_assoc, arith, Ok, flat_map, AllByRecursion, append-nil, length-append, flat_map-append, Nonogram, plain, IsNonogramWithin, mk_of, read_mk, clue_text, text_mk, all-append, inr, true, false, ◌∙◌, eqb-true, is_clue, reading, likelier, nin_of, read_nin, text_nin, is_ambiguous, take-append_seam, drop-append_seam}
+use Rattle.puzzle_text.proofs.SaidLines.{mk_lines, short_lines, nin_lines}
+use Rattle.puzzle_text.proofs.ReadBack.{with_feed, numbered, lines_kept, IsKept, kept_clues, numbered-append, say_clues, some_sizes, kept_sizes, sizes_are, length_within}
 
--- the lines of the text
+-- the lines of the text in .mk
 abbrev pub texts_mk : Nonogram → List (List ℕ)
 texts_mk p = clue_text 32 (p.height ∷ p.width ∷ []) ∷ (map (clue_text 32) p.rows ++ (35 ∷ []) ∷ map (clue_text 32) p.columns)
 
 text_is : (p : Nonogram) → flat_map with_feed (texts_mk p) ≡ text_mk p
-text_is p = search (rules, flat_map-append, fed_clues, append_assoc, append-nil)
+text_is p = search (rules, flat_map-append, flat_map-map, append_assoc, append-nil)
+
+-- the lines of the text in .nin
+abbrev pub texts_nin : Nonogram → List (List ℕ)
+texts_nin p = clue_text 32 (p.width ∷ p.height ∷ []) ∷ map (clue_text 32) (p.rows ++ p.columns)
+
+nin_is : (p : Nonogram) → flat_map with_feed (texts_nin p) ≡ text_nin p
+nin_is p = search (rules, flat_map-append, flat_map-map, append_assoc, append-nil)
 
 module _ (limit : ℕ) (p : Nonogram) (wide : limit ≤ 256) (lawful : IsNonogramWithin limit p) where
-  abbrev pub high : (1 ≤ p.height) × (p.height ≤ limit)
+  abbrev high : (1 ≤ p.height) × (p.height ≤ limit)
   high = (lawful.size.height_from, lawful.size.height_to)
 
-  abbrev pub across : (1 ≤ p.width) × (p.width ≤ limit)
+  abbrev across : (1 ≤ p.width) × (p.width ≤ limit)
   across = (lawful.size.width_from, lawful.size.width_to)
 
-  tidy_mk : AllByRecursion IsTidy (texts_mk p)
-  tidy_mk =
-      let columns = tidy_clues 32 limit p.columns space (omega arith) lawful.columns in
-      let rows = tidy_clues 32 limit p.rows space (omega arith) lawful.rows in
-      let below = all-append IsTidy (map (clue_text 32) p.rows) ((35 ∷ []) ∷ map (clue_text 32) p.columns) rows (search rules, columns) in
-      (tidy_sizes limit _ _ (omega arith) high across, below)
+  kept_mk : AllByRecursion IsKept (texts_mk p)
+  kept_mk = (kept_sizes limit _ _ (omega arith) high across, search (rules, all-append, kept_clues 32 limit))
 
   -- the lines of a written puzzle say that puzzle
   mk_again : mk_of limit (numbered 1 (texts_mk p)) ≡ Ok (plain p.width p.height p.rows p.columns)
   mk_again =
       rw (numbered-append 2 (map (clue_text 32) p.rows) ((35 ∷ []) ∷ map (clue_text 32) p.columns))
       (mk_lines limit p.width p.height _ _ _ _ p.rows p.columns (sizes_are limit p.height p.width (omega arith) high across)
-      (some_sizes limit p.height p.width (omega arith) high across) refl (say_clues 32 limit 2 p.rows space (omega arith) lawful.rows)
-      (say_clues 32 limit _ p.columns space (omega arith) lawful.columns) lawful.clues.0 lawful.clues.1)
+      (some_sizes limit p.height p.width (omega arith) high across) refl (say_clues 32 limit 2 p.rows (inr refl) (omega arith) lawful.rows)
+      (say_clues 32 limit _ p.columns (inr refl) (omega arith) lawful.columns) lawful.clues.0 lawful.clues.1)
 
   -- the text is short enough to be read
-  pub length_text : length (text_mk p) ≤ 1048576
-  length_text = search (rules, length-append, length_within limit p.height p.width p.rows p.columns)
+  pub length_mk : length (text_mk p) ≤ 1048576
+  length_mk = search (rules, length-append, length_within limit p.height p.width p.rows p.columns)
 
   -- a written puzzle is read again, without its texts and its goal
-  pub read_again : read_mk limit (text_mk p) ≡ Ok (plain p.width p.height p.rows p.columns)
-  read_again =
-      let kept = all-weaker IsTidy IsKept kept_tidy (texts_mk p) tidy_mk in
-      rw (short_lines (text_mk p) length_text, ← text_is p, lines_kept 1 (texts_mk p) kept) mk_again
+  pub mk_read_again : read_mk limit (text_mk p) ≡ Ok (plain p.width p.height p.rows p.columns)
+  mk_read_again = rw (short_lines (text_mk p) length_mk, ← text_is p, lines_kept 1 (texts_mk p) kept_mk) mk_again
+
+  abbrev clues : List (List ℕ)
+  clues = p.rows ++ p.columns
+
+  all_lawful : AllByRecursion (λ clue. is_clue limit clue ≡ true) clues
+  all_lawful = all-append (λ clue. is_clue limit clue ≡ true) p.rows p.columns lawful.rows lawful.columns
+
+  kept_nin : AllByRecursion IsKept (texts_nin p)
+  kept_nin =
+      let sizes = kept_sizes limit _ _ (omega arith) across high in
+      (sizes, kept_clues 32 limit _ (inr refl) (omega arith) all_lawful)
+
+  -- the lines of a written puzzle say the likelier reading of its clues
+  nin_again : nin_of limit (numbered 1 (texts_nin p)) ≡ Ok (likelier p.width p.height clues)
+  nin_again =
+      nin_lines limit p.width p.height _ _ clues (sizes_are limit p.width p.height (omega arith) across high)
+      (some_sizes limit p.width p.height (omega arith) across high) (say_clues 32 limit 2 clues (inr refl) (omega arith) all_lawful)
+      (omega (arith, length-append p.rows p.columns, lawful.clues.0, lawful.clues.1))
+
+  -- the text is short enough to be read
+  pub length_nin : length (text_nin p) ≤ 1048576
+  length_nin = search (rules, length-append, length_within limit p.width p.height p.rows p.columns)
+
+  -- the text is read as the likelier reading of the clues
+  likelier_read : read_nin limit (text_nin p) ≡ Ok (likelier p.width p.height clues)
+  likelier_read = rw (short_lines (text_nin p) length_nin, ← nin_is p, lines_kept 1 (texts_nin p) kept_nin) nin_again
+
+  -- a written puzzle that isn't ambiguous is read again, without its texts and its goal
+  pub nin_read_again : is_ambiguous p ≡ false → read_nin limit (text_nin p) ≡ Ok (plain p.width p.height p.rows p.columns)
+  nin_read_again clear = likelier_read ∙ search (rules, eqb-true, take-append_seam, drop-append_seam)
+
+  -- the text of an ambiguous puzzle is read with its sizes exchanged
+  pub nin_read_otherwise : is_ambiguous p ≡ true → read_nin limit (text_nin p) ≡ Ok (reading p.height p.width (p.rows ++ p.columns))
+  nin_read_otherwise ambiguous = likelier_read ∙ search (rules, take-append_seam, drop-append_seam)

@@ -1,9 +1,156 @@
 -- What is written in .non is read again.
-use Rattle.puzzle_text.proofs.Names.{rules, ◌≡◌, ℕ, ◌+◌, ◌*◌, ◌<◌, ◌≤◌, ◌^◌, Bool, true, false, cond, not, ltb, List, [], ◌∷◌, ◌++◌, length, map, codes, refl, sym, ap, ◌∙◌, arith, Option, Some, None, Ok, decimal, filter, AllByRecursion, bytes_eq, eq-eqb, eqb-true, append-nil, reverse-append, reverse-reverse, length-map, filter-append, flat_map, is_clue, Nonogram, IsNonogramWithin, is_goal, text_of, Description, is_field, Line, lines, is_full, is_empty, trim, each_some, with_keyword, first_with, all_fields, field_word, quoted_text, placed, sections_of, number_of_line, long_text, cell_of, goal_cells, goal_of, texts_of, sizes_of, check_lines, outline_of, non_of, read_non, clue_text, goal_byte, text_non, Sections, puzzle_said, Rows, Columns, Field, Catalogue, Title, By, Copyright, License, all-append, all-flat_map, all-map, all-weaker, filter_all, filter_none, nil_from_length}
+use Rattle.puzzle_text.proofs.Names.{rules, ◌≡◌, drop, reverse, ℕ, ◌*◌, ◌<◌, ◌≤◌, ◌^◌, Bool, true, false, not, eqb, List, [], ◌∷◌, ◌++◌, length, get_or, map, codes, refl, sym, ap, ◌∙◌, append_assoc, arith, Option, Some, inr, None, decimal, flat_map, list_all, AllByRecursion, not-true, and_parts, leb-true, eqb-true, reverse-append, reverse-reverse, append-nil, get_or_at, length-append, length-map, flat_map-append, length-decimal-le, flat_map-map, prefix_len, is_ascii_alphabetic, is_empty, trim, trim_end, trim_start, Nonogram, IsNonogramWithin, is_goal, Description, IsDescription, is_field, text_of, all_fields, field_word, clue_text, quoted_line, goal_byte, goal_lines, text_non, Field, Catalogue, all-append, all-flat_map, all-weaker, all_pass, ◌+◌, cond, ltb, Ok, filter, bytes_eq, eq-eqb, filter-append, is_clue, inl, Line, lines, is_full, each_some, with_keyword, first_with, quoted_text, placed, sections_of, number_of_line, long_text, cell_of, goal_of, texts_of, sizes_of, check_lines, outline_of, non_of, read_non, Sections, puzzle_said, Rows, Columns, Other, Title, By, Copyright, License, all-map, filter_all, filter_none, nil_from_length}
+use Rattle.std.proofs.lemmas.Nat.{mul-le}
+use Rattle.puzzle_text.proofs.SectionsLemmas.{OpensNone, word_at, no_lines, IsContent, below, below_keyword, content_digit, join_content, nothing_above, with_lines}
+use Rattle.puzzle_text.proofs.ReadBack.{IsKept, kept_tidy, tidy_solid, kept_edged, with_feed, tidy-join, tidy_decimal, kept_clues, length_lines, lines_kept, numbered, numbered-append, say_clues, word_clue, size_again, first_digit}
 use Rattle.puzzle_text.proofs.SaidLines.{SayAll, non_lines, short_lines}
-use Rattle.puzzle_text.proofs.SectionsWalk.{no_lines, IsContent, below, below_keyword, content_digit, join_content, nothing_above, with_columns, with_lines, with_rows, word_at}
-use Rattle.puzzle_text.proofs.ReadBack.{lines_kept, numbered, kept_tidy, comma, numbered-append, say_clues, word_clue, size_again, tidy_decimal, first_digit}
-use Rattle.puzzle_text.proofs.NonText.{facts, field_line, lawful_field, one, size_text, goal_text, goal_gap, part, fields, row_part, column_part, goal_part, after_rows, after_fields, texts_non, kept_non, non_is, length_non, quote_kept, rest_of, all_gap}
+
+-- a keyword and a text in double quotes, as a line
+abbrev pub field_line : List ℕ → List ℕ → List ℕ
+field_line word text = word ++ 32 ∷ 34 ∷ (text ++ 34 ∷ [])
+
+-- that line, if there is a text
+abbrev pub one : List ℕ → Option (List ℕ) → List (List ℕ)
+one word None = []
+one word (Some text) = field_line word text ∷ []
+
+-- a keyword and a number, as a line
+abbrev pub size_text : List ℕ → ℕ → List ℕ
+size_text word n = word ++ 32 ∷ decimal n
+
+-- the text of a goal, if there is one
+abbrev pub goal_text : Option (List Bool) → Option (List ℕ)
+goal_text None = None
+goal_text (Some cells) = Some (map goal_byte cells)
+
+-- the empty line before a goal
+abbrev pub goal_gap : Option (List Bool) → List (List ℕ)
+goal_gap None = []
+goal_gap (Some cells) = [] ∷ []
+
+-- the line of a field, if it has a text
+abbrev pub part : Description → Field → List (List ℕ)
+part ts f = one (field_word f) (text_of ts f)
+
+-- the lines of all fields that have a text
+abbrev pub fields : Description → List (List ℕ)
+fields ts = flat_map (part ts) all_fields
+
+-- the clue lines of the rows, and the empty line after them
+abbrev pub row_part : Nonogram → List (List ℕ)
+row_part p = map (clue_text 44) p.rows ++ [] ∷ []
+
+-- the clue lines of the columns, and the empty line before a goal
+abbrev pub column_part : Nonogram → List (List ℕ)
+column_part p = map (clue_text 44) p.columns ++ goal_gap p.goal
+
+-- the line of the goal, if there is one
+abbrev pub goal_part : Nonogram → List (List ℕ)
+goal_part p = one (codes "goal") (goal_text p.goal)
+
+-- the lines from the keyword `columns` on
+abbrev pub after_rows : Nonogram → List (List ℕ)
+after_rows p = codes "columns" ∷ (column_part p ++ goal_part p)
+
+-- the lines from the width on
+abbrev pub after_fields : Nonogram → List (List ℕ)
+after_fields p = size_text (codes "width") p.width ∷ size_text (codes "height") p.height ∷ [] ∷ codes "rows" ∷ (row_part p ++ after_rows p)
+
+-- all lines of the text
+abbrev pub texts_non : Nonogram → List (List ℕ)
+texts_non p = fields p.texts ++ after_fields p
+
+-- ---- the text is these lines
+
+fed_one : (word : List ℕ) (o : Option (List ℕ)) → flat_map with_feed (one word o) ≡ quoted_line word o
+fed_one word o = search (rules, append_assoc, append-nil)
+
+fed_goal : (o : Option (List Bool)) → flat_map with_feed (goal_gap o) ++ quoted_line (codes "goal") (goal_text o) ≡ goal_lines o
+fed_goal o = search (rules, append_assoc, append-nil)
+
+pub non_is : (p : Nonogram) → flat_map with_feed (texts_non p) ≡ text_non p
+non_is p =
+    simp (flat_map-append, fed_one, flat_map-map with_feed (clue_text 44), fed_goal, append_assoc)
+    (rw (append_assoc (decimal p.width) (10 ∷ []), append_assoc (decimal p.height) (10 ∷ [])) refl)
+
+-- ---- no line is cut or trimmed
+
+kept_field : (word text : List ℕ) → list_all (λ byte. not (eqb byte 10)) word ≡ true → list_all (λ byte. not (eqb byte 10)) text ≡ true
+    → 33 ≤ get_or (field_line word text) 0 0 → IsKept (field_line word text)
+kept_field word text name clean first =
+    let whole = append_assoc word (32 ∷ 34 ∷ text) (34 ∷ []) in
+    rw whole at (kept_edged ((word ++ 32 ∷ 34 ∷ text) ++ 34 ∷ []) (rw whole (search (rules, all-append, all_pass, not-true)))
+    (rw whole first) (search (rules, get_or_at, length-append)))
+
+kept_one : (word : List ℕ) (o : Option (List ℕ)) → list_all (λ byte. not (eqb byte 10)) word ≡ true → is_field o ≡ true
+    → ((text : List ℕ) → 33 ≤ get_or (field_line word text) 0 0) → AllByRecursion IsKept (one word o)
+kept_one word o name lawful first = search (rules, kept_field, and_parts)
+
+pub all_gap : (P : List ℕ → Type 0) → P [] → (o : Option (List Bool)) → AllByRecursion P (goal_gap o)
+all_gap P blank o = search rules
+
+clean_goal : (cells : List Bool) → list_all (λ byte. not (eqb byte 10)) (map goal_byte cells) ≡ true
+clean_goal [] = refl
+clean_goal (cell ∷ cells) = search (rules, clean_goal cells)
+
+kept_goal : (o : Option (List Bool)) → AllByRecursion IsKept (one (codes "goal") (goal_text o))
+kept_goal None = tt
+kept_goal (Some cells) = (kept_field (codes "goal") (map goal_byte cells) refl (clean_goal cells) (omega arith), tt)
+
+pub lawful_field : (ts : Description) → IsDescription ts → (f : Field) → is_field (text_of ts f) ≡ true
+lawful_field ts lawful f = search rules
+
+-- what follows the keyword that a line's text begins with
+abbrev pub rest_of : List ℕ → List ℕ
+rest_of text = trim (drop (prefix_len is_ascii_alphabetic text) text)
+
+-- a text in double quotes is trimmed already
+pub quote_kept : (text : List ℕ) → trim_end (34 ∷ (text ++ 34 ∷ [])) ≡ 34 ∷ (text ++ 34 ∷ [])
+quote_kept text =
+    let e = reverse-append (34 ∷ text) (34 ∷ []) in
+    ap (λ (x : List ℕ). reverse (trim_start x)) e ∙ ap reverse (sym e) ∙ reverse-reverse (34 ∷ (text ++ 34 ∷ []))
+
+-- what is so of the keyword of a field, and of its line
+pub record IsFieldWord (f : Field) : Type 0 where
+  pub clean : list_all (λ byte. not (eqb byte 10)) (field_word f) ≡ true
+  pub short : length (field_word f) ≤ 9
+  pub inked : (text : List ℕ) → 33 ≤ get_or (field_line (field_word f) text) 0 0
+  pub word : (text : List ℕ) → word_at (field_line (field_word f) text) ≡ field_word f
+  pub rest : (text : List ℕ) → rest_of (field_line (field_word f) text) ≡ 34 ∷ (text ++ 34 ∷ [])
+  pub none : OpensNone (field_word f)
+
+pub facts : (f : Field) → IsFieldWord f
+facts f = search (f, rules, quote_kept)
+
+kept_size : (word : List ℕ) (n : ℕ) → AllByRecursion (λ byte. 33 ≤ byte) word → 0 < length word → n < 2 ^ 64 → IsKept (size_text word n)
+kept_size word n high some wide = kept_tidy _ (tidy-join 32 word _ (inr refl) (tidy_solid word some high) (tidy_decimal n wide))
+
+pub kept_non : (limit : ℕ) (p : Nonogram) → limit < 2 ^ 64 → IsNonogramWithin limit p → AllByRecursion IsKept (texts_non p)
+kept_non limit p wide lawful =
+    let width = kept_size (codes "width") p.width (search rules) (omega arith) (omega (arith, lawful.size.width_to)) in
+    let height = kept_size (codes "height") p.height (search rules) (omega arith) (omega (arith, lawful.size.height_to)) in
+    let rows : AllByRecursion IsKept (row_part p) = search (rules, all-append, kept_clues 44 limit) in
+    let columns : AllByRecursion IsKept (column_part p) = search (rules, all-append, all_gap, kept_clues 44 limit) in
+    let after = all-append IsKept (column_part p) (goal_part p) columns (kept_goal p.goal) in
+    let behind = all-append IsKept (row_part p) (after_rows p) rows (search rules, after) in
+    let texts = all-flat_map IsKept (part p.texts) (λ f. search (kept_one, facts f, lawful_field p.texts lawful.texts f)) all_fields in
+    all-append IsKept (fields p.texts) (after_fields p) texts (width, (height, (search rules, (search rules, behind))))
+
+-- ---- how long the text is
+
+length_fields : (ts : Description) → IsDescription ts → (fs : List Field)
+    → length (flat_map (λ f. quoted_line (field_word f) (text_of ts f)) fs) ≤ 65549 * length fs
+length_fields ts lawful [] = omega arith
+length_fields ts lawful (f ∷ fs) = search (rules, length_fields ts lawful fs, facts, lawful_field, length-append, leb-true, and_parts)
+
+length_goal : (w h : ℕ) (o : Option (List Bool)) → w ≤ 256 → h ≤ 256 → is_goal (w * h) o ≡ true → length (goal_lines o) ≤ 65550
+length_goal w h o wide high lawful = search (rules, eqb-true, mul-le, length-map, length-append)
+
+-- the text is short enough to be read
+pub length_non : (limit : ℕ) (p : Nonogram) → limit ≤ 256 → IsNonogramWithin limit p → length (text_non p) ≤ 1048576
+length_non limit p wide lawful =
+    let fields = length_fields p.texts lawful.texts all_fields in
+    search (rules, length-append, length-decimal-le 3, length_lines 44 limit, length_goal p.width p.height, fields)
 
 abbrev texts_with : List ℕ → List (List ℕ) → List (List ℕ)
 texts_with word texts = filter (λ text. bytes_eq (word_at text) word) texts
@@ -52,8 +199,6 @@ one_seen : (xs : List Line) (text : List ℕ) → map (λ (line : Line). line.te
 one_seen (x ∷ []) text e = (x, refl, cc)
 one_seen xs text e = absurd cc
 
--- ---- fields
-
 -- what the lines with this keyword say
 abbrev FieldIs : List ℕ → List Line → Option (List ℕ) → Type 0
 FieldIs word lines None = with_keyword word lines ≡ []
@@ -71,13 +216,11 @@ long_none : (word : List ℕ) (lines : List Line) (o : Option (List ℕ)) → Fi
     → number_of_line (long_text lines word) ≡ None
 long_none word lines o is lawful = search rules
 
--- ---- sections
-
--- keyword lines only set the keyword
-below_keywords : (under : List ℕ) (k : ℕ) (xs ys : List (List ℕ)) → AllByRecursion (λ text. is_empty (word_at text) ≡ false) xs
-    → (last : List ℕ) × (m : ℕ) × (below under (numbered k (xs ++ ys)) ≡ below last (numbered m ys))
-below_keywords under k [] ys h = (under, k, refl)
-below_keywords under k (x ∷ xs) ys h = search (rules, below_keywords (word_at x) (k + 1) xs ys h.1, below_keyword)
+-- keyword lines that open no section leave it open that none is
+below_keywords : (k : ℕ) (xs ys : List (List ℕ)) → AllByRecursion (λ text. OpensNone (word_at text)) xs
+    → (m : ℕ) × (below Other (numbered k (xs ++ ys)) ≡ below Other (numbered m ys))
+below_keywords k [] ys h = (k, refl)
+below_keywords k (x ∷ xs) ys h = search (rules, below_keywords (k + 1) xs ys h.1, below_keyword Other Other, h.0)
 
 -- texts as lines are as they are as texts
 numbered_all : (P : List ℕ → Type 0) (k : ℕ) (texts : List (List ℕ)) → AllByRecursion P texts
@@ -94,7 +237,7 @@ part_again : (limit k : ℕ) (clues gap : List (List ℕ)) → limit < 2 ^ 64 �
     → AllByRecursion (λ text. not (is_empty text) ≡ false) gap
     → SayAll limit (filter is_full (numbered k (map (clue_text 44) clues ++ gap))) clues
 part_again limit k clues gap wide lawful blank =
-    let said = say_clues 44 limit k clues comma wide lawful in
+    let said = say_clues 44 limit k clues (inl refl) wide lawful in
     let none = numbered_all (λ text. not (is_empty text) ≡ false) (k + length (map (clue_text 44) clues)) gap blank in
     rw (numbered-append k (map (clue_text 44) clues) gap)
     (search (rules, filter-append, filter_all is_full _ said.full, filter_none is_full _ none, append-nil, said))
@@ -105,12 +248,10 @@ each_cells : (cells : List Bool) → each_some cell_of (map goal_byte cells) ≡
 each_cells [] = refl
 each_cells (cell ∷ cells) = search (rules, each_cells cells)
 
-cells_again : (count : ℕ) (cells : List Bool) → is_goal count (Some cells) ≡ true → goal_cells count (map goal_byte cells) ≡ Some cells
-cells_again count cells lawful = search (eq-eqb, length-map, eqb-true, each_cells)
-
 goal_again : (count : ℕ) (o : Option (List Bool)) (lines : List Line) → FieldIs (codes "goal") lines (goal_text o) → is_goal count o ≡ true
     → goal_of count (first_with (codes "goal") lines) ≡ Ok o
-goal_again count o lines is lawful = search (rules, cells_again)
+goal_again count None lines is lawful = search rules
+goal_again count (Some cells) lines is lawful = search (rules, eq-eqb, length-map, eqb-true, each_cells)
 
 -- ---- the whole text
 
@@ -130,11 +271,9 @@ module _ (limit : ℕ) (p : Nonogram) (wide : limit < 2 ^ 64) (lawful : IsNonogr
   whole word goal some in_goal =
       let has = λ (text : List ℕ). bytes_eq (word_at text) word in
       let head = size_text (codes "width") p.width ∷ size_text (codes "height") p.height ∷ [] ∷ codes "rows" ∷ [] in
-      rw (filter-append has (fields p.texts) (after_fields p), with-parts word p.texts all_fields)
-      (rw (filter-append has head (row_part p ++ after_rows p), filter-append has (row_part p) (after_rows p))
-      (rw (with-content word (row_part p) some content_rows, filter-append has (codes "columns" ∷ []) (column_part p ++ goal_part p))
-      (rw (filter-append has (column_part p) (goal_part p), with-content word (column_part p) some content_columns)
-      (rw (with-one word (codes "goal") (goal_text p.goal) goal in_goal) refl))))
+      rw (filter-append has (fields p.texts), with-parts word p.texts all_fields, filter-append has head, filter-append has (row_part p))
+      (rw (with-content word (row_part p) some content_rows, filter-append has (codes "columns" ∷ []), filter-append has (column_part p))
+      (rw (with-content word (column_part p) some content_columns, with-one word (codes "goal") (goal_text p.goal) goal in_goal) refl))
 
   field_only : (f : Field) → texts_with (field_word f) (texts_non p) ≡ part p.texts f
   field_only Catalogue = whole (codes "catalogue") false refl (λ text. refl) ∙ search append-nil
@@ -183,20 +322,20 @@ module _ (limit : ℕ) (p : Nonogram) (wide : limit < 2 ^ 64) (lawful : IsNonogr
   -- its sections are these, and no line is stray
   laid_out : (k : ℕ) × (m : ℕ) × (sections_of (placed all_lines) ≡ these p k m)
   laid_out =
-      let words = all-flat_map (λ text. is_empty (word_at text) ≡ false) (part p.texts) (λ f. search (rules, facts)) all_fields in
-      let start = below_keywords [] 1 (fields p.texts) (after_fields p) words in
-      let m = start.1 + 1 + 1 + 1 + 1 in
+      let words = all-flat_map (λ text. OpensNone (word_at text)) (part p.texts) (λ f. search (rules, facts)) all_fields in
+      let start = below_keywords 1 (fields p.texts) (after_fields p) words in
+      let m = start.0 + 1 + 1 + 1 + 1 in
       let rows = numbered m (row_part p) in
       let content = numbered_all IsContent m (row_part p) content_rows in
       let n = m + length (row_part p) in
       let columns = numbered (n + 1) (column_part p) in
       let all : sections_of (placed all_lines) ≡ these p m (n + 1) =
-      rw (← nothing_above [] [] all_lines refl refl, start.2, numbered-append m (row_part p) (after_rows p))
-      (rw (join_content Rows (codes "rows") no_lines rows (numbered n (after_rows p)) refl content)
+      rw (← nothing_above [] [] all_lines refl refl, start.1, numbered-append m (row_part p) (after_rows p))
+      (rw (join_content Rows no_lines rows (numbered n (after_rows p)) content)
       (rw (numbered-append (n + 1) (column_part p) (goal_part p))
-      (rw (join_content Columns (codes "columns") (with_lines Rows no_lines rows) columns
-      (numbered (n + 1 + length (column_part p)) (goal_part p)) refl (numbered_all IsContent (n + 1) (column_part p) content_columns))
-      (search (p.goal, rules, with_rows, with_columns, append-nil))))) in
+      (rw (join_content Columns (with_lines Rows no_lines rows) columns (numbered (n + 1 + length (column_part p)) (goal_part p))
+      (numbered_all IsContent (n + 1) (column_part p) content_columns))
+      (search (p.goal, rules, append-nil))))) in
       (m, n + 1, all)
 
   -- the lines of a written puzzle say that puzzle

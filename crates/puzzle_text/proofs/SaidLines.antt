@@ -1,34 +1,84 @@
 -- What the lines of a text say, if some of them say its sizes and others its clues.
-use Rattle.puzzle_text.proofs.Names.{rules, ◌≡◌, ℕ, ◌+◌, ◌≤◌, Bool, true, false, ltb, List, [], ◌∷◌, ◌++◌, length, filter, refl, append_assoc, arith, Some, None, Ok, Err, position_or_len, AllByRecursion, cond-false, eq-eqb, le-ltb, lt-ltb, take_all, take_at, drop_at, length-append, Nonogram, plain, TooLong, Line, is_full, is_hash, lines, pieces, clues_of, text_lines, two_sizes, at_hash, before_hash, mk_of, nin_of, likelier, Sections, both_clues, outline_of, puzzle_of_clues, puzzle_said, choice, filter_all}
-use Rattle.puzzle_text.proofs.MkLemmas.{puzzle_of_both}
+use Rattle.puzzle_text.proofs.Names.{append-nil, rules, ◌≡◌, ℕ, ◌+◌, ◌≤◌, Bool, true, false, ltb, List, [], ◌∷◌, ◌++◌, length, filter, refl, append_assoc, arith, Some, None, Ok, Err, position_or_len, AllByRecursion, cond-false, eq-eqb, le-ltb, lt-ltb, take_all, take_at, drop_at, length-append, Nonogram, plain, TooLong, Line, is_full, is_hash, lines, pieces, clues_of, text_lines, two_sizes, at_hash, before_hash, mk_of, nin_of, likelier, Sections, both_clues, outline_of, puzzle_of_clues, puzzle_said, choice, filter_all, with_front, ◌-◌, cond, take, drop, map, ap, Option, Result, position, prefix_len, ltb-false, cond_some, take-map, drop-map, length-map, take_rest, take-append_seam, drop-append_seam, TextFault, ◌>>=◌, each, puzzle_of, reading, not, bytes_eq, is_empty, is_keyword_line}
+use Rattle.std.proofs.lemmas.Slice.Eq.{bytes_eq-Decides}
 
 -- the lines of a text that isn't too long
 pub short_lines : (bytes : List ℕ) → length bytes ≤ 1048576 → text_lines bytes ≡ Ok (lines bytes)
 short_lines bytes short = cond-false (ltb 1048576 (length bytes)) (Err TooLong) (Ok (lines bytes)) (le-ltb 1048576 (length bytes) short)
 
+-- what passes a second test, if all that passes it passes the first
+filter_twice : {X : Type 0} (p q : X → Bool) → ((x : X) → p x ≡ true → q x ≡ true) → (xs : List X) → filter p (filter q xs) ≡ filter p xs
+filter_twice p q le [] = refl
+filter_twice p q le (x ∷ xs) = search (rules, filter_twice p q le xs)
+
+some_word : (word own : List ℕ) → not (is_empty word) ≡ true → bytes_eq own word ≡ true → not (is_empty own) ≡ true
+some_word word own some e = rw ((bytes_eq-Decides own word).0 e) some
+
+-- the keyword lines alone say what all lines say
+pub said_of_kept : (limit : ℕ) (sections : Sections) (lines : List Line)
+    → puzzle_said limit sections (filter is_keyword_line lines) ≡ puzzle_said limit sections lines
+said_of_kept limit sections lines = search (filter_twice, some_word)
+
 -- ---- lines round a line that begins with #
 
--- the first element that passes stands behind those that don't
-first_place : {X : Type 0} (p : X → Bool) (xs : List X) (y : X) (ys : List X) → AllByRecursion (λ x. p x ≡ false) xs → p y ≡ true
-    → position_or_len p (xs ++ y ∷ ys) ≡ length xs
-first_place p [] y ys none here = rw here refl
-first_place p (x ∷ xs) y ys none here = rw none.0 (omega (arith, first_place p xs y ys none.1 here))
+pub prefix_len-map : {X Y : Type 0} (p : Y → Bool) (view : X → Y) (xs : List X)
+    → prefix_len p (map view xs) ≡ prefix_len (λ x. p (view x)) xs
+prefix_len-map p view [] = refl
+prefix_len-map p view (x ∷ xs) = ap (λ n. cond (p (view x)) (1 + n) 0) (prefix_len-map p view xs)
 
-no_place : {X : Type 0} (p : X → Bool) (xs : List X) → AllByRecursion (λ x. p x ≡ false) xs → position_or_len p xs ≡ length xs
-no_place p [] none = refl
-no_place p (x ∷ xs) none = rw none.0 (omega (arith, no_place p xs none.1))
+module _ {X : Type 0} (view : X → Line) where
+  abbrev hash_at : List X → Option ℕ
+  hash_at xs = position (λ x. is_hash (view x)) xs
+
+  -- the lines are cut at the first that begins with #
+  pub at_hash_found : (xs : List X) (i : ℕ) → hash_at xs ≡ Some i
+      → at_hash (map view xs) ≡ Some (map view (take i xs), map view (take (length xs - (i + 1)) (drop (i + 1) xs)))
+  at_hash_found xs i e = search (rules, take-map, drop-map, take_rest, prefix_len-map, length-map)
+
+  -- the lines are not cut if none begins with #
+  pub at_hash_none : (xs : List X) → hash_at xs ≡ None → at_hash (map view xs) ≡ None
+  at_hash_none xs e = search (rules, prefix_len-map, length-map)
+
+  -- the lines before the first that begins with #
+  pub before_hash_found : (xs : List X) (i : ℕ) → hash_at xs ≡ Some i → before_hash (map view xs) ≡ map view (take i xs)
+  before_hash_found xs i e = search (rules, cond_some, prefix_len-map, take-map)
+
+  -- all lines, if none begins with #
+  pub before_hash_none : (xs : List X) → hash_at xs ≡ None → before_hash (map view xs) ≡ map view xs
+  before_hash_none xs e = search (rules, ltb-false, prefix_len-map, take-map, take_all)
+
+-- the first element that passes stands behind those that don't
+place_after : {X : Type 0} (p : X → Bool) (xs ys : List X) → AllByRecursion (λ x. p x ≡ false) xs
+    → position_or_len p (xs ++ ys) ≡ length xs + position_or_len p ys
+place_after p [] ys none = omega arith
+place_after p (x ∷ xs) ys none = rw none.0 (omega (arith, place_after p xs ys none.1))
 
 -- the lines are cut at the line that begins with #, if none before it does
 at_hash_is : (rows : List Line) (hash : Line) (after : List Line) → AllByRecursion (λ line. is_hash line ≡ false) rows
     → is_hash hash ≡ true → at_hash (rows ++ hash ∷ after) ≡ Some (rows, after)
 at_hash_is rows hash after none here =
-    search (rules, first_place is_hash rows hash after, drop_at (rows ++ hash ∷ []) after, lt-ltb, length-append, append_assoc, take_at)
+    search (rules, place_after is_hash rows (hash ∷ after), drop_at (rows ++ hash ∷ []) after, lt-ltb, length-append, append_assoc, take_at)
 
 -- no line is left out if none begins with #
 before_hash_is : (rows : List Line) → AllByRecursion (λ line. is_hash line ≡ false) rows → before_hash rows ≡ rows
-before_hash_is rows none = rw (no_place is_hash rows none) (take_all (length rows) rows (omega arith))
+before_hash_is rows none = rw (rw append-nil at (place_after is_hash rows [] none)) (take_all _ rows (omega arith))
 
--- ---- lines that say clues
+-- ---- the clues of both sections
+
+each-append : {X Y : Type 0} (step : X → Result Y TextFault) (xs ys : List X)
+    → each step (xs ++ ys) ≡ (each step xs >>= λ found. with_front found (each step ys))
+each-append step [] ys = search rules
+each-append {X} {Y} step (x ∷ xs) ys = search (rules, each-append step xs ys)
+
+-- the puzzle of the clue lines of both sections
+pub puzzle_of_parts : (limit width height : ℕ) (xs ys : List Line)
+    → puzzle_of limit width height (xs ++ ys) ≡ (both_clues limit true xs ys >>= λ clues. Ok (reading width height (clues.0 ++ clues.1)))
+puzzle_of_parts limit width height xs ys = search (rules, each-append)
+
+pub puzzle_of_both : (limit width height : ℕ) (xs ys : List Line) (rows columns : List (List ℕ))
+    → both_clues limit true xs ys ≡ Ok (rows, columns) → length rows ≡ height
+    → puzzle_of limit width height (xs ++ ys) ≡ Ok (plain width height rows columns)
+puzzle_of_both limit width height xs ys rows columns said high = search (rules, puzzle_of_parts, take-append_seam, drop-append_seam)
 
 -- each of these lines says its clue; none is blank, and none begins with #
 pub record SayAll (limit : ℕ) (found : List Line) (clues : List (List ℕ)) : Type 0 where
@@ -42,10 +92,6 @@ all_chosen : (limit count : ℕ) (found : List Line) (clues : List (List ℕ)) �
     → choice count found ≡ Some found
 all_chosen limit count found clues all many = search (rules, filter_all, eq-eqb)
 
-both_said : (limit : ℕ) (order : Bool) (a b : List Line) (x y : List (List ℕ)) → SayAll limit a x → SayAll limit b y
-    → both_clues limit order a b ≡ Ok (x, y)
-both_said limit order a b x y p q = search rules
-
 -- ---- what all lines say
 
 -- in .mk: a size line, rows, a line that begins with #, and columns
@@ -55,7 +101,7 @@ pub mk_lines : (limit width height : ℕ) (first cut : Line) (row_lines column_l
     → mk_of limit (first ∷ (row_lines ++ cut ∷ column_lines)) ≡ Ok (plain width height rows columns)
 mk_lines limit width height first cut row_lines column_lines rows columns sizes full here p q high wide =
     rw (full, sizes, at_hash_is row_lines cut column_lines p.hash here, before_hash_is column_lines q.hash)
-    (search (rules, all_chosen limit, puzzle_of_both, both_said))
+    (search (rules, all_chosen limit, puzzle_of_both))
 
 -- in .nin: a size line and clues
 pub nin_lines : (limit a b : ℕ) (first : Line) (found : List Line) (clues : List (List ℕ)) → two_sizes limit (pieces first.text) ≡ Ok (a, b)
@@ -68,4 +114,4 @@ pub non_lines : (limit : ℕ) (sections : Sections) (kept : List Line) (width he
     → SayAll limit (filter is_full sections.columns) columns → outline_of limit None kept ≡ Ok ((width, height), order)
     → length rows ≡ height → length columns ≡ width → puzzle_of_clues (width, height) (rows, columns) kept ≡ Ok p
     → puzzle_said limit sections kept ≡ Ok p
-non_lines limit sections kept width height order rows columns p stray one two outline high wide said = search (rules, both_said, eq-eqb)
+non_lines limit sections kept width height order rows columns p stray one two outline high wide said = search (order, rules, eq-eqb)

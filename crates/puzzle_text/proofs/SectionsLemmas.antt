@@ -1,6 +1,7 @@
--- Lemmas on the choice of clue lines.
-use Rattle.puzzle_text.proofs.Names.{rules, ◌≡◌, ℕ, append-nil, ◌≤◌, Bool, true, cond, List, [], ◌∷◌, length, take, drop, map, refl, Some, None, count_by, filter, list_all, ne_eqb, eq-eqb, le-leb, take-map, drop-map, length-map, length-take-le, take-append-drop, filter-append, list_all-map, count_by-le-length, length-filter, Line, is_full, is_blank_line, lines, section, all_pass, filter_none, choice}
+-- Lemmas on sections: their clue lines, and which lines stand in them, found on one walk from the top.
+use Rattle.puzzle_text.proofs.Names.{rules, ◌≡◌, ℕ, append-nil, ◌≤◌, Bool, true, cond, List, [], ◌∷◌, length, take, drop, map, refl, Some, None, count_by, filter, list_all, ne_eqb, eq-eqb, le-leb, take-map, drop-map, length-map, length-take-le, take-append-drop, filter-append, list_all-map, count_by-le-length, length-filter, Line, is_full, is_blank_line, lines, section, all_pass, filter_none, choice, ◌+◌, ◌++◌, ap, append_assoc, Option, enumerate_from, last_or, take-append_seam, length-append, is_empty, keyword, is_content, last_keyword, placed, ◌<◌, get_or, false, eqb, sym, ◌∙◌, take_while, AllByRecursion, nat_tests, is_ascii_alphabetic, to_ascii_lowercase, str_to_ascii_lowercase, and-false, drop_more, Under, Rows, Columns, Other, codes, find, number_of_line, is_hash, or_else, Sections, sections_of, IsUnder, with_line, shown_line}
 use Rattle.puzzle_text.specs.steps.Sections.{front}
+use Rattle.puzzle_text.specs.declared.lines.Line.{Line as KeptLine}
 
 -- what a filter keeps of a list seen by a view
 pub filter-map : {X Y : Type 0} (p : Y → Bool) (view : X → Y) (xs : List X)
@@ -14,8 +15,6 @@ module _ {X : Type 0} (view : X → Line) where
       → count_by (λ x. is_full (view x)) section ≡ count → choice count (map view section) ≡ Some (map view full)
   choice_full count section full e n = search (rules, eq-eqb, filter-map, length-map, length-filter)
 
-  -- ---- the first lines
-
   -- the first lines are the clue lines if all after them are blank
   pub front_is : (count : ℕ) (section : List X) → count ≤ length section → front count (map view section)
       ≡ cond (list_all (λ x. is_blank_line (view x)) (drop count section)) (Some (map view (take count section))) None
@@ -25,8 +24,6 @@ module _ {X : Type 0} (view : X → Line) where
   pub choice_none : (count : ℕ) (section : List X) → front count (map view section) ≡ None
       → (count_by (λ x. is_full (view x)) section ≡ count → ⊥) → choice count (map view section) ≡ None
   choice_none count section none n = search (rules, ne_eqb, filter-map, length-map, length-filter)
-
--- ---- the first lines are the choice, if they are there at all
 
 -- if as many are kept as there are, all are
 all_kept : (lines : List Line) → length (filter is_full lines) ≡ length lines → filter is_full lines ≡ lines
@@ -41,3 +38,125 @@ front_kept count lines within blank enough =
 -- the first lines are the choice, if all after them are blank
 pub front_chosen : (count : ℕ) (lines found : List Line) → front count lines ≡ Some found → choice count lines ≡ Some found
 front_chosen count lines found e = search (rules, front_kept)
+
+pub ruleset lengths = (length-map, length-filter)
+
+-- each content line, beside the nearest keyword before it; under is the keyword before all
+abbrev pub walked : List ℕ → List Line → List (List ℕ × Line)
+walked under [] = []
+walked under (line ∷ lines) =
+    let others = walked (cond (is_empty (keyword line)) under (keyword line)) lines in
+    cond (is_content line) ((under, line) ∷ others) others
+
+last_more : {X : Type 0} (start : Option X) (xs : List X) (x : X) → last_or start (xs ++ x ∷ []) ≡ Some x
+last_more start [] x = refl
+last_more start (y ∷ xs) x = last_more (Some y) xs x
+
+-- the walk below some lines, from their last keyword on
+walk_below : (top lines : List Line)
+    → walked (last_keyword top) lines ≡ map (λ one. (last_keyword (take one.0 (top ++ lines)), one.1))
+    (filter (λ one. is_content one.1) (enumerate_from (length top) lines))
+walk_below top [] = refl
+walk_below top (line ∷ lines) =
+    search (rules, walk_below (top ++ line ∷ []) lines, filter-append, append-nil, last_more, append_assoc, length-append, take-append_seam)
+
+-- ---- the sections
+
+abbrev pub no_lines : Sections
+no_lines = record { rows = []; columns = []; stray = None }
+
+-- sections, and then those of lines below them
+abbrev pub join : Sections → Sections → Sections
+join above below =
+    record { rows = above.rows ++ below.rows; columns = above.columns ++ below.columns; stray = or_else above.stray below.stray }
+
+-- the keyword of a section
+abbrev word_of : Under → List ℕ
+word_of Rows = codes "rows"
+word_of Columns = codes "columns"
+word_of Other = []
+
+-- the sections of lines below the keyword of a section
+abbrev pub below : Under → List Line → Sections
+below under lines = sections_of (walked (word_of under) lines)
+
+-- ---- the three kinds of lines
+
+below_other : (word : List ℕ) (lines : List Line) → IsUnder word Other → sections_of (walked word lines) ≡ below Other lines
+below_other word [] other = refl
+below_other word (line ∷ lines) other = search (rules, below_other word lines other)
+
+-- what is still to come below a line of each kind
+pub below_keyword : (under next : Under) (line : Line) (lines : List Line) → is_empty (keyword line) ≡ false
+    → IsUnder (keyword line) next → below under (line ∷ lines) ≡ below next lines
+below_keyword under Other line lines some is = rw some (below_other (keyword line) lines is)
+below_keyword under next line lines some is = rw (some, is) refl
+
+pub below_content : (under : Under) (above : Sections) (line : Line) (lines : List Line) → is_empty (keyword line) ≡ true
+    → is_hash line ≡ false → join above (below under (line ∷ lines)) ≡ join (with_line above under line) (below under lines)
+below_content under above line lines e h = search (under, rules, append_assoc, and-false)
+
+-- a keyword that opens no section
+pub record OpensNone (word : List ℕ) : Type 0 where
+  pub some : is_empty word ≡ false
+  pub other : IsUnder word Other
+
+-- the keyword that a line's text begins with
+abbrev pub word_at : List ℕ → List ℕ
+word_at text = str_to_ascii_lowercase (take_while is_ascii_alphabetic text)
+
+-- the text of a line that is neither a keyword line nor a comment
+pub record IsContent (text : List ℕ) : Type 0 where
+  pub word : word_at text ≡ []
+  pub hash : eqb (get_or text 0 0) 35 ≡ false
+
+-- a text that begins with a digit
+pub content_digit : (text : List ℕ) → 48 ≤ get_or text 0 0 → get_or text 0 0 ≤ 57 → IsContent text
+content_digit text low high = search (rules, ne_eqb, nat_tests)
+
+-- the sections with more lines at the end of one
+abbrev pub with_lines : Under → Sections → List Line → Sections
+with_lines Rows above found = record above { rows = above.rows ++ found }
+with_lines Columns above found = record above { columns = above.columns ++ found }
+with_lines Other above found = record above { stray = or_else above.stray (number_of_line (find is_full found)) }
+
+with_more : (under : Under) (above : Sections) (line : Line) (found : List Line)
+    → with_lines under above (line ∷ found) ≡ with_lines under (with_line above under line) found
+with_more under above line found = search (under, above.stray, is_full line, rules, append_assoc)
+
+pub join_content : (under : Under) (above : Sections) (found todo : List Line) → AllByRecursion (λ line. IsContent line.text) found
+    → join above (below under (found ++ todo)) ≡ join (with_lines under above found) (below under todo)
+join_content under above [] todo content = search (under, above.stray, rules, append-nil)
+join_content under above (line ∷ found) todo content =
+    search (rules, with_more, join_content under (with_line above under line) found todo content.1, below_content)
+
+-- at the top there is nothing yet in the sections
+pub nothing_above : (rows columns lines : List Line) → rows ≡ [] → columns ≡ []
+    → join (record { rows = rows; columns = columns; stray = None }) (below Other lines) ≡ sections_of (placed lines)
+nothing_above rows columns lines p q = rw (p, q) (ap sections_of (walk_below [] lines))
+
+-- whether a keyword has no letters is told by the letters as they stand
+pub none_is : (own word : List ℕ) (b : Bool) → str_to_ascii_lowercase own ≡ word → eqb (length own) 0 ≡ b → is_empty word ≡ b
+none_is own word b e none = ap is_empty (sym e) ∙ ap (λ (n : ℕ). eqb n 0) (length-map own to_ascii_lowercase) ∙ none
+
+module _ (lines : List KeptLine) (i : ℕ) (d : KeptLine) (under : Under) (own : List ℕ) (above whole : Sections) (h : i < length lines)
+    (so_far : join above (below under (map shown_line (drop i lines))) ≡ whole)
+    (e : str_to_ascii_lowercase own ≡ keyword (shown_line (get_or lines i d))) where
+  abbrev line : Line
+  line = shown_line (get_or lines i d)
+
+  abbrev others : List Line
+  others = map shown_line (drop (i + 1) lines)
+
+  -- past a keyword line, which stands in no section
+  pub next_keyword : (next : Under) → IsUnder (str_to_ascii_lowercase own) next → eqb (length own) 0 ≡ false
+      → join above (below next others) ≡ whole
+  next_keyword next is some = search (rules, below_keyword, none_is, drop_more)
+
+  -- past a comment, which stands in no section
+  pub next_comment : eqb (length own) 0 ≡ true → is_hash line ≡ true → join above (below under others) ≡ whole
+  next_comment none hash = search (rules, none_is, drop_more)
+
+  -- past a line that goes into the section of the keyword above it
+  pub next_content : eqb (length own) 0 ≡ true → is_hash line ≡ false → join (with_line above under line) (below under others) ≡ whole
+  next_content none other = search (rules, below_content, none_is, drop_more)

@@ -1,12 +1,14 @@
--- Lines in their usual form: digits, separators and endings.
-use Rattle.puzzle_text.proofs.Names.{rules, ◌≡◌, ℕ, ◌-◌, ◌<◌, ◌≤◌, true, false, drop, eqb, List, [], ◌∷◌, ◌++◌, length, take, get_or, refl, append_assoc, arith, Some, Ok, list_all, AllByRecursion, is_ascii_digit, digits_value, le-leb, nat_tests, get_or_append_left, take_all, slice_split_at, slice_split_none, AllPass-from_list_all, LONGEST_SIDE, is_clue, numbers_within, pieces, size_of, BeginsWith, BeginsWithNumber, EndsLine, IsNumeral, IsSeparator, SaysClue, SaysSizes, ne_eqb, all-append, all_pass, two_sizes}
+-- Lines in their usual form, and that what the parts of a usual text say is what the text says.
+use Rattle.puzzle_text.proofs.Names.{rules, ◌≡◌, ℕ, ◌-◌, ◌<◌, ◌≤◌, true, false, drop, eqb, List, [], ◌∷◌, ◌++◌, length, take, get_or, refl, append_assoc, arith, Some, Ok, AllByRecursion, is_ascii_digit, le-leb, nat_tests, get_or_append_left, take_all, slice_split_at, slice_split_none, AllPass-from_list_all, LONGEST_SIDE, is_clue, numbers_within, pieces, BeginsWith, BeginsWithNumber, EndsLine, IsNumeral, IsSeparator, SaysClue, SaysSizes, ne_eqb, all-append, two_sizes, ◌+◌, filter, sym, ap, ◌∙◌, eqb-true, nil_from_length, append-nil, length-append, filter-append, Under, Other, Line, is_empty, numbered_from, raw_lines, is_keyword_line, keyword, Sections, placed, sections_of, IsUnder, with_line, AreClueLines, HaveClues, KeepsOthers, SayClues, clues_under, rest, Result, IfOk, IfSome, Nonogram, plain, TextFault, Gives, lines, read_mk, read_nin, puzzle_said, read_non, likelier, all-weaker, filter_all, filter_none, HaveNoFeed}
 use Rattle.puzzle_text.proofs.NumbersLemmas.{number_is}
-use Rattle.puzzle_text.proofs.ReadBack.{IsKept, IsTidy, kept_tidy, line_kept, tidy_solid, raw_lines-feed, strip_last_is, IsSpacing, clue_is, comma, space, tidy-join}
+use Rattle.puzzle_text.proofs.ReadBack.{IsKept, IsTidy, kept_tidy, line_kept, tidy_digits, raw_lines-feed, strip_last_is, tidy-join, some_text}
+use Rattle.puzzle_text.proofs.SaidLines.{SayAll, said_of_kept, mk_lines, nin_lines, short_lines}
+use Rattle.puzzle_text.proofs.SectionsLemmas.{no_lines, IsContent, below, below_content, below_keyword, content_digit, join, join_content, nothing_above, with_lines}
+use Rattle.std.specs.Result.{result_ok}
+use Rattle.puzzle_text.proofs.FeedsLemmas.{clean_filter, lines_have_no_feed}
 
 pub digit_range : (c : ℕ) → is_ascii_digit c ≡ true → (48 ≤ c) × (c ≤ 57)
 digit_range c h = grind (arith, nat_tests)
-
--- ---- what a line of numbers says
 
 -- a line's text is tidy, begins with a digit and says these numbers
 pub record SaysNumbers (text : List ℕ) (numbers : List ℕ) : Type 0 where
@@ -14,70 +16,50 @@ pub record SaysNumbers (text : List ℕ) (numbers : List ℕ) : Type 0 where
   pub digit : is_ascii_digit (get_or text 0 0) ≡ true
   pub said : numbers_within LONGEST_SIDE (pieces text) ≡ Some numbers
 
-digits_high : (ds : List ℕ) → list_all is_ascii_digit ds ≡ true → AllByRecursion (λ byte. 33 ≤ byte) ds
-digits_high ds h = search (rules, all_pass, digit_range)
-
-some_digits : (piece : List ℕ) (n : ℕ) → n ≡ digits_value 10 piece → 1 ≤ n → 0 < length piece
-some_digits [] n e h = absurd (omega (arith, e))
-some_digits (d ∷ ds) n e h = omega arith
+some_piece : (piece : List ℕ) (n : ℕ) → IsNumeral piece n → 0 < length piece
+some_piece [] n numeral = absurd (omega (arith, numeral.value))
+some_piece (d ∷ ds) n numeral = omega arith
 
 module _ (piece : List ℕ) (n : ℕ) (numeral : IsNumeral piece n) where
-  some_piece : 0 < length piece
-  some_piece = some_digits piece n numeral.value numeral.positive
-
-  size_said : size_of LONGEST_SIDE piece ≡ Ok n
-  size_said = search (rules, le-leb, number_is, some_piece)
-
   pieces_alone : pieces piece ≡ piece ∷ []
   pieces_alone = search (rules, slice_split_none, some_piece, AllPass-from_list_all, nat_tests, ne_eqb)
 
-  pieces_more : (s : ℕ) (more : List ℕ) → IsSpacing s → pieces (piece ++ s ∷ more) ≡ piece ∷ pieces more
+  pieces_more : (s : ℕ) (more : List ℕ) → IsSeparator s → pieces (piece ++ s ∷ more) ≡ piece ∷ pieces more
   pieces_more s more spacing = search (rules, slice_split_at, some_piece, AllPass-from_list_all, nat_tests, ne_eqb)
 
   -- a number says itself
   pub number_alone : SaysNumbers piece (n ∷ [])
-  number_alone = search (rules, pieces_alone, tidy_solid, some_piece, digits_high, AllPass-from_list_all, number_is)
+  number_alone = search (rules, pieces_alone, tidy_digits, some_piece, AllPass-from_list_all, number_is)
 
   -- a number before other numbers
-  pub number_before : (s : ℕ) (more ns : List ℕ) → IsSpacing s → SaysNumbers more ns → SaysNumbers (piece ++ s ∷ more) (n ∷ ns)
+  pub number_before : (s : ℕ) (more ns : List ℕ) → IsSeparator s → SaysNumbers more ns → SaysNumbers (piece ++ s ∷ more) (n ∷ ns)
   number_before s more ns spacing said =
-      search (rules, tidy-join, get_or_append_left, some_piece, pieces_more, tidy_solid, digits_high, AllPass-from_list_all, number_is)
-
--- ---- the numbers of a line, one after the other
+      search (rules, tidy-join, get_or_append_left, some_piece, pieces_more, tidy_digits, AllPass-from_list_all, number_is)
 
 -- past these bytes the line has said these numbers, and goes on
 abbrev pub PassesNumbers : List ℕ → List ℕ → List ℕ → Type 0
 PassesNumbers text rest numbers = (front : List ℕ) × (text ≡ front ++ rest)
     × ((more others : List ℕ) → SaysNumbers more others → SaysNumbers (front ++ more) (numbers ++ others))
 
-spaced : (s : ℕ) → IsSeparator s → IsSpacing s
-spaced s e = search (rules, comma, space)
-
 -- one number more, and a separator
 pub number_and_more : (text rest others numbers more : List ℕ) (n s : ℕ) → PassesNumbers text rest numbers
     → BeginsWithNumber rest n (s ∷ others) → IsSeparator s → more ≡ numbers ++ n ∷ [] → PassesNumbers text others more
 number_and_more text rest others numbers more n s passed begins separated is =
     let joined = λ (line ns : List ℕ) (said : SaysNumbers line ns).
-    passed.2 _ (n ∷ ns) (number_before _ n begins.2 s line ns (spaced s separated) said) in
+    passed.2 _ (n ∷ ns) (number_before _ n begins.2 s line ns separated said) in
     (passed.0 ++ (begins.0 ++ s ∷ []), search (rules, append_assoc), λ line ns said. rw is (simp append_assoc (joined line ns said)))
 
 -- ---- the end of a line
 
-module _ (front rest : List ℕ) (kept : IsKept front) where
-  at_feed : BeginsWith (front ++ 10 ∷ rest) front rest
-  at_feed number = rw (raw_lines-feed front rest kept.no_feed, line_kept front kept) refl
-
-  at_return : BeginsWith (front ++ 13 ∷ 10 ∷ rest) front rest
-  at_return number =
-      let none = all-append (λ byte. eqb byte 10 ≡ false) front (13 ∷ []) kept.no_feed (refl, tt) in
-      rw (← append_assoc front (13 ∷ []) (10 ∷ rest), raw_lines-feed (front ++ 13 ∷ []) rest none, strip_last_is 10 (front ++ 13 ∷ []))
-      (rw (strip_last_is 13 front, kept.trimmed) refl)
+at_return : (front rest : List ℕ) → IsKept front → BeginsWith (front ++ 13 ∷ 10 ∷ rest) front rest
+at_return front rest kept number =
+    let none = all-append (λ byte. eqb byte 10 ≡ false) front (13 ∷ []) kept.no_feed (refl, tt) in
+    rw (← append_assoc front (13 ∷ []) (10 ∷ rest), raw_lines-feed (front ++ 13 ∷ []) rest none, strip_last_is 10 (front ++ 13 ∷ []))
+    (rw (strip_last_is 13 front, kept.trimmed) refl)
 
 -- a tidy text before the end of a line is that line
 pub line_ends : (front bytes rest : List ℕ) → IsTidy front → EndsLine bytes rest → BeginsWith (front ++ bytes) front rest
-line_ends front bytes rest tidy e = search (rules, kept_tidy, at_feed, at_return)
-
--- ---- what the first line says
+line_ends front bytes rest tidy e = search (rules, kept_tidy, raw_lines-feed, line_kept, at_return)
 
 -- a slice of two bytes and more, of which the first is known
 pub headed : (text : List ℕ) (byte : ℕ) → 2 ≤ length text → get_or text 0 0 ≡ byte
@@ -91,7 +73,7 @@ clue_ends text rest after next numbers clue n passed begins ends is lawful =
     let line = passed.0 ++ begins.0 in
     let said : SaysNumbers line clue = rw is (passed.2 begins.0 (n ∷ []) (number_alone begins.0 n begins.2)) in
     let whole : text ≡ line ++ after = search (rules, append_assoc) in
-    (line, rw whole (line_ends line after next said.tidy ends), (rw said.said (clue_is LONGEST_SIDE clue lawful), said.digit))
+    (line, rw whole (line_ends line after next said.tidy ends), (rw said.said (search rules), said.digit))
 
 -- a 0 alone says the empty clue
 pub zero_ends : (text after next clue : List ℕ) → text ≡ 48 ∷ after → EndsLine after next → clue ≡ [] → SaysClue text clue next
@@ -103,6 +85,134 @@ pub sizes_end : (text second next rest : List ℕ) (a s b : ℕ) → BeginsWithN
     → BeginsWithNumber second b next → EndsLine next rest → SaysSizes text (a, b) rest
 sizes_end text second next rest a s b one separated two ends =
     let line = one.0 ++ s ∷ two.0 in
-    let said = number_before one.0 a one.2 s two.0 (b ∷ []) (spaced s separated) (number_alone two.0 b two.2) in
-    let sizes : two_sizes LONGEST_SIDE (pieces line) ≡ Ok (a, b) = search (rules, pieces_more, spaced, pieces_alone, size_said) in
+    let said = number_before one.0 a one.2 s two.0 (b ∷ []) separated (number_alone two.0 b two.2) in
+    let sizes : two_sizes LONGEST_SIDE (pieces line) ≡ Ok (a, b) =
+    search (rules, pieces_more, pieces_alone, le-leb, number_is, some_piece) in
     (line, search (rules, append_assoc, line_ends line next rest said.tidy ends), sizes, said.digit)
+
+-- lines of clues say these clues
+pub say_all : (found : List Line) (clues : List (List ℕ)) → AreClueLines found clues → SayAll LONGEST_SIDE found clues
+say_all [] [] said = record { full = tt; hash = tt; count = refl; said = refl }
+say_all (line ∷ found) (clue ∷ clues) said = search (rules, say_all found clues said.1, some_text, digit_range, content_digit)
+say_all found clues said = absurd said
+
+-- none of them is a keyword line or a comment
+all_content : (found : List Line) (clues : List (List ℕ)) → AreClueLines found clues → AllByRecursion (λ line. IsContent line.text) found
+all_content [] clues said = tt
+all_content (line ∷ found) (clue ∷ clues) said = search (rules, all_content found clues said.1, digit_range, content_digit)
+all_content found clues said = absurd said
+
+-- lines of clues, and then more of them
+pub said_after : (found more : List Line) (clues others : List (List ℕ)) → AreClueLines found clues → AreClueLines more others
+    → AreClueLines (found ++ more) (clues ++ others)
+said_after [] more [] others said next = next
+said_after (line ∷ found) more (clue ∷ clues) others said next = (said.0, said_after found more clues others said.1 next)
+said_after found more clues others said next = absurd said
+
+-- one line more
+pub one_said : (bytes rest next clue : List ℕ) (clues more : List (List ℕ)) → SayClues bytes clues rest → SaysClue rest clue next
+    → more ≡ clues ++ clue ∷ [] → SayClues bytes more next
+one_said bytes rest next clue clues more said one is = λ number.
+    let line : Line = record { number = number + length clues; text = one.0 } in
+    ((said number).0 ++ line ∷ [], search (rules, append_assoc, one.1 (number + length clues), length-append), search (rules, said_after))
+
+-- The sections above and those of the lines to come below the keyword of `under` are those of all lines,
+-- and these are the clues of the sections above.
+pub record IsAbove (under : Under) (whole todo : List Line) (rows columns : List (List ℕ)) : Type 0 where
+  pub above : Sections
+  pub joined : join above (below under todo) ≡ sections_of (placed whole)
+  pub clues : HaveClues above rows columns
+
+-- at the top
+pub above_all : (whole : List Line) (rows columns : List (List ℕ)) → rows ≡ [] → columns ≡ [] → IsAbove Other whole whole rows columns
+above_all whole rows columns p q =
+    record { above = no_lines; joined = nothing_above [] [] whole refl refl; clues = search rules }
+
+-- past a blank line
+pub past_blank : (under : Under) (whole todo : List Line) (line : Line) (rows columns : List (List ℕ))
+    → IsAbove under whole (line ∷ todo) rows columns → is_empty (keyword line) ≡ true → is_empty line.text ≡ true
+    → IsAbove under whole todo rows columns
+past_blank under whole todo line rows columns is none blank = record {
+  above = with_line is.above under line;
+  joined = search (rules, below_content, eqb-true, nil_from_length);
+  clues = search (rules, filter-append, append-nil);
+}
+
+module _ (next : Under) (line : Line) (number place : ℕ) (after rest : List ℕ) (rows columns : List (List ℕ))
+    (says : SayClues after (clues_under next rows columns) rest) (counted : place ≡ number + length (clues_under next rows columns)) where
+  abbrev found : List Line
+  found = (says number).0
+
+  abbrev later : List Line
+  later = numbered_from place (raw_lines rest)
+
+  parts : numbered_from number (raw_lines after) ≡ found ++ later
+  parts = (says number).1 ∙ ap (λ (n : ℕ). found ++ numbered_from n (raw_lines rest)) (sym counted)
+
+  -- past a keyword line and the clues below it
+  pub past_section : (under : Under) (whole : List Line) (old_rows old_columns : List (List ℕ))
+      → KeepsOthers next old_rows old_columns rows columns
+      → IsAbove under whole (line ∷ numbered_from number (raw_lines after)) old_rows old_columns → is_empty (keyword line) ≡ false
+      → IsUnder (keyword line) next → IsAbove next whole later rows columns
+  past_section under whole old_rows old_columns kept is some opens = record {
+    above = with_lines next is.above found;
+    joined =
+        let first = below_keyword under next line (numbered_from number (raw_lines after)) some opens in
+        search (rules, first, parts, join_content, all_content, is.joined);
+    clues = search (rules, nil_from_length, filter-append, append-nil, filter_all, say_all, said_after, is.clues);
+  }
+
+  -- the keyword line is the only one among them
+  pub kept_one : (kept all : List Line) → kept ++ filter is_keyword_line (line ∷ numbered_from number (raw_lines after)) ≡ all
+      → is_empty (keyword line) ≡ false → (kept ++ line ∷ []) ++ filter is_keyword_line later ≡ all
+  kept_one kept all e some = search (rules, parts, append_assoc, all-weaker, all_content, filter-append, filter_none)
+
+-- what is so of a value that a call gives is so of it as an option
+pub some_of_ok : {X E : Type 0} (P Q : X → Type 0) (r : Result X E) → IfOk r P → ((x : X) → P x → Q x) → IfSome (result_ok r) Q
+some_of_ok P Q r h f = search rules
+
+-- what is so of the answer's value is so of what gives it
+pub ok_of_gives : {X : Type 0} (P : X → Type 0) (r answer : Result X TextFault) → Gives (λ x. x) r answer
+    → ((x : X) → answer ≡ Ok x → P x) → IfOk r P
+ok_of_gives P r answer gives f = search rules
+
+-- ---- .non
+
+-- no keyword line has a line feed in it
+pub kept_clean : (bytes : List ℕ) (kept : List Line) → length bytes ≤ 1048576 → kept ≡ filter is_keyword_line (lines bytes)
+    → HaveNoFeed kept
+kept_clean bytes kept short e =
+    rw e (clean_filter is_keyword_line (lines bytes) (lines_have_no_feed bytes (lines bytes) (short_lines bytes short)))
+
+-- what the parts of a .non text say, the text says
+pub non_said : (bytes : List ℕ) (kept : List Line) (p : Nonogram) → length bytes ≤ 1048576 → kept ≡ filter is_keyword_line (lines bytes)
+    → puzzle_said LONGEST_SIDE (sections_of (placed (lines bytes))) kept ≡ Ok p → read_non LONGEST_SIDE bytes ≡ Ok p
+non_said bytes kept p short e said = search (rules, short, short_lines, said_of_kept)
+
+-- ---- .mk and .nin
+
+-- the lines up to the end of the text
+lines_to_end : (bytes rest : List ℕ) (number count : ℕ) (found : List Line) → length rest ≡ 0
+    → numbered_from number (raw_lines bytes) ≡ found ++ numbered_from (number + count) (raw_lines rest)
+    → numbered_from number (raw_lines bytes) ≡ found
+lines_to_end bytes rest number count found none parts = search (rules, append-nil, nil_from_length)
+
+-- what a size line, rows, a line # and columns say, the text says
+pub mk_said : (bytes after middle below_it rest : List ℕ) (width height : ℕ) (rows columns : List (List ℕ)) → length bytes ≤ 1048576
+    → SaysSizes bytes (height, width) after → SayClues after rows middle → BeginsWith middle (35 ∷ []) below_it
+    → SayClues below_it columns rest → length rest ≡ 0 → length rows ≡ height → length columns ≡ width
+    → read_mk LONGEST_SIDE bytes ≡ Ok (plain width height rows columns)
+mk_said bytes after middle below_it rest width height rows columns short sizes row_part hash column_part none high wide =
+    let place = 2 + length rows in
+    let column_found = column_part (place + 1) in
+    rw (short_lines bytes short, sizes.1 1, (row_part 2).1, hash place)
+    (rw (lines_to_end below_it rest (place + 1) (length columns) column_found.0 none column_found.1)
+    (mk_lines LONGEST_SIDE width height _ _ _ _ rows columns sizes.2 (some_text sizes.0 (digit_range _ sizes.3).0) refl
+    (say_all _ rows (row_part 2).2) (say_all _ columns column_found.2) high wide))
+
+-- what a size line and clues say, the text says
+pub nin_said : (bytes after rest : List ℕ) (a b : ℕ) (clues : List (List ℕ)) → length bytes ≤ 1048576 → SaysSizes bytes (a, b) after
+    → SayClues after clues rest → length rest ≡ 0 → length clues ≡ a + b → read_nin LONGEST_SIDE bytes ≡ Ok (likelier a b clues)
+nin_said bytes after rest a b clues short sizes part none count =
+    rw (short_lines bytes short, sizes.1 1, lines_to_end after rest 2 (length clues) (part 2).0 none (part 2).1)
+    (nin_lines LONGEST_SIDE a b _ _ clues sizes.2 (some_text sizes.0 (digit_range _ sizes.3).0) (say_all _ clues (part 2).2) count)

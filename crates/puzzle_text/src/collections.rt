@@ -151,7 +151,7 @@ fn named_entries<'a>(alloc: Global, bytes: &'a [u8]) -> Option<Vec<Entry<'a>>>
 }
 
 /// The number of the first line that belongs to no entry or names none.
-#[tactic(auto, using(crate::proofs::StrayWalk::first_stray_found))]
+#[tactic(auto, using(crate::proofs::CollectionLemmas::first_stray_found))]
 fn first_stray(bytes: &[u8]) -> Option<u32>
     requires { length bytes.now < 2 ^ 32 }
     ensures { result ≡ first_stray (raw_lines bytes.now) }
@@ -177,7 +177,7 @@ fn first_stray(bytes: &[u8]) -> Option<u32>
 
 /// The entries of a collection. A line `@ NAME` begins an entry;
 /// its text is the lines after that one up to the next such line or the end.
-#[tactic(auto, using(crate::proofs::StrayWalk::none_stray))]
+#[tactic(auto, using(crate::proofs::CollectionLemmas::none_stray))]
 pub fn entries<'a>(alloc: Global, bytes: &'a [u8]) -> Result<Vec<Entry<'a>>, CollectionFault>
     ensures answer { GivesEntries (λ found. map shown_entry found.items) result (cut bytes.now) }
     // `NoMemory` never stands in place of this fault, nor of another.

@@ -15,7 +15,7 @@ fn sum_of(numbers: &[u16]) -> u32
 }
 
 /// How many cells a clue fills, if it fits a line of this length.
-#[tactic(auto, using(crate::proofs::FittingLemmas::clue_bounds))]
+#[tactic(auto, using(crate::proofs::NumbersLemmas::clue_bounds))]
 fn filled_within(len: u16, clue: &Clue) -> Option<u32>
     ensures cells { result ≡ (if fits len clue.now then Some (sum clue.now) else None) }
     ensures within { IfSome result (λ cells. cells ≤ 32768) }

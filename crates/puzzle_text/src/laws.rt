@@ -13,26 +13,26 @@ pub fn non_is_read_back()
 {}
 
 /// What `write_mk` gives is read again as the same puzzle without texts and goal.
-#[tactic(auto, using(crate::proofs::ReadMk::read_again))]
+#[tactic(auto, using(crate::proofs::ReadMk::mk_read_again))]
 pub fn mk_is_read_back()
     ensures { MkIsReadBack LONGEST_SIDE }
 {}
 
 /// What `write_nin` gives is read again as the same puzzle without texts and goal.
-#[tactic(auto, using(crate::proofs::ReadNin::nin_read_again))]
+#[tactic(auto, using(crate::proofs::ReadMk::nin_read_again))]
 pub fn nin_is_read_back()
     ensures { NinIsReadBack LONGEST_SIDE }
 {}
 
 /// The text in .nin of a puzzle that `write_nin` refuses would be read as another size:
 /// width and height exchanged, of the same clues in the same order.
-#[tactic(auto, using(crate::proofs::ReadNin::nin_read_otherwise))]
+#[tactic(auto, using(crate::proofs::ReadMk::nin_read_otherwise))]
 pub fn ambiguous_is_read_otherwise()
     ensures { AmbiguousIsReadOtherwise LONGEST_SIDE }
 {}
 
 /// What is written in any format is short enough to be read again.
-#[tactic(auto, using(crate::proofs::NonText::length_non, crate::proofs::ReadMk::length_text, crate::proofs::ReadNin::length_nin))]
+#[tactic(auto, using(crate::proofs::ReadNon::length_non, crate::proofs::ReadMk::length_mk, crate::proofs::ReadMk::length_nin))]
 pub fn written_is_short()
     ensures { WrittenIsShort LONGEST_SIDE }
 {}

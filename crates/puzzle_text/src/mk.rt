@@ -26,7 +26,7 @@ fn hash_place(lines: &[Line<'_>]) -> Option<usize>
 }
 
 /// The lines before the first that begins with `#`, and those after it.
-#[tactic(auto, using(crate::proofs::MkLemmas::at_hash_found, crate::proofs::MkLemmas::at_hash_none))]
+#[tactic(auto, using(crate::proofs::SaidLines::at_hash_found, crate::proofs::SaidLines::at_hash_none))]
 fn at_hash<'a, 'b>(lines: &'b [Line<'a>]) -> Option<(&'b [Line<'a>], &'b [Line<'a>])>
     ensures { option_map (λ parts. (map shown_line parts.0.now, map shown_line parts.1.now)) result ≡ at_hash (map shown_line lines.now) }
 {
@@ -36,7 +36,7 @@ fn at_hash<'a, 'b>(lines: &'b [Line<'a>]) -> Option<(&'b [Line<'a>], &'b [Line<'
     }
 }
 
-#[tactic(auto, using(crate::proofs::MkLemmas::before_hash_found, crate::proofs::MkLemmas::before_hash_none))]
+#[tactic(auto, using(crate::proofs::SaidLines::before_hash_found, crate::proofs::SaidLines::before_hash_none))]
 fn before_hash<'a, 'b>(lines: &'b [Line<'a>]) -> &'b [Line<'a>]
     ensures { map shown_line result.now ≡ before_hash (map shown_line lines.now) }
 {
@@ -69,7 +69,7 @@ fn both_choices<'a, 'b>(
 }
 
 /// The puzzle that these clue lines say.
-#[tactic(auto, using(crate::proofs::MkLemmas::puzzle_of_parts, crate::proofs::MkLemmas::puzzle_of_both))]
+#[tactic(auto, using(crate::proofs::SaidLines::puzzle_of_parts, crate::proofs::SaidLines::puzzle_of_both))]
 fn puzzle_of(
     alloc: Global,
     width: u16,

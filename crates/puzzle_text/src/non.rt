@@ -178,7 +178,7 @@ fn puzzle_said(
     puzzle_of_clues(alloc, keyword_lines, width, height, rows, columns)
 }
 
-#[tactic(auto, using(crate::proofs::KeywordsLemmas::said_of_kept, crate::proofs::FeedsLemmas::clean_filter))]
+#[tactic(auto, using(crate::proofs::SaidLines::said_of_kept, crate::proofs::FeedsLemmas::clean_filter))]
 fn non_of(alloc: Global, lines: &[Line<'_>]) -> Result<Puzzle, TextFault>
     requires { HaveNoFeed (map shown_line lines.now) }
     ensures { Gives (λ p. p) result (non_of LONGEST_SIDE (map shown_line lines.now)) }

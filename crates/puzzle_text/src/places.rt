@@ -64,6 +64,7 @@ impl<'a> Sections<'a> {
 }
 
 /// The sections of a text.
+#[tactic(auto, using(crate::proofs::SectionsLemmas::nothing_above))]
 pub(crate) fn sections_of<'a>(alloc: Global, lines: &[Line<'a>]) -> Result<Sections<'a>, NoMemory>
     ensures { IfOk result (λ found. shown_sections found ≡ sections_of (placed (map shown_line lines.now))) }
 {

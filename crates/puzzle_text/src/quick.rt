@@ -39,6 +39,7 @@ fn puzzle_said(alloc: Global, parts: Parts<'_>) -> Result<Puzzle, TextFault>
 
 /// Reads a .non text in its usual form: all keyword lines but `rows` and `columns` in any order, the sizes
 /// above the sections. If it answers, the answer is that of `read_non`.
+#[tactic(auto, using(crate::proofs::UsualLines::kept_clean))]
 pub fn quick_non(alloc: Global, bytes: &[u8]) -> Option<Puzzle>
     ensures answer { IfSome result (λ p. read_non LONGEST_SIDE bytes.now ≡ Ok p) }
     ensures short { IsSome result → length bytes.now ≤ LONGEST_PUZZLE }

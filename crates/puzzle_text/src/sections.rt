@@ -63,7 +63,7 @@ fn front<'a, 'b>(count: usize, section: &'b [Line<'a>]) -> Option<&'b [Line<'a>]
 
 /// The `count` clue lines of a section: its lines that aren't blank, or else its first ones.
 /// The first ones are tried first: if all after them are blank, and `count` lines aren't, these are the same.
-#[tactic(auto, using(crate::proofs::SectionsLemmas::front_chosen, crate::proofs::SectionsLemmas::choice_none, crate::proofs::SectionsLemmas::choice_full))]
+#[tactic(auto, using(crate::proofs::SectionsLemmas::front_chosen, crate::proofs::SectionsLemmas::choice_none, crate::proofs::SectionsLemmas::choice_full, crate::proofs::SectionsLemmas::lengths))]
 pub(crate) fn choice<'a, 'b>(
     alloc: Global,
     count: usize,

@@ -1,6 +1,6 @@
 -- `before_at`: no byte before the first `@` is one.
 use Rattle.puzzle_text.proofs.Names.{arith, length}
-use Rattle.puzzle_text.proofs.PlainLines.{no_at_before}
+use Rattle.puzzle_text.proofs.CollectionLemmas.{no_at_before}
 use Rattle.puzzle_text.proofs.collections.before_at.Goals as goal
 
 pub returns-in-Some-clause-other : goal.returns-in-Some-clause-other

@@ -1,6 +1,6 @@
 -- What the loop of `first_stray` keeps: the first stray line stands in the rest, if there is one.
 use Rattle.puzzle_text.proofs.Names.{◌≡◌, ◌+◌, ◌≤◌, length, raw_lines, first_stray}
-use Rattle.puzzle_text.proofs.StrayWalk.{stray_from}
+use Rattle.puzzle_text.proofs.CollectionLemmas.{stray_from}
 use Rattle.puzzle_text.proofs.collections.first_stray.Given as goal
 
 abbrev pub invariant-lines : goal.invariant-lines

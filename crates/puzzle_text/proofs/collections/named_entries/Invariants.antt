@@ -1,5 +1,4 @@
--- What the loop of `named_entries` keeps: the entries so far, and then those of the rest, are those of the
--- collection, and each one passed has a name.
+-- What the loop of `named_entries` keeps: the entries so far, then those of the rest; each has a name.
 use Rattle.puzzle_text.proofs.Names.{◌≡◌, ◌++◌, ◌≤◌, map, length, raw_lines, entries_of, are_named}
 use Rattle.puzzle_text.specs.declared.limits.TheConstants.{MOST_ENTRIES}
 use Rattle.puzzle_text.specs.Shown.{shown_entry}

@@ -1,6 +1,6 @@
 -- `past_plain`: nothing follows the front without `@`, or a line does, or the end of one and then others.
 use Rattle.puzzle_text.proofs.Names.{rules, sym}
-use Rattle.puzzle_text.proofs.PlainLines.{follows_amid, follows_line, follows_none}
+use Rattle.puzzle_text.proofs.CollectionLemmas.{follows_amid, follows_line, follows_none}
 use Rattle.puzzle_text.proofs.collections.past_plain.Goals as goal
 
 pub returns-then-is_empty : goal.returns-then-is_empty

@@ -2,7 +2,6 @@
 use Rattle.puzzle_text.proofs.Names.{length, FollowsPlain}
 use Rattle.puzzle_text.proofs.collections.split_body.Given as goal
 
--- some lines went into the body, what is left is the rest, and no entry began
 abbrev pub invariant-lines : goal.invariant-lines
 invariant-lines l = FollowsPlain l.bytes l.rest
 

@@ -1,7 +1,7 @@
 -- `puzzle_said`: the parts say the puzzle, if there are as many clues as the sizes say.
 use Rattle.puzzle_text.proofs.Names.{map, rules, LONGEST_SIDE, shown_keyword}
 use Rattle.puzzle_text.proofs.SaidLines.{non_lines}
-use Rattle.puzzle_text.proofs.UsualParts.{say_all, ok_of_gives}
+use Rattle.puzzle_text.proofs.UsualLines.{say_all, ok_of_gives}
 use Rattle.puzzle_text.proofs.quick.puzzle_said.Goals as goal
 
 pub returns : goal.returns

@@ -1,6 +1,6 @@
 -- `quick_mk`: what the size line, the rows, the line `#` and the columns say, the text says.
 use Rattle.puzzle_text.proofs.Names.{arith, rules}
-use Rattle.puzzle_text.proofs.UsualParts.{mk_said}
+use Rattle.puzzle_text.proofs.UsualLines.{mk_said}
 use Rattle.puzzle_text.proofs.quick.quick_mk.Goals as goal
 
 pub returns-clause-answer : goal.returns-clause-answer

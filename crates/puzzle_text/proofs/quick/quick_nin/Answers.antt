@@ -1,6 +1,6 @@
 -- `quick_nin`: what the size line and the clues say, the text says.
 use Rattle.puzzle_text.proofs.Names.{arith, rules, ◌≡◌}
-use Rattle.puzzle_text.proofs.UsualParts.{nin_said, some_of_ok}
+use Rattle.puzzle_text.proofs.UsualLines.{nin_said, some_of_ok}
 use Rattle.puzzle_text.proofs.quick.quick_nin.Goals as goal
 
 pub returns-clause-answer : goal.returns-clause-answer

@@ -1,10 +1,7 @@
 -- `quick_non`: what the parts of the text say, the text says.
-use Rattle.puzzle_text.proofs.Names.{rules, arith}
-use Rattle.puzzle_text.proofs.UsualParts.{kept_clean, non_said, some_of_ok}
+use Rattle.puzzle_text.proofs.Names.{arith}
+use Rattle.puzzle_text.proofs.UsualLines.{non_said, some_of_ok}
 use Rattle.puzzle_text.proofs.quick.quick_non.Goals as goal
-
-pub puzzle_said-requires : goal.puzzle_said-requires
-puzzle_said-requires c = search (rules, kept_clean)
 
 pub returns-clause-answer : goal.returns-clause-answer
 returns-clause-answer c =

@@ -1,6 +1,6 @@
 -- `read_clue_lines`: one line more says one clue more.
 use Rattle.puzzle_text.proofs.Names.{ap, arith, length, rules, length-append}
-use Rattle.puzzle_text.proofs.UsualParts.{one_said}
+use Rattle.puzzle_text.proofs.UsualLines.{one_said}
 use Rattle.puzzle_text.proofs.usual_lines.read_clue_lines.Goals as goal
 
 pub lines-preserved : goal.lines-preserved

@@ -1,7 +1,7 @@
 -- `parts_of`: past a blank line, a comment, or a keyword line with the clues below it.
 use Rattle.puzzle_text.proofs.Names.{◌≡◌, ◌+◌, arith, length, rules, sym, ◌∙◌, clues_under}
-use Rattle.puzzle_text.proofs.SectionsWalk.{none_is}
-use Rattle.puzzle_text.proofs.UsualParts.{above_all, kept_one, past_blank, past_section}
+use Rattle.puzzle_text.proofs.SectionsLemmas.{none_is}
+use Rattle.puzzle_text.proofs.UsualLines.{above_all, kept_one, past_blank, past_section}
 use Rattle.puzzle_text.proofs.usual_parts.parts_of.Goals as goal
 
 pub lines-init : goal.lines-init

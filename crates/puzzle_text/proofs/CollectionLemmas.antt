@@ -1,5 +1,5 @@
--- Lines of a collection that begin no entry, passed over many at a time.
-use Rattle.puzzle_text.proofs.Names.{rules, ◌≡◌, ℕ, ◌<◌, ◌≤◌, Bool, true, false, not, eqb, List, [], ◌∷◌, ◌++◌, length, take, get_or, refl, append_assoc, arith, list_all, cond_both, not-true, and_parts, ne_eqb, get_or-take, get_or_default, length-take-le, list_all-from_AllPass, raw_lines, Entry, body_of, entries_of, is_marker, FollowsPlain, ends_line, nil_from_length, nat_tests}
+-- Lemmas on collections: lines that begin no entry, many at a time, and the first stray line, on one walk.
+use Rattle.puzzle_text.proofs.Names.{rules, ◌≡◌, ℕ, ◌<◌, ◌≤◌, Bool, true, false, not, eqb, List, [], ◌∷◌, ◌++◌, length, take, get_or, refl, append_assoc, arith, list_all, cond_both, not-true, and_parts, ne_eqb, get_or-take, get_or_default, length-take-le, list_all-from_AllPass, raw_lines, Entry, body_of, entries_of, is_marker, FollowsPlain, ends_line, nil_from_length, nat_tests, ◌+◌, cond, ◌&&◌, ◌||◌, sym, ◌∙◌, Option, Some, None, enumerate_from, find, list_any, option_map, or-false, take-append_seam, length-append, list_any-append, is_empty, trim, without_ending, first_stray, is_stray, name_of, are_named, begins_with_marker}
 
 -- there is no @ among these bytes
 abbrev pub HasNoAt : List ℕ → Type 0
@@ -12,8 +12,6 @@ no_at_before bytes i within none =
     list_all-from_AllPass _ (take i bytes) (λ k d lt.
     let same = get_or_default (take i bytes) k d 0 lt in
     grind (arith, nat_tests, none k, length-take-le i bytes, same, get_or-take i bytes k 0))
-
--- ---- if the first line begins no entry
 
 -- what goes into the body from the start of a line, or from amid one that begins no entry
 abbrev body_in : Bool → List (List ℕ) → List ℕ
@@ -54,8 +52,6 @@ starts_where : (front : List ℕ) → starts_after true front ≡ ends_line fron
 starts_where [] = refl
 starts_where (byte ∷ bytes) = search (rules, ne_eqb, last_feed true byte bytes)
 
--- ---- what follows
-
 -- nothing follows
 pub follows_none : (bytes front tail : List ℕ) → bytes ≡ front ++ tail → HasNoAt front → length tail ≡ 0 → FollowsPlain bytes tail
 follows_none bytes front tail whole h none =
@@ -83,3 +79,43 @@ past_line rest raw after parts first other = (raw, parts, rw (first, other) refl
 -- one after the other
 pub follow_on : (bytes rest next : List ℕ) → FollowsPlain bytes rest → FollowsPlain rest next → FollowsPlain bytes next
 follow_on bytes rest next one other = (one.0 ++ other.0, search (rules, append_assoc), search (rules, append_assoc), search rules)
+
+-- the number of the first stray line: `raws` are the lines from `number` on,
+-- and `inside` tells whether a marker line stands above
+abbrev pub stray_from : ℕ → Bool → List (List ℕ) → Option ℕ
+stray_from number inside [] = None
+stray_from number inside (raw ∷ raws) =
+    let later = stray_from (number + 1) (inside || is_marker raw) raws in
+    cond (is_marker raw) (cond (is_empty (name_of raw)) (Some number) later)
+    (cond (inside || is_empty (trim (without_ending raw))) later (Some number))
+
+-- the number of the first of these lines that is stray in a text
+abbrev stray_number : List (List ℕ) → List (ℕ × List ℕ) → Option ℕ
+stray_number whole numbered = option_map (λ one. one.0 + 1) (find (λ one. is_stray (take one.0 whole) one.1) numbered)
+
+-- the same at one line, by what is told of it
+at_line : (marker nameless blank inside : Bool) (place : ℕ) (raw : List ℕ) (found : Option (ℕ × List ℕ)) (later : Option ℕ)
+    → later ≡ option_map (λ one. one.0 + 1) found
+    → cond marker (cond nameless (Some (place + 1)) later) (cond (inside || blank) later (Some (place + 1)))
+    ≡ option_map (λ one. one.0 + 1) (cond (cond marker nameless (not inside && not blank)) (Some (place, raw)) found)
+at_line marker nameless blank inside place raw found later e = search rules
+
+-- the walk below some lines
+walk_below : (front raws : List (List ℕ))
+    → stray_from (length front + 1) (list_any is_marker front) raws ≡ stray_number (front ++ raws) (enumerate_from (length front) raws)
+walk_below front [] = refl
+walk_below front (raw ∷ raws) =
+    search (rules, walk_below (front ++ raw ∷ []) raws, append_assoc, length-append, list_any-append, or-false, take-append_seam, at_line)
+
+-- the walk from the top finds the first stray line
+pub first_stray_found : (raws : List (List ℕ)) → stray_from 1 false raws ≡ first_stray raws
+first_stray_found raws = walk_below [] raws
+
+-- no line below a marker line is stray
+none_below : (number : ℕ) (raws : List (List ℕ)) → are_named (entries_of raws) ≡ true → stray_from number true raws ≡ None
+none_below number [] named = refl
+none_below number (raw ∷ raws) named = search (rules, none_below (number + 1) raws)
+
+-- and none at all, if the first line is one
+pub none_stray : (raws : List (List ℕ)) → begins_with_marker raws ≡ true → are_named (entries_of raws) ≡ true → first_stray raws ≡ None
+none_stray raws marker named = sym (first_stray_found raws) ∙ search (raws, rules, none_below)
