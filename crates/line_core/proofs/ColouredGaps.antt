@@ -98,18 +98,14 @@ before_to l rs n i v k some h = elim (cases_eq k i) [
   | inr ne ↦
       (let s = gap_step_to (coloured l k v) rs n i some h.2 in
       let le : k ≤ i - 1 = omega (arith, h.0, s.0) in
-      elim s.1 [
-        | inl g ↦ inr (s.0, inl (le, h.1, g))
-        | inr x ↦ inr (s.0, inr (end_less l k v h.1 rs n (i - 1) x, end_step_to l rs n (i - 1) k v some h.1 le x))
-      ])
+      search (rules, s, end_less l k v h.1 rs n (i - 1), end_step_to l rs n (i - 1) k v some h.1 le))
 ]
 
 pub before_from : (l : List Cell) (rs : List ℕ) (n i : ℕ) (v : Bool) (k : ℕ) → 0 < n → IsGapAfter l (n ∷ rs) i → Step l rs n i v k
     → CanBeBefore l (n ∷ rs) i v k
 before_from l rs n i v k some g (inl (at, blank)) = search (rules, at, blank, behind_coloured, coloured_same)
-before_from l rs n i v k some g (inr (h, inl x)) = search (rules, gap_step_from (coloured l k v) rs n i some, coloured_other)
-before_from l rs n i v k some g (inr (h, inr (x, y))) =
-    search (rules, end_step_from l rs n (i - 1) k v x y, gap_step_from (coloured l k v) rs n i some, coloured_other)
+before_from l rs n i v k some g (inr (h, x)) =
+    search (rules, end_step_from l rs n (i - 1) k v, gap_step_from (coloured l k v) rs n i some, coloured_other)
 
 -- ---- before the first run
 
@@ -146,8 +142,7 @@ whole_back l clue j i jl some a g =
 -- and so is the end of the run before
 pub whole_end_back : (l : List Cell) (clue : List ℕ) (j i : ℕ) → 1 ≤ i → IsGapAhead l clue (suc j) i
     → IsEndAfter l (behind 0 clue j) (get_or clue j 0) (i - 1) → IsWholeEnd l clue j (i - 1)
-whole_end_back l clue j i some a e =
-    let same : i - 1 + 1 ≡ i = omega arith in (e, rw (same, add-one j) (closed_ahead_from l clue (suc j) i (inr a)))
+whole_end_back l clue j i some a e = search (rules, add-one, closed_ahead_from)
 
 -- a gap before a run of a whole placing is one of a whole placing
 pub whole_before_end : (l : List Cell) (clue : List ℕ) (j e : ℕ) → j < length clue → 0 < get_or clue j 0 → get_or clue j 0 ≤ e
@@ -197,16 +192,13 @@ told_is {t = t} l rs n i longer ended before row some far r v k =
 
     to : Told t l n i longer ended before row v k → (k < length l) × Step l rs n i v s
     to (inl ((kl, low, high), blank)) = (kl, inl (omega arith, blank))
-    to (inr (inl (h, x))) = let y = (in_row h).0 x in (y.0, inr (far h, inl y.1))
-    to (inr (inr (h, inl (fill, (kl, low, high))))) = (kl, inr (omega arith, inr (r.ended_to h, inl (fill, omega arith, omega arith))))
-    to (inr (inr (h, inr (a, x)))) = let y = (in_before h a).0 x in (y.0, inr (omega arith, inr (r.ended_to h, inr (omega arith, y.1))))
+    to (inr (inl (h, x))) = search (rules, in_row h, far)
+    to (inr (inr (h, x))) = search (rules, in_before h, r.ended_to)
 
     from : k < length l → Step l rs n i v s → Told t l n i longer ended before row v k
     from kl (inl (at, blank)) = inl ((kl, omega arith, omega arith), blank)
     from kl (inr (h, inl y)) = let x = r.longer_from h (gap_less l s v y.1 (n ∷ rs) (i - 1) y.2) in inr (inl (x, (in_row x).1 (kl, y)))
-    from kl (inr (h, inr (e, inl (fill, low, high)))) = inr (inr (r.ended_from h e, inl (fill, (kl, omega arith, omega arith))))
-    from kl (inr (h, inr (e, inr (a, y)))) =
-        let x = r.ended_from h e in let b : n < i = omega arith in inr (inr (x, inr (b, (in_before x b).1 (kl, y))))
+    from kl (inr (h, inr (e, y))) = let x = r.ended_from h e in search (rules, in_before x)
 
 -- the masks of what can be filled and of what can be blank
 pub colours_are : {t : Bool} (l : List Cell) (rs : List ℕ) (n i own longer ended : ℕ) (before row : List ColourMasks) (m : ColourMasks) → 0 < n

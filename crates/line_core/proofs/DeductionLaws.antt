@@ -194,3 +194,5 @@ deduced-settled l d clue e =
 -- the deduced line is as long as the line
 pub length-deduced : (l d : List Cell) (clue : List ℕ) → Some d ≡ deduced l clue → length d ≡ length l
 length-deduced l d clue e = sym (length-Extends l d (rw (sym e) at (deduced-above l clue)))
+
+pub ruleset laws = (deduced-above, deduced-below, deduced-monotone, deduced-settled, test_is)

@@ -29,10 +29,7 @@ full_is l x full agree = ext_get_or false x (map is_filled l) (search (rules, le
 -- if its runs are the clue, each cell can be what it may be
 pub full_told : (l : List Cell) (clue : List ℕ) (v : Bool) (m : ℕ) → ArePositive clue → IsFull l → runs (map is_filled l) ≡ clue
     → IsMaskOf (MayBe l v) m → IsMaskOf (IsTold l clue v) m
-full_told l clue v m pos full is p = told_mask l clue v _ m pos p (λ i. (
-  λ h. (h.0, (map is_filled l, agrees_filled l, is, only_be l (map is_filled l) v i full (agrees_filled l) h)),
-  λ (within, (x, agree, _, at)). may_be l x v i agree within at,
-))
+full_told l clue v m pos full is p = search (rules, told_mask, agrees_filled, only_be, may_be)
 
 -- and else there is no placing
 pub dead_told : (l : List Cell) (clue : List ℕ) (v : Bool) (m : ℕ) → ArePositive clue → IsFull l → (runs (map is_filled l) ≡ clue → ⊥)

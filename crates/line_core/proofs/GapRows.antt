@@ -1,5 +1,5 @@
 -- Rows of what can be before the gaps of whole placings, written gap by gap.
-use Rattle.line_core.proofs.Names.{Bool, rules, eqb-true, none_has, true, ◌≡◌, ◌≢◌, ◌∙◌, ℕ, zero, suc, ◌+◌, ◌-◌, ◌<◌, ◌≤◌, List, ◌++◌, length, false, refl, sym, subst, arith, zero-add, inl, inr, get_or, set, take, map, Cell, Has, IsMaskOf, IsShifted, IsGapAfter, IsWholeEnd, behind, nat_eq, ◌*◌, ◌/◌, get_or-set_other, get_or-set_same, true≢false, drop, [], length-drop, drop_of_length-le, append-nil, get_or-take, get_or-drop, get_or-append-add, get_or_append_left, length-take-le, take_all, cases_eq, cases_lt, bit_at, IsMarked, number_at, ColourMasks, no_colours, AreColoursBefore, IsWholeGap, IsReady, IsRow, bit_at-suc, bit_at_lowest, bit_at-lt, same_from_bits}
+use Rattle.line_core.proofs.Names.{Bool, rules, eqb-true, none_has, true, ◌≡◌, ◌≢◌, ◌∙◌, ℕ, zero, suc, ◌+◌, ◌-◌, ◌<◌, ◌≤◌, List, ◌++◌, length, false, refl, sym, subst, arith, zero-add, inl, inr, get_or, set, take, map, Cell, Has, IsMaskOf, IsShifted, IsGapAfter, IsWholeEnd, behind, nat_eq, ◌*◌, ◌/◌, get_or-set_other, get_or-set_same, true≢false, drop, [], length-drop, drop_of_length-le, append-nil, get_or-take, get_or-drop, get_or-append-add, get_or_append_left, length-take-le, take_all, cases_eq, cases_lt, bit_at, IsMarked, number_at, length_at, add-one, AreLengths, ColourMasks, no_colours, AreColoursBefore, IsWholeGap, IsReady, IsRow, bit_at-suc, bit_at_lowest, bit_at-lt, same_from_bits}
 use Rattle.line_core.proofs.ColouredGaps.{whole_back, whole_end_back, whole_before_end}
 
 -- a number with one bit less is less
@@ -45,28 +45,27 @@ first_inside l gaps left p Q row walk h gap = (gap p (walk.within p h)).0.0
 
 pub ruleset walks = (left_inside, first_inside, mask_less, walk_none)
 
--- a row is within its 128 places
-pub row_front : {t : Bool} (l : List Cell) (clue : List ℕ) (j : ℕ) (rows : List ColourMasks) → length l ≤ 128 → IsRow t l clue j 0 rows
-    → IsRow t l clue j 0 (take 128 rows)
-row_front l clue j rows short told i whole =
-    let inside : 0 + i < 128 = omega (arith, whole.0.0.0) in rw (get_or-take 128 rows (0 + i) no_colours inside) (told i whole)
-
 -- a gap after run j can be told by the gaps before it, in its row and in the row before
-pub ready_is : {t : Bool} (l : List Cell) (clue : List ℕ) (j w gaps ends longer ended p : ℕ) (before row : List ColourMasks) → j < length clue
-    → 0 < get_or clue j 0 → IsMaskOf (IsWholeGap l clue (suc j)) gaps → IsMaskOf (IsWholeEnd l clue j) ends
-    → IsMaskOf (IsShifted w (Has gaps) 1) longer → IsMaskOf (IsShifted w (Has ends) 1) ended → p < w → Has gaps p → IsRow t l clue j 0 before
-    → (1 ≤ p → Has gaps (p - 1) → AreColoursBefore t l (behind 0 clue (suc j)) (p - 1) (get_or row (p - 1) no_colours))
+pub ready_is : {t : Bool} (l : List Cell) (clue : List ℕ) (j w gaps left ends longer ended p : ℕ) (before row rows : List ColourMasks)
+    → AreLengths w clue → j < length clue → length l ≤ 128 → IsMaskOf (IsWholeGap l clue (j + 1)) gaps → IsMaskOf (IsWholeEnd l clue j) ends
+    → IsMaskOf (IsShifted w (Has gaps) 1) longer → IsMaskOf (IsShifted w (Has ends) 1) ended → p < w → Has left p
+    → ((i : ℕ) → Has left i → p ≤ i) → before ≡ take 128 rows → IsRow t l clue j 0 rows
+    → IsWalk gaps left (AreColoursBefore t l (behind 0 clue (j + 1))) no_colours row
     → IsReady t l (behind 0 clue j) (get_or clue j 0) p longer ended before row
-ready_is l clue j w gaps ends longer ended p before row jl some gs es lm em within here told last =
-    let whole = gs.to p here in
-    let c = get_or clue j 0 in record {
+ready_is l clue j w gaps left ends longer ended p before row rows are jl short places es lm em within here least front told walk =
+    let gs : IsMaskOf (IsWholeGap l clue (suc j)) gaps = rw (add-one j) at places in
+    let whole = gs.to p (walk.within p here) in
+    let c = get_or clue j 0 in
+    let some = (length_at w clue j are jl).0 in record {
       gap = whole.0;
-      longer_to = λ h. let x = lm.to p h in last x.1 x.2;
+      longer_to = λ h. let x = lm.to p h in rw (add-one j) at (walk.done (p - 1) x.2 (λ n. omega (arith, x.1, least (p - 1) n)));
       longer_from = λ first g. search (rules, lm.from, gs.from, whole_back);
       ended_to = λ h. (es.to (p - 1) (em.to p h).2).0;
       before_to = λ h far.
+          let gap = whole_before_end l clue j (p - 1) jl some (omega arith) (es.to (p - 1) (em.to p h).2) in
           let e : p - 1 - c ≡ p - c - 1 = omega arith in
-          rw (sym e) (rw zero-add at (told (p - 1 - c) (whole_before_end l clue j (p - 1) jl some (omega arith) (es.to (p - 1) (em.to p h).2))));
+          let inside : p - 1 - c < 128 = omega (arith, gap.0.0.0) in
+          rw (sym e, front, get_or-take 128 rows (p - 1 - c) no_colours inside) (rw zero-add at (told (p - 1 - c) gap));
       ended_from = λ first e. search (rules, em.from, es.from, whole_end_back);
     }
 
@@ -81,37 +80,40 @@ AreRowsTo t l clue j table = (q : ℕ) → q ≤ j → IsRow t l clue q (128 * q
 
 pub rows_none : {t : Bool} (l : List Cell) (clue : List ℕ) (table : List ColourMasks)
     → ((i : ℕ) → IsWholeGap l clue 0 i → AreColoursBefore t l [] i (get_or table i no_colours)) → AreRowsTo t l clue 0 table
-rows_none l clue table told zero h i whole = rw zero-add (told i whole)
-rows_none l clue table told (suc q) h i whole = absurd (omega arith)
+rows_none l clue table told q h i whole = let e : q ≡ 0 = omega arith in rw (e, zero-add) (told i (rw e at whole))
 
 -- a part of a list up to its end is what is left of it, and is put back behind the first part
 pub part_is : (a : ℕ) (xs : List ColourMasks) → take (length xs - a) (drop a xs) ≡ drop a xs
 part_is a xs = take_all (length xs - a) (drop a xs) (omega (arith, length-drop a xs))
 
+pub part_long : (a : ℕ) (xs : List ColourMasks) → length (take (length xs - a) (drop a xs)) ≡ length xs - a
+part_long a xs = rw part_is (length-drop a xs)
+
 pub put_back : (a : ℕ) (xs ys : List ColourMasks) → take a xs ++ (ys ++ drop (length xs - a) (drop a xs)) ≡ take a xs ++ ys
 put_back a xs ys = rw (drop_of_length-le (drop a xs) {i = length xs - a} (omega (arith, length-drop a xs)), append-nil) refl
 
 -- the last of them, seen from its place
-pub row_at : {t : Bool} (l : List Cell) (clue : List ℕ) (j : ℕ) (table : List ColourMasks) → AreRowsTo t l clue j table → IsRow t l clue j 0 (drop (128 * j) table)
-row_at l clue j table told i whole = rw (get_or-drop (128 * j) table (0 + i) no_colours, zero-add i) (told j (omega arith) i whole)
+pub row_at : {t : Bool} (l : List Cell) (clue : List ℕ) (j : ℕ) (table : List ColourMasks) → AreRowsTo t l clue j table
+    → IsRow t l clue j 0 (take (length table - 128 * j) (drop (128 * j) table))
+row_at l clue j table told i whole = rw (part_is, get_or-drop (128 * j) table (0 + i) no_colours, zero-add i) (told j (omega arith) i whole)
 
 -- one more row, written behind the last of them
 pub rows_more : {t : Bool} (l : List Cell) (clue : List ℕ) (j : ℕ) (table new : List ColourMasks) → length l ≤ 128 → 128 * j ≤ length table
     → AreRowsTo t l clue j table → IsRow t l clue (j + 1) 128 new
-    → ((k : ℕ) → k < 128 → get_or new k no_colours ≡ get_or (drop (128 * j) table) k no_colours)
-    → AreRowsTo t l clue (j + 1) (take (128 * j) table ++ new)
+    → ((k : ℕ) → k < 128 → get_or new k no_colours ≡ get_or (take (length table - 128 * j) (drop (128 * j) table)) k no_colours)
+    → AreRowsTo t l clue (j + 1) (take (128 * j) table ++ (new ++ drop (length table - 128 * j) (drop (128 * j) table)))
 rows_more l clue j table new short room told next same q le i whole =
     let front = take (128 * j) table in
     let size : length front ≡ 128 * j = length-take-le (128 * j) table room in
     let within : i < 128 = omega (arith, whole.0.0.0) in
     let back : (k : ℕ) → get_or (front ++ new) (128 * j + k) no_colours ≡ get_or new k no_colours = λ k. rw size at (get_or-append-add front new k no_colours) in
-    elim (cases_lt q j) [
+    rw put_back (elim (cases_lt q j) [
       | inl low ↦
           (let inside : 128 * q + i < 128 * j = omega arith in search (rules, get_or_append_left, get_or-take, told q))
       | inr high ↦ elim (cases_eq q j) [
-        | inl e ↦ rw (e, back i, same i within, get_or-drop (128 * j) table i no_colours) (told j (omega arith) i (rw e at whole))
+        | inl e ↦ rw (e, back i, same i within, part_is, get_or-drop (128 * j) table i no_colours) (told j (omega arith) i (rw e at whole))
         | inr ne ↦
             (let e : q ≡ j + 1 = omega arith in
             let at : 128 * (j + 1) + i ≡ 128 * j + (128 + i) = omega arith in rw (e, at, back (128 + i)) (next i (rw e at whole)))
       ]
-    ]
+    ])

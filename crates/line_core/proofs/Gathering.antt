@@ -1,9 +1,10 @@
 -- What can be on a line with a cell coloured, told by what can be before and after that cell, or the run that covers it.
-use Rattle.line_core.proofs.Names.{AreMore, allows, rules, ap, sym, cases_eq, get_or-set_same, true≢false, not, mask_same, get_or-drop, IsShifted, nat_eq, ◌≡◌, ℕ, zero, suc, ◌+◌, ◌-◌, ◌*◌, ◌<◌, ◌≤◌, Bool, true, false, List, ◌∷◌, length, length_at, get_or, set, drop, reverse, refl, ◌∙◌, arith, add-one, ◌⊎◌, inl, inr, ◌↔◌, cases_lt, and_from, and_parts, length-set, ext_get_or, get_or-reverse, Has, IsMarked, IsMaskOf, Cell, Unknown, agrees, runs, behind, MayBe, IsGapAhead, IsWholeEnd, ArePositive, get_or-set_other, get_or-set_at, get_or_default, length-reverse, reverse-reverse, drop-set-lt, colour, ColourMasks, PairMasks, no_colours, no_pair, masks_if, coloured, AreColours, CanBeBefore, IsWholeGap, AreMasks, ArePairsMore, AreToldOf, CanBeAfter, CanBeBesideGap, CanBeBesideRun, CanBeUpTo, CanBeWithBlank, CanBeWithFilled, HasColour, IsEndOver}
+use Rattle.line_core.proofs.Names.{AreMore, allows, rules, ap, sym, cases_eq, get_or-set_same, true≢false, not, mask_same, get_or-drop, IsShifted, nat_eq, ◌≡◌, ℕ, zero, suc, ◌+◌, ◌-◌, ◌*◌, ◌<◌, ◌≤◌, Bool, true, false, List, ◌∷◌, length, length_at, get_or, set, take, drop, reverse, refl, ◌∙◌, arith, add-one, ◌⊎◌, inl, inr, ◌↔◌, cases_lt, and_from, and_parts, length-set, ext_get_or, get_or-reverse, Has, IsMarked, IsMaskOf, Cell, Unknown, agrees, runs, behind, MayBe, IsGapAhead, IsWholeEnd, ArePositive, get_or-set_other, get_or-set_at, get_or_default, length-reverse, reverse-reverse, drop-set-lt, colour, ColourMasks, PairMasks, no_colours, no_pair, masks_if, coloured, AreColours, AreLengths, CanBeBefore, IsWholeGap, AreMasks, ArePairsMore, AreToldOf, IsLineWithin, CanBeAfter, CanBeBesideGap, CanBeBesideRun, CanBeUpTo, CanBeWithBlank, CanBeWithFilled, HasColour, IsEndOver}
 use Rattle.line_core.specs.steps.Pairs.{ArePairs}
-use Rattle.line_core.proofs.ColourMasks.{AreAdded, Below, added_all, added_more, masks_are, masks_of, masks_same, more_more, read_at, more_same, no_below, one_below}
+use Rattle.line_core.proofs.ColourMasks.{Below, masks_are, masks_of, masks_same, more_more, read_at, more_same, no_below, one_below}
 use Rattle.line_core.proofs.ColouredGaps.{before_are, colour_is, coloured_less, coloured_other, behind_coloured, gap_less, end_less, end_step_to, end_step_from, whole_before_end}
 use Rattle.line_core.proofs.Certain.{CanBe}
+use Rattle.line_core.proofs.GapRows.{mask_less, part_is, part_long}
 use Rattle.line_core.proofs.Joining.{closed_ahead_to, closed_ahead_from, blankable_to, blankable_from, reversed_gap}
 use Rattle.line_core.proofs.WholeEnds.{fillable_to, fillable_from, IsTold, told_mask}
 use Rattle.line_core.proofs.Reaching.{run_from_end}
@@ -60,8 +61,7 @@ whole_turned l clue j i jl il whole =
 
 -- an unknown cell can have each colour
 pub unknown_may : (l : List Cell) (x : ℕ) (c : Bool) → x < length l → get_or l x (colour true) ≡ Unknown → MayBe l c x
-unknown_may l x c within unknown =
-    let e = get_or_default l x Unknown (colour true) within ∙ unknown in (within, rw e (search rules))
+unknown_may l x c within unknown = search (rules, get_or_default)
 
 -- the masks of what can be on the line with x coloured
 colours_of : (l : List Cell) (clue : List ℕ) (x : ℕ) (c : Bool) (m : ColourMasks) → ArePositive clue → MayBe l c x
@@ -98,11 +98,7 @@ pub gathered_blank : (l : List Cell) (clue : List ℕ) (x : ℕ) (m : ColourMask
     → AreMasks (Below (length clue + 1) (CanBeWithBlank l clue x)) m → AreColours (coloured l x false) clue m
 gathered_blank l clue x m pos may_x a = colours_of l clue x false m pos may_x (masks_same _ _ m a (λ d k. (
   λ (j, jl, ((gap, ahead), side)).
-      let le : j ≤ length clue = omega arith in
-      elim side [
-        | inl y ↦ search (rules, blankable_to (coloured l k d) clue x, drop-set-lt)
-        | inr y ↦ search (rules, blankable_to (coloured l k d) clue x, behind_coloured)
-      ],
+      let le : j ≤ length clue = omega arith in search (rules, blankable_to (coloured l k d) clue x, drop-set-lt, behind_coloured),
   λ (may, can).
       let (j, jl, gap, ahead) = blankable_from (coloured l k d) clue x (omega (arith, length-set l k (colour d), may_x.0)) can in
       let whole : IsWholeGap l clue j x = search (rules, gap_less, coloured_less, ahead_before) in
@@ -122,35 +118,6 @@ gathered_filled l clue x m pos may_x a = colours_of l clue x true m pos may_x (m
 
 -- ---- what the tables tell
 
--- what is told before a gap
-near_at : (l : List Cell) (clue : List ℕ) (before after : List ColourMasks) (j i : ℕ) → AreToldOf l clue before after → j ≤ length clue
-    → IsWholeGap l clue j i → (d : Bool) (k : ℕ) → HasColour (get_or before (128 * j + i) no_colours) d k ↔ CanBeBefore l (behind 0 clue j) i d k
-near_at l clue before after j i told jl whole d k =
-    let are = before_are l (behind 0 clue j) i _ (told.before_is j i jl whole) d k in (λ h. (are.0 h).1, λ h. are.1 (h.1.0, h))
-
--- as it is read
-pub near_are : (l : List Cell) (clue : List ℕ) (before after : List ColourMasks) (j i p : ℕ) (read : ColourMasks) → AreToldOf l clue before after
-    → length l ≤ 128 → j ≤ length clue → IsWholeGap l clue j i → p ≡ i → read ≡ get_or before (128 * j + p) read → (d : Bool) (k : ℕ)
-    → HasColour read d k ↔ CanBeBefore l (behind 0 clue j) i d k
-near_are l clue before after j i p read told short jl whole at is d k =
-    let same = read_at before (128 * j + p) (128 * j + i) read (ap (λ (n : ℕ). 128 * j + n) at) (omega (arith, told.before_fits, whole.0.0.0)) is in
-    rw (sym same) at (near_at l clue before after j i told jl whole d k)
-
--- and after it
-pub far_are : (l : List Cell) (clue : List ℕ) (before after : List ColourMasks) (j i p : ℕ) (read : ColourMasks) → AreToldOf l clue before after
-    → length l ≤ 128 → j ≤ length clue → IsWholeGap l clue j i → p ≡ length l - 1 - i → read ≡ get_or after (128 * (length clue - j) + p) read
-    → (d : Bool) (k : ℕ) → HasColour read d k ↔ CanBeAfter l clue j i d k
-far_are l clue before after j i p read told short jl whole at is d k =
-    let inside = whole.0.0.0 in
-    let q = length clue - j in
-    let same = read_at after (128 * q + p) (128 * q + (length l - 1 - i)) read (ap (λ (n : ℕ). 128 * q + n) at) (omega (arith, told.after_fits)) is in
-    let size : length (reverse l) - 1 - k ≡ length l - 1 - k = ap (λ (n : ℕ). n - 1 - k) (length-reverse l) in
-    let are = rw (sym same, size) at (before_are (reverse l) (behind 0 (reverse clue) q) (length l - 1 - i) _
-    (told.after_is q (length l - 1 - i) (omega (arith, length-reverse clue)) (whole_turned l clue j i jl inside whole)) d k) in (
-      λ h. let x = are.0 h in (after_turned l clue j i k d jl inside (omega (arith, x.0, length-reverse l))).0 x.1,
-      λ h. are.1 (omega (arith, h.1.0, length-reverse l), (after_turned l clue j i k d jl inside h.1.0).1 h),
-    )
-
 -- after an end of a run in whole placings that is not at the line's end there is a gap of whole placings
 pub gap_after_end : (l : List Cell) (clue : List ℕ) (j e : ℕ) → 0 < get_or clue j 0 → j < length clue → e + 1 < length l → IsWholeEnd l clue j e
     → IsWholeGap l clue (j + 1) (e + 1)
@@ -162,43 +129,87 @@ gap_after_end l clue j e some jl within (end, back) =
 pub end_inside : (l : List Cell) (clue : List ℕ) (j e : ℕ) → 0 < get_or clue j 0 → IsWholeEnd l clue j e → e < length l
 end_inside l clue j e some whole = omega (arith, (whole.0.1.1 (get_or clue j 0 - 1) (omega arith)).0, whole.0.0)
 
-pub ruleset ends = (end_inside, length_at)
+pub ruleset ends = (end_inside, length_at, part_long)
 
--- the cells of a run
-pub run_is : (w s n e m up : ℕ) → e + 1 ≡ s + n → e < w → IsMaskOf (λ i. i < n) m → IsMaskOf (IsShifted w (Has m) s) up
-    → IsMaskOf (λ k. (s ≤ k) × (k ≤ e)) up
-run_is w s n e m up at short is ups = mask_same _ _ up ups (λ k h. (h.1, omega (arith, is.to (k - s) h.2)))
-    (λ k h. (omega arith, h.0, is.from (k - s) (omega arith)))
+module _ (l : List Cell) (clue : List ℕ) (before after : List ColourMasks) (w len : ℕ) (line : IsLineWithin w l len)
+    (told : AreToldOf l clue before after) where
+  -- what is told before a gap
+  near_at : (j i : ℕ) → j ≤ length clue → IsWholeGap l clue j i → (d : Bool) (k : ℕ)
+      → HasColour (get_or before (128 * j + i) no_colours) d k ↔ CanBeBefore l (behind 0 clue j) i d k
+  near_at j i jl whole d k =
+      let are = before_are l (behind 0 clue j) i _ (told.before_is j i jl whole) d k in (λ h. (are.0 h).1, λ h. are.1 (h.1.0, h))
 
--- what goes with a run up to its last cell
-pub up_to_is : (l : List Cell) (clue : List ℕ) (before after : List ColourMasks) (j e run : ℕ) (m : ColourMasks) → AreToldOf l clue before after
-    → length l ≤ 128 → 0 < get_or clue j 0 → j < length clue → IsWholeEnd l clue j e → (let n = get_or clue j 0 in
-    let table = drop (128 * j) before in
-    IsMaskOf (λ k. (e + 1 - n ≤ k) × (k ≤ e)) run
-    → IsMaskOf (λ k. Has run k ⊎ ((0 < e + 1 - n) × Has (get_or table (e + 1 - n - 1) no_colours).fillable k)) m.fillable
-    → IsMaskOf (λ k. (0 < e + 1 - n) × Has (get_or table (e + 1 - n - 1) no_colours).blankable k) m.blankable
-    → AreMasks (λ d k. CanBeUpTo l (behind 0 clue j) n d e k) m)
-up_to_is l clue before after j e run m told short some jl whole r p q = masks_of _ m are
-  where
-    n : ℕ
-    n = get_or clue j 0
+  -- as it is read
+  pub near_are : (j i p : ℕ) (read : ColourMasks) → j ≤ length clue → IsWholeGap l clue j i → p ≡ i
+      → read ≡ get_or before (128 * j + p) read
+      → (d : Bool) (k : ℕ) → HasColour read d k ↔ CanBeBefore l (behind 0 clue j) i d k
+  near_are j i p read jl whole at is d k =
+      let same = read_at before (128 * j + p) (128 * j + i) read (ap (λ (n : ℕ). 128 * j + n) at) (omega (arith, whole.0.0.0)) is in
+      rw (sym same) at (near_at j i jl whole d k)
 
-    read : n ≤ e → (d : Bool) (k : ℕ)
-        → HasColour (get_or (drop (128 * j) before) (e + 1 - n - 1) no_colours) d k ↔ CanBeBefore l (behind 0 clue j) (e - n) d k
-    read far d k =
-        let at : e + 1 - n - 1 ≡ e - n = omega arith in
-        rw (get_or-drop (128 * j) before (e + 1 - n - 1) no_colours, at)
-        (near_at l clue before after j (e - n) told (omega arith) (whole_before_end l clue j e jl some far whole) d k)
+  -- and after it
+  pub far_are : (j i p : ℕ) (read : ColourMasks) → j ≤ length clue → IsWholeGap l clue j i → p ≡ len - 1 - i
+      → read ≡ get_or after (128 * (length clue - j) + p) read → (d : Bool) (k : ℕ) → HasColour read d k ↔ CanBeAfter l clue j i d k
+  far_are j i p read jl whole at is d k =
+      let inside = whole.0.0.0 in
+      let q = length clue - j in
+      let same = read_at after (128 * q + p) (128 * q + (length l - 1 - i)) read (omega arith) (omega arith) is in
+      let size : length (reverse l) - 1 - k ≡ length l - 1 - k = ap (λ (n : ℕ). n - 1 - k) (length-reverse l) in
+      let are = rw (sym same, size) at (before_are (reverse l) (behind 0 (reverse clue) q) (length l - 1 - i) _
+      (told.after_is q (length l - 1 - i) (omega (arith, length-reverse clue)) (whole_turned l clue j i jl inside whole)) d k) in (
+        λ h. let x = are.0 h in (after_turned l clue j i k d jl inside (omega (arith, x.0, length-reverse l))).0 x.1,
+        λ h. are.1 (omega (arith, h.1.0, length-reverse l), (after_turned l clue j i k d jl inside h.1.0).1 h),
+      )
 
-    are : (d : Bool) (k : ℕ) → HasColour m d k ↔ CanBeUpTo l (behind 0 clue j) n d e k
-    are true k = (
-      λ h. elim (p.to k h) [ inl x ↦ (let y = r.to k x in inl (refl, y.0, y.1)) | inr (far, x) ↦ inr (omega arith, (read (omega arith) true k).0 x) ],
-      λ h. p.from k (elim h [ inl (fill, low, high) ↦ inl (r.from k (low, high)) | inr (far, x) ↦ inr (omega arith, (read far true k).1 x) ]),
-    )
-    are false k = (
-      λ h. let x = q.to k h in inr (omega arith, (read (omega arith) false k).0 x.1),
-      λ h. elim h [ inl x ↦ absurd (true≢false (sym x.0)) | inr (far, x) ↦ q.from k (omega arith, (read far false k).1 x) ],
-    )
+  module _ (j e : ℕ) (are : AreLengths w clue) (jl : j < length clue) (whole : IsWholeEnd l clue j e) where
+    -- what goes with a run up to its last cell
+    pub up_to_is : (one up : ℕ) (m : ColourMasks) → IsMaskOf (λ i. i < get_or clue j 0) one
+        → IsMaskOf (IsShifted w (Has one) (e + 1 - get_or clue j 0)) up → (let n = get_or clue j 0 in
+        let table = take (length before - 128 * j) (drop (128 * j) before) in
+        IsMaskOf (λ k. Has up k ⊎ ((0 < e + 1 - n) × Has (get_or table (e + 1 - n - 1) no_colours).fillable k)) m.fillable
+        → IsMaskOf (λ k. (0 < e + 1 - n) × Has (get_or table (e + 1 - n - 1) no_colours).blankable k) m.blankable
+        → AreMasks (λ d k. CanBeUpTo l (behind 0 clue j) n d e k) m)
+    up_to_is one up m o u p q = masks_of _ m beside
+      where
+        n : ℕ
+        n = get_or clue j 0
+
+        some : 0 < n
+        some = (length_at w clue j are jl).0
+
+        read : n ≤ e → (d : Bool) (k : ℕ)
+            → HasColour (get_or (take (length before - 128 * j) (drop (128 * j) before)) (e + 1 - n - 1) no_colours) d k
+            ↔ CanBeBefore l (behind 0 clue j) (e - n) d k
+        read far d k =
+            let at : e + 1 - n - 1 ≡ e - n = omega arith in
+            rw (part_is (128 * j) before, get_or-drop (128 * j) before (e + 1 - n - 1) no_colours, at)
+            (near_at j (e - n) (omega arith) (whole_before_end l clue j e jl some far whole) d k)
+
+        run : (k : ℕ) → Has up k ↔ ((e + 1 - n ≤ k) × (k ≤ e))
+        run k = (
+          λ h. let x = u.to k h in (x.1, omega (arith, o.to (k - (e + 1 - n)) x.2, whole.0.0)),
+          λ (low, high). u.from k (omega (arith, end_inside l clue j e some whole), low, o.from (k - (e + 1 - n)) (omega arith)),
+        )
+
+        beside : (d : Bool) (k : ℕ) → HasColour m d k ↔ CanBeUpTo l (behind 0 clue j) n d e k
+        beside true k = (
+          λ h. elim (p.to k h) [ inl x ↦ (let y = (run k).0 x in inl (refl, y.0, y.1)) | inr x ↦ search (rules, read) ],
+          λ h. p.from k (elim h [ inl (fill, low, high) ↦ inl ((run k).1 (low, high)) | inr x ↦ inr (omega arith, (read x.0 true k).1 x.1) ]),
+        )
+        beside false k = (
+          λ h. let x = q.to k h in search (rules, read),
+          λ h. elim h [ inl x ↦ cc | inr x ↦ search (rules, q.from k, read) ],
+        )
+
+    -- and all that goes with it: up to its last cell, and after the gap after it
+    pub beside_is : (p : ℕ) (read old new : ColourMasks) → e + 1 < len → p ≡ len - 1 - (e + 1)
+        → read ≡ get_or after (128 * (length clue - (j + 1)) + p) read
+        → AreMasks (λ d k. CanBeUpTo l (behind 0 clue j) (get_or clue j 0) d e k) old
+        → AreMore (HasColour read) old new → AreMasks (CanBeBesideRun l clue j e) new
+    beside_is p read old new next at is a more =
+        let gap = gap_after_end l clue j e (length_at w clue j are jl).0 jl (omega arith) whole in
+        let far = far_are (j + 1) (e + 1) p read (omega arith) gap at is in
+        masks_same _ _ new more (λ d k. search (rules, masks_are _ old a d k, far d k))
 
 -- ---- pairs that get more
 
@@ -206,18 +217,6 @@ pub pairs_same : (filled : Bool) (P Q : ℕ → Bool → ℕ → Type 0) (old ne
     → ((x : ℕ) (d : Bool) (k : ℕ) → P x d k ↔ Q x d k) → ArePairsMore filled Q old new
 pairs_same filled P Q old new a same =
     record { more = λ x h. more_same _ _ _ _ (a.more x h) (same x); other = a.other; count = a.count }
-
--- and all that goes with it: up to its last cell, and after the gap after it
-pub beside_is : (l : List Cell) (clue : List ℕ) (before after : List ColourMasks) (j e p : ℕ) (read old new : ColourMasks) → AreToldOf l clue before after
-    → length l ≤ 128 → 0 < get_or clue j 0 → j < length clue → IsWholeEnd l clue j e → e + 1 < length l → p ≡ length l - 1 - (e + 1)
-    → read ≡ get_or after (128 * (length clue - (j + 1)) + p) read → AreMasks (λ d k. CanBeUpTo l (behind 0 clue j) (get_or clue j 0) d e k) old
-    → AreMore (HasColour read) old new → AreMasks (CanBeBesideRun l clue j e) new
-beside_is l clue before after j e p read old new told short some jl whole next at is a more =
-    let far = far_are l clue before after (j + 1) (e + 1) p read told short (omega arith) (gap_after_end l clue j e some jl next whole) at is in
-    masks_same _ _ new more (λ d k. (
-      λ h. elim h [ inl x ↦ inl ((masks_are _ old a d k).0 x) | inr x ↦ inr (next, (far d k).0 x) ],
-      λ h. elim h [ inl x ↦ inl ((masks_are _ old a d k).1 x) | inr x ↦ inr ((far d k).1 x.1) ],
-    ))
 
 -- one more pair gets the colours
 pub pairs_one : (filled : Bool) (from p q : ℕ) (C : Bool → ℕ → Type 0) (old sum : List PairMasks) (default new : PairMasks) → q ≡ p → p < length sum
@@ -240,28 +239,45 @@ pairs_one filled from p q C old sum default new at inside le a more other = reco
     here : get_or sum q default ≡ get_or sum p no_pair
     here = rw at (get_or_default sum p default no_pair inside)
 
--- what is added to pairs at each of some places, of which some are left
+-- what is added to pairs at those of some places that are no longer left
 pub record ArePairsAdded (filled : Bool) (places left : ℕ) (P : ℕ → ℕ → Bool → ℕ → Type 0) (old new : List PairMasks) : Type 0 where
   pub within : (i : ℕ) → Has left i → Has places i
-  pub added : (x : ℕ) → x < length old → AreAdded places left (P x) (masks_if filled (get_or old x no_pair)) (masks_if filled (get_or new x no_pair))
-  pub other : (x : ℕ) → masks_if (not filled) (get_or new x no_pair) ≡ masks_if (not filled) (get_or old x no_pair)
-  pub count : length new ≡ length old
+  pub more : ArePairsMore filled (λ x d k. (i : ℕ) × Has places i × (Has left i → ⊥) × P x i d k) old new
 
 pub pairs_more : (filled : Bool) (places left next p : ℕ) (P : ℕ → ℕ → Bool → ℕ → Type 0) (old sum new : List PairMasks)
     → ArePairsAdded filled places left P old sum → Has left p → IsMaskOf (IsMarked (Has left) p false) next
     → ArePairsMore filled (λ x. P x p) sum new → ArePairsAdded filled places next P old new
-pairs_more filled places left next p P old sum new a here marked more = record {
+pairs_more filled places left next p P old sum new a here marked b = record {
   within = λ i h. elim (marked.to i h) [ inl x ↦ a.within i x.0 | inr x ↦ a.within i (rw x.0 here) ];
-  added = λ x h. added_more _ _ _ p (P x) _ _ _ (a.added x h) here marked (more.more x (omega (arith, h, a.count)));
-  other = λ x. more.other x ∙ a.other x;
-  count = more.count ∙ a.count;
+  more = record {
+    more = λ x h. masks_same _ _ _ (more_more _ _ _ _ _ (a.more.more x h) (b.more x (omega (arith, h, a.more.count))))
+        (λ d k. search (rules, same));
+    other = λ x. b.other x ∙ a.more.other x;
+    count = b.count ∙ a.more.count;
+  };
 }
+  where
+    same : (x : ℕ) (d : Bool) (k : ℕ)
+        → ((i : ℕ) × Has places i × (Has left i → ⊥) × P x i d k) ⊎ P x p d k ↔ ((i : ℕ) × Has places i × (Has next i → ⊥) × P x i d k)
+    same x d k = (
+      λ h. search (rules, a.within, marked.to, true≢false),
+      λ (i, there, lacks, y). search (rules, cases_eq i p, marked.from i, lacks),
+    )
 
-pub pairs_all : (filled : Bool) (places left : ℕ) (P : ℕ → ℕ → Bool → ℕ → Type 0) (old new : List PairMasks)
-    → ArePairsAdded filled places left P old new → nat_eq left 0 ≡ true
-    → ArePairsMore filled (λ x d k. (i : ℕ) × Has places i × P x i d k) old new
-pairs_all filled places left P old new a none =
-    record { more = λ x h. added_all _ _ _ _ _ (a.added x h) none; other = a.other; count = a.count }
+-- a gap or an end of whole placings that is left is on the line
+pub gap_inside : (l : List Cell) (clue : List ℕ) (j gaps left i : ℕ) (filled : Bool) (P : ℕ → ℕ → Bool → ℕ
+    → Type 0) (old new : List PairMasks)
+    → ArePairsAdded filled gaps left P old new → Has left i → IsMaskOf (IsWholeGap l clue j) gaps → IsWholeGap l clue j i × (i < length l)
+gap_inside l clue j gaps left i filled P old new a h m = let gap = m.to i (a.within i h) in (gap, gap.0.0.0)
+
+pub end_left : (l : List Cell) (clue : List ℕ) (w j ends left e : ℕ) (filled : Bool) (P : ℕ → ℕ → Bool → ℕ
+    → Type 0) (old new : List PairMasks)
+    → ArePairsAdded filled ends left P old new → Has left e → IsMaskOf (IsWholeEnd l clue j) ends → AreLengths w clue → j < length clue
+    → IsWholeEnd l clue j e × (e < length l)
+end_left l clue w j ends left e filled P old new a h m are jl =
+    let end = m.to e (a.within e h) in (end, end_inside l clue j e (length_at w clue j are jl).0 end)
+
+pub ruleset places = (gap_inside, mask_less)
 
 -- ---- the pairs of a line
 
@@ -273,11 +289,7 @@ pub record AreGathered (l : List Cell) (clue : List ℕ) (gaps runs : ℕ) (pair
 
 pub gathered_none : (l : List Cell) (clue : List ℕ) (pairs : List PairMasks) → length l ≤ length pairs
     → ((x : ℕ) → x < length l → get_or pairs x no_pair ≡ no_pair) → AreGathered l clue 0 0 pairs
-gathered_none l clue pairs room none = record {
-  room = room;
-  blank = λ x h. no_below _ _ (ap (λ (p : PairMasks). p.if_blank) (none x h));
-  filled = λ x h. no_below _ _ (ap (λ (p : PairMasks). p.if_filled) (none x h));
-}
+gathered_none l clue pairs room none = search (rules, no_below, none)
 
 pub gathered_gaps : (l : List Cell) (clue : List ℕ) (j runs : ℕ) (old new : List PairMasks) → AreGathered l clue j runs old
     → ArePairsMore false (λ x. CanBeWithBlank l clue x j) old new → AreGathered l clue (j + 1) runs new
@@ -297,7 +309,4 @@ gathered_run l clue gaps j old new a more = record {
 
 pub gathered_all : (l : List Cell) (clue : List ℕ) (pairs : List PairMasks) → ArePositive clue
     → AreGathered l clue (length clue + 1) (length clue) pairs → ArePairs l clue pairs
-gathered_all l clue pairs pos a = λ x h unknown. record {
-  filled_is = gathered_filled l clue x _ pos (unknown_may l x true h unknown) (a.filled x h);
-  blank_is = gathered_blank l clue x _ pos (unknown_may l x false h unknown) (a.blank x h);
-}
+gathered_all l clue pairs pos a = λ x h unknown. search (rules, gathered_filled, gathered_blank, unknown_may, a.filled, a.blank)

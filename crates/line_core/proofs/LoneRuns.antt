@@ -77,8 +77,7 @@ module _ (l : List Cell) (number free room len line filled starts : ℕ) (e : le
     (s : IsMaskOf (AllFrom (Has room) number) starts) where
   -- a cell may be blank unless it must be filled
   free_unless : (k : ℕ) → (Has filled k → ⊥) → k < length l → MayBe l false k
-  free_unless k none within =
-      f.to k (true_has free k (true_from_ne_false (has free k) (λ lacks. none (p.from k (a.from k (omega arith), lacks)))))
+  free_unless k none within = search (rules, true_has, true_from_ne_false)
 
   -- no cell must be filled
   pub starts_anywhere : filled ≡ 0 → IsMaskOf (IsLoneStart l number) starts

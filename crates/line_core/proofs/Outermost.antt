@@ -14,7 +14,6 @@ pointwise_from (x ∷ xs) (y ∷ ys) e h = rw (le-leb x y (h 0 (omega arith)), p
 pointwise_from xs ys e h = search rules
 
 pointwise_to : (xs ys : List ℕ) → pointwise nat_le xs ys ≡ true → (length xs ≡ length ys) × ((j : ℕ) → get_or xs j 0 ≤ get_or ys j 0)
-pointwise_to [] [] h = (refl, λ j. omega arith)
 pointwise_to (x ∷ xs) (y ∷ ys) h = search (rules, and_parts, leb-true, pointwise_to xs ys)
 pointwise_to xs ys h = search rules
 

@@ -18,7 +18,6 @@ agree_blanks (suc m) (false ∷ y) h = ap (λ (t : List Bool). false ∷ t) (agr
 agree_blanks m y h = search rules
 
 agrees_more : (l : List Cell) (x : List Bool) (m : ℕ) → agrees l x ≡ true → agrees (l ++ replicate m Blank) (x ++ replicate m false) ≡ true
-agrees_more [] [] zero h = refl
 agrees_more [] [] (suc m) h = agrees_more [] [] m h
 agrees_more (c ∷ l) (b ∷ x) m h = search (rules, and_from, and_parts, agrees_more l x m)
 agrees_more l x m h = search rules

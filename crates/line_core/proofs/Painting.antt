@@ -134,22 +134,25 @@ cut_of clue ss i (suc n) apart free h later =
     ]
 
 -- and such a cell may be blank
-blank_at : (l : List Cell) (clue ss : List ℕ) (i n : ℕ) → IsLaid l clue ss → i < length l
-    → ((q : ℕ) → q < n → get_or ss q 0 + get_or clue q 0 ≤ i) → ((q : ℕ) → n ≤ q → q < length clue → i < get_or ss q 0) → MayBe l false i
-blank_at l clue ss i n d h before after = search rules
+blank_at : (l : List Cell) (clue ss : List ℕ) (i n : ℕ) → IsLaid l clue ss → i < length l → Cut clue ss i n → MayBe l false i
+blank_at l clue ss i n d h (before, after) = search rules
 
 furthest_blank : (side : Side) (l : List Cell) (clue m : List ℕ) (i n : ℕ) → AreFurthest side l clue m → i < length l → n ≤ length clue
     → Cut clue m i n → MayBe l false i
 furthest_blank Left l clue m i zero f h k (before, after) = search rules
 furthest_blank Left l clue m i (suc n) f h k (before, after) =
     let w = f.each n (omega arith) in
-    blank_at l clue w.starts i (suc n) w.laid_so h (λ q a. grind (arith, before n, ends_before clue w.starts w.laid_so.apart q n))
-    (λ q a b. grind (arith, after q, f.furthest w.starts w.laid_so q))
+    blank_at l clue w.starts i (suc n) w.laid_so h (
+      (λ q a. grind (arith, before n, ends_before clue w.starts w.laid_so.apart q n)),
+      (λ q a b. grind (arith, after q, f.furthest w.starts w.laid_so q)),
+    )
 furthest_blank Right l clue m i n f h k (before, after) = elim (cases_lt n (length clue)) [
   | inl more ↦
       (let w = f.each n more in
-      blank_at l clue w.starts i n w.laid_so h (λ q a. grind (arith, before q, f.furthest w.starts w.laid_so q))
-      (λ q a b. grind (arith, after n, ends_before clue w.starts w.laid_so.apart n q)))
+      blank_at l clue w.starts i n w.laid_so h (
+        (λ q a. grind (arith, before q, f.furthest w.starts w.laid_so q)),
+        (λ q a b. grind (arith, after n, ends_before clue w.starts w.laid_so.apart n q)),
+      ))
   | inr all ↦ search rules
 ]
 

@@ -1,14 +1,14 @@
 -- A line that is another one but for one cell, and what a table tells of it.
-use Rattle.line_core.proofs.Names.{◌||◌, CellExtends, Extends, Has, ◌≢◌, ◌≤◌, get_or-map-range_with_len, has, has_true, map, range_with_len, certain_by, rules, false, true, subst, Filled, Blank, ArePositive, ◌≡◌, ℕ, ◌<◌, ◌∙◌, Bool, inl, inr, List, None, Some, deduced, length, get_or, set, sym, arith, refl, ap, ext_get_or, length-set, Cell, Unknown, IsMaskOf}
+use Rattle.line_core.proofs.Names.{◌||◌, CellExtends, Extends, Has, ◌≢◌, ◌≤◌, get_or-map-range_with_len, has, has_true, map, range_with_len, certain_by, rules, false, true, Filled, Blank, ArePositive, ◌≡◌, ℕ, ◌<◌, ◌∙◌, Bool, inl, inr, List, None, Some, deduced, length, get_or, set, sym, arith, refl, ap, ext_get_or, length-set, Cell, Unknown, IsMaskOf}
 use Rattle.std.proofs.lemmas.List.{get_or-set_same, get_or-set_other, get_or_default}
 use Rattle.std.proofs.lemmas.Bool.{cases_eq}
 use Rattle.grid_core.proofs.Changing.{same_cells}
 use Rattle.grid_core.specs.Cells.{colour, is_known}
 use Rattle.grid_core.specs.Lines.{IsChanged}
-use Rattle.line_core.specs.Pairs.{AreNeutral, ColourMasks, PairMasks, Table, IsOneMore, IsTableOf, TellOf, coloured, masks_if, neutral_if, no_pair}
+use Rattle.line_core.specs.Pairs.{AreNeutral, ColourMasks, PairMasks, Table, IsOneMore, IsTableOf, TellOf, coloured, masks_if, no_pair}
 use Rattle.line_core.proofs.DeductionLaws.{Extends-at, deduced-above, length-Extends}
 use Rattle.line_core.proofs.Telling.{told-deduced}
-use Rattle.line_core.specs.steps.Pairs.{AreColours, ArePairs}
+use Rattle.line_core.specs.steps.Pairs.{ArePairs}
 use Rattle.line_core.specs.Told.{told_by}
 
 -- if only one cell differs, the line is the other one with the colour there
@@ -27,15 +27,9 @@ one_more base line x m filled long changed only at =
 pub is_one_more : (t u : Table) (base line : List Cell) (x m : ℕ) (filled : Bool) → u ≡ t → u.line ≡ Some base → length line ≡ length base
     → IsMaskOf (IsChanged base line) m → IsMaskOf (λ i. i ≡ x) m → get_or base x Unknown ≡ Unknown → get_or line x Unknown ≡ colour filled
     → IsOneMore t line
-is_one_more t u base line x m filled same is long changed only unknown known = record {
-  base = base;
-  x = x;
-  filled = filled;
-  base_is = rw (sym same) is;
-  inside = (changed.to x (only.from x refl)).0;
-  unknown = unknown;
-  line_is = one_more base line x m filled long changed only known;
-}
+is_one_more t u base line x m filled same is long changed only unknown known =
+    let line_is = one_more base line x m filled long changed only known in
+    let inside = (changed.to x (only.from x refl)).0 in search rules
 
 -- what a table tells of its line with one cell more is what is certain of that line
 pub told_as : (t u : Table) (clue : List ℕ) (base line : List Cell) (x m : ℕ) (filled : Bool) (pair : PairMasks) (masks : ColourMasks)
@@ -49,8 +43,7 @@ told_as t u clue base line x m filled pair masks table same is at inside told lo
 
 -- a colour is no unknown cell
 colour_known : (filled : Bool) → colour filled ≡ Unknown → ⊥
-colour_known true e = cc
-colour_known false e = cc
+colour_known filled e = search rules
 
 -- only the cell that got a colour differs
 pub only_changed : (t u : Table) (base line : List Cell) (m : ℕ) → u ≡ t → u.line ≡ Some base → (one : IsOneMore t line)
@@ -78,11 +71,6 @@ not_known c h = search rules
 pub empty_table : (clue : List ℕ) (t : Table) → t.line ≡ None → IsTableOf clue t
 empty_table clue t none = record { told = λ line is. cc; neutral = λ line filled is. cc }
 
--- what can be on a line tells what is certain of it
-colours_tell : (line : List Cell) (clue : List ℕ) (n : ℕ) (masks : ColourMasks) → ArePositive clue → 0 < n → length line ≡ n
-    → AreColours line clue masks → told_by n masks.fillable masks.blankable ≡ deduced line clue
-colours_tell line clue n masks pos some long is = told-deduced line clue n _ _ pos some long is.fillable_is is.blankable_is
-
 -- the pairs of a line tell of it
 pub pairs_tell : (line : List Cell) (clue : List ℕ) (pairs : List PairMasks) → ArePositive clue → 0 < length line
     → ArePairs line clue pairs → TellOf clue line pairs
@@ -92,11 +80,11 @@ pairs_tell line clue pairs pos some is = record { tells = at }
         → told_by (length line) (masks_if filled (get_or pairs x no_pair)).fillable (masks_if filled (get_or pairs x no_pair)).blankable
         ≡ deduced (coloured line x filled) clue
     at x true within unknown =
-        colours_tell (coloured line x true) clue (length line) _ pos some (length-set line x Filled)
-        (is x within (get_or_default line x Filled Unknown within ∙ unknown)).filled_is
+        let p = (is x within (get_or_default line x Filled Unknown within ∙ unknown)).filled_is in
+        told-deduced (coloured line x true) clue (length line) _ _ pos some (length-set line x Filled) p.fillable_is p.blankable_is
     at x false within unknown =
-        colours_tell (coloured line x false) clue (length line) _ pos some (length-set line x Blank)
-        (is x within (get_or_default line x Filled Unknown within ∙ unknown)).blank_is
+        let p = (is x within (get_or_default line x Filled Unknown within ∙ unknown)).blank_is in
+        told-deduced (coloured line x false) clue (length line) _ _ pos some (length-set line x Blank) p.fillable_is p.blankable_is
 
 -- what pairs tell of a line with a colour at a place, read from the pair there
 pub told_at : (line : List Cell) (clue : List ℕ) (filled : Bool) (pairs : List PairMasks) (x i : ℕ) (pair : PairMasks) (masks : ColourMasks)
@@ -138,14 +126,6 @@ nothing_else line clue x f b filled told alive both = is ∙ ap (λ (cells : Lis
 pub table_made : (clue : List ℕ) (line : List Cell) (pairs : List PairMasks) (f b : ℕ) → TellOf clue line pairs
     → AreNeutral clue line true f → AreNeutral clue line false b → IsTableOf clue (record { line = Some line; pairs = pairs; neutral_filled = f; neutral_blank = b })
 table_made clue line pairs f b tell filled blank = record {
-  told = λ l is. subst (λ (l : List Cell). TellOf clue l pairs) (same l is) tell;
-  neutral = λ l colour is. neutral l (same l is) colour;
+  told = λ l is. let e : l ≡ line = cc in rw e tell;
+  neutral = λ l colour is. let e : l ≡ line = cc in rw e (search rules);
 }
-  where
-    same : (l : List Cell) → Some line ≡ Some l → line ≡ l
-    same l is = cc
-
-    neutral : (l : List Cell) → line ≡ l → (colour : Bool)
-        → AreNeutral clue l colour (neutral_if colour (record { line = Some line; pairs = pairs; neutral_filled = f; neutral_blank = b }))
-    neutral l e true = subst (λ (l : List Cell). AreNeutral clue l true f) e filled
-    neutral l e false = subst (λ (l : List Cell). AreNeutral clue l false b) e blank

@@ -10,11 +10,10 @@ blank_before c cells cs a p = let q = (closed_first c cells cs).1 (a, p) in (q.0
 first_cell : (c : Cell) (cells : List Cell) (cs : List ℕ) → HasPlacing (c ∷ cells) cs
     → ((allows c false ≡ true) × HasPlacing cells cs) ⊎ ((n : ℕ) × (y : List Bool) × (0 < n)
     × (agrees (c ∷ cells) (replicate n true ++ y) ≡ true) × (n ∷ runs y ≡ cs) × (get_or y 0 false ≡ false))
-first_cell c cells cs ([], agree, is) = cc
-first_cell c cells cs (false ∷ y, agree, is) = search (rules, and_parts)
 first_cell c cells cs (true ∷ y, agree, is) =
     let b = begins (true ∷ y) in
     let runs_are = runs_about [] b.count b.rest (begins_some (true ∷ y) b refl) refl b.closed in search (rules, begins_some, runs_are, b)
+first_cell c cells cs (y, agree, is) = search rules
 
 -- the first gaps: from the first cell on, as long as all may be blank
 pub first_gap_to : (l : List Cell) (i : ℕ) → IsFlooded (λ k. (k ≡ 0) × MayBe l false k) (MayBe l false) i → IsGapAfter l [] i

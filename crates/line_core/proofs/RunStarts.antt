@@ -1,7 +1,7 @@
 -- At which places the runs of a full line start.
 use Rattle.line_core.proofs.Names.{rules, ◌≡◌, ℕ, zero, suc, ◌+◌, ◌-◌, ◌<◌, ◌≤◌, Bool, true, false, not, ◌&&◌, List, [], ◌∷◌, ◌++◌, length, replicate, filter, refl, sym, ap, ◌∙◌, arith, add-zero, add-one, true≢false, inl, inr, drop, get_or, drop-cons, append_assoc, range_with_len, runs, starts_run, run_starts, behind, runs_after, runs_after-zero, runs_after-true, runs_after-false, runs_after-close, runs_after-nil, common_steps, cases_Bool}
 use Rattle.std.proofs.Math.Seq.{get_or-append_seam}
-use Rattle.line_core.proofs.Joining.{filled_within, onto, length_behind, onto_behind, get_or-onto, onto_split, drop_head, runs_cut, runs_about, get_or-run, begins, begins_some}
+use Rattle.line_core.proofs.Joining.{filled_within, onto, length_behind, onto_behind, get_or-onto, onto_split, drop_head, runs_cut, runs_about, begins, begins_some}
 
 -- the places at which runs start, from place `p` on; `after` tells whether the cell before is filled
 abbrev pub starts_from : ℕ → Bool → List Bool → List ℕ
@@ -37,13 +37,11 @@ starts-onto (b ∷ a) w = search (rules, append_assoc, onto, starts-onto a (b �
 mutual
   length-starts : (p : ℕ) (x : List Bool) → length (starts_from p false x) ≡ length (runs_after 0 x)
   length-starts p [] = ap length (sym (runs_after-zero []))
-  length-starts p (true ∷ x) = length-open (suc p) 0 x ∙ ap length (sym (runs_after-true 0 x))
-  length-starts p (false ∷ x) = length-starts (suc p) x ∙ ap length (sym (runs_after-false x))
+  length-starts p (b ∷ x) = search (rules, length-open (suc p) 0 x, length-starts (suc p) x, runs_after-true, runs_after-false)
 
   length-open : (p n : ℕ) (x : List Bool) → suc (length (starts_from p true x)) ≡ length (runs_after (suc n) x)
   length-open p n [] = ap length (sym (runs_after-nil n))
-  length-open p n (true ∷ x) = length-open (suc p) (suc n) x ∙ ap length (sym (runs_after-true (suc n) x))
-  length-open p n (false ∷ x) = ap suc (length-starts (suc p) x) ∙ ap length (sym (runs_after-close n x))
+  length-open p n (b ∷ x) = search (rules, length-open (suc p) (suc n) x, length-starts (suc p) x, runs_after-true, runs_after-close)
 
 -- there are as many starts as runs
 pub length-run_starts : (x : List Bool) → length (starts_from 0 false x) ≡ length (runs x)
@@ -73,8 +71,7 @@ start_is : (x : List Bool) (p k : ℕ) (after : Bool) → k < length (starts_fro
     → (i : ℕ) × (get_or (starts_from p after x) k 0 ≡ p + i) × (get_or x i false ≡ true) × (before after x i ≡ false)
 start_is [] p k after h = absurd (omega arith)
 start_is (true ∷ x) p zero false h = (0, omega arith, refl, refl)
-start_is (true ∷ x) p (suc k) false h =
-    let r = start_is x (suc p) k true (omega arith) in (suc r.0, omega (arith, r.1), r.2, search rules)
+start_is (true ∷ x) p (suc k) false h = let r = start_is x (suc p) k true (omega arith) in (suc r.0, omega (arith, r.1), r.2, search rules)
 start_is (b ∷ x) p k after h = let r = start_is x (suc p) k b h in (suc r.0, omega (arith, r.1), r.2, search rules)
 
 -- ---- a line cut round a run
@@ -142,7 +139,7 @@ module _ (x : List Bool) (clue : List ℕ) where
 
   -- the cells of a run are filled
   pub filled_in_run : (k : ℕ) → Run x clue k → (z : ℕ) → z < get_or clue k 0 → get_or x (run_start k + z) false ≡ true
-  filled_in_run k r z h = search (rules, get_or-onto, get_or-run)
+  filled_in_run k r z h = grind (arith, common_steps, get_or-onto)
 
   pub in_run : (k i : ℕ) → runs x ≡ clue → k < length clue → run_start k ≤ i → i < run_start k + get_or clue k 0 → get_or x i false ≡ true
   in_run k i is h low high = grind (arith, filled_in_run k (run_of k is h) (i - run_start k))

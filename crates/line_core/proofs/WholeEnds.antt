@@ -1,5 +1,5 @@
 -- The ends of a run in whole placings, and the placings that have them.
-use Rattle.line_core.proofs.Names.{Bool, false, ◌↔◌, IsBlankable, IsMaskOf, mask_same, none_is, ◌≡◌, ℕ, ◌+◌, ◌-◌, ◌<◌, true, List, ◌∷◌, ◌++◌, length, replicate, sym, ap, ◌∙◌, arith, add-one, drop, get_or, drop-cons, Cell, Unknown, agrees, runs, behind, IsWholeEnd, IsFillable, ArePositive, rules}
+use Rattle.line_core.proofs.Names.{Bool, false, ◌↔◌, IsBlankable, IsMaskOf, none_is, ◌≡◌, ℕ, ◌+◌, ◌-◌, ◌<◌, true, List, ◌∷◌, ◌++◌, length, replicate, sym, ap, ◌∙◌, arith, add-one, drop, get_or, drop-cons, Cell, Unknown, agrees, runs, behind, IsWholeEnd, IsFillable, ArePositive, rules}
 use Rattle.line_core.proofs.Certain.{CanBe}
 use Rattle.line_core.proofs.Joining.{filled_agrees, blankable_to, blankable_from, onto, length-agrees, length_behind, onto_behind, onto_agrees, agrees_onto, run_agrees, agrees_span, positive_at, runs_about}
 use Rattle.line_core.proofs.RunStarts.{starts_from, start_of_cut, length-onto, run_of, in_run, covered}
@@ -58,8 +58,7 @@ told_is l clue false i pos = (λ h. (h.2.0.0, blankable_to l clue i h), λ h. bl
 -- so a mask of what is so exactly then is the mask of the colour
 pub told_mask : (l : List Cell) (clue : List ℕ) (v : Bool) (P : ℕ → Type 0) (m : ℕ) → ArePositive clue → IsMaskOf P m
     → ((i : ℕ) → P i ↔ ((i < length l) × CanBe l clue v i)) → IsMaskOf (IsTold l clue v) m
-told_mask l clue v P m pos p same =
-    mask_same P _ m p (λ i h. (told_is l clue v i pos).1 ((same i).0 h)) (λ i h. (same i).1 ((told_is l clue v i pos).0 h))
+told_mask l clue v P m pos p same = search (rules, told_is)
 
 -- and if there is no placing, the mask is empty
 pub none_told : (l : List Cell) (clue : List ℕ) (v : Bool) (m : ℕ) → ArePositive clue → m ≡ 0

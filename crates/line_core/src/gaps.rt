@@ -13,6 +13,7 @@ pub fn first_gap<W: PlaceSet>(free: W) -> W
 }
 
 /// The ends of a run, which can start after a gap, and at an opening with no gap before it.
+#[tactic(auto, using(place_sets::proofs::Doubling::one_within))]
 pub fn run_ends<W: PlaceSet>(gap: W, opening: W, window: W, length: u16) -> W
     requires { (0 < length) × (length ≤ W.WIDTH) }
     ensures { IsMaskOf (IsShifted W.WIDTH (λ s. (IsShifted W.WIDTH (Has (W.number gap)) 1 s ⊎ Has (W.number opening) s)
@@ -23,6 +24,7 @@ pub fn run_ends<W: PlaceSet>(gap: W, opening: W, window: W, length: u16) -> W
 }
 
 /// The free places after an end, as long as all are free.
+#[tactic(auto, using(place_sets::proofs::Doubling::one_within))]
 pub fn gap_after<W: PlaceSet>(ends: W, free: W) -> W
     ensures { IsMaskOf (IsFlooded (λ k. IsShifted W.WIDTH (Has (W.number ends)) 1 k × Has (W.number free) k) (Has (W.number free)))
         (W.number result) }

@@ -83,7 +83,7 @@ fn colours_with_run<W: PlaceSet>(
 }
 
 /// Adds what can be with each blank cell that has j runs before it.
-#[tactic(auto, using(crate::proofs::GapRows::mask_less))]
+#[tactic(auto, using(crate::proofs::Gathering::places))]
 fn add_gaps<W: PlaceSet>(
     len: u16,
     clue: &[u16],
@@ -112,7 +112,7 @@ fn add_gaps<W: PlaceSet>(
 }
 
 /// Adds what can be with each filled cell that run j covers.
-#[tactic(auto, using(crate::proofs::GapRows::mask_less))]
+#[tactic(auto, using(crate::proofs::Gathering::places))]
 fn add_run<W: PlaceSet>(
     len: u16,
     clue: &[u16],

@@ -10,22 +10,26 @@ ghost use Rattle.line_core.specs.Ends.{leftmost, rightmost, AreStarts};
 ghost use Rattle.line_core.specs.Order.{AtMost};
 
 /// The deduced line knows at least what the line knew.
+#[tactic(auto, using(crate::proofs::DeductionLaws::laws))]
 pub fn deduced_knows_the_line()
     ensures { (line : List Cell) (clue : List ℕ) → AtMost (Some line) (deduced line clue) }
 {}
 
 /// Every placing extends the deduced line.
+#[tactic(auto, using(crate::proofs::DeductionLaws::laws))]
 pub fn placings_extend_the_deduced()
     ensures { (line : List Cell) (clue : List ℕ) (full : List Bool) → is_placing line clue full ≡ true
         → AtMost (deduced line clue) (Some (map colour full)) }
 {}
 
 /// If more is known of a line, at least as much is deduced.
+#[tactic(auto, using(crate::proofs::DeductionLaws::laws))]
 pub fn deduction_is_monotone()
     ensures { (line more : List Cell) (clue : List ℕ) → Extends line more → AtMost (deduced line clue) (deduced more clue) }
 {}
 
 /// Deducing a deduced line changes nothing.
+#[tactic(auto, using(crate::proofs::DeductionLaws::laws))]
 pub fn deduction_settles()
     ensures { (line known : List Cell) (clue : List ℕ) → deduced line clue ≡ Some known → deduced known clue ≡ Some known }
 {}

@@ -23,6 +23,7 @@ pub fn is_unknown<W: PlaceSet>(span: &Span<W>) -> bool
 }
 
 /// How many cells the runs of a clue need, each with a blank cell after it.
+#[tactic(auto, using(crate::proofs::Packing::start_few))]
 fn cells_needed(clue: &[u16]) -> u16
     requires clue { AreLengths LONGEST_SIDE clue.now }
     requires count { length clue.now ≤ MOST_RUNS }

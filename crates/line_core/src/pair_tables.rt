@@ -83,6 +83,7 @@ fn make_entries<W: LineSet>(pairs: &mut Vec<Pair<W>>, len: u16)
 }
 
 /// The unknown cells of a line of which pairs tell that nothing else is certain with a colour there.
+#[tactic(auto, using(crate::proofs::GapRows::mask_less))]
 fn neutral_cells<W: LineSet>(line: &LineOf<W>, pairs: &[Pair<W>], filled: bool) -> W
     requires { length line.now ≤ length pairs.now }
     ensures { (clue : List ℕ) → TellOf clue line.now pairs.now → AreNeutral clue line.now filled (W.number result) }

@@ -24,6 +24,7 @@ pub struct Pass<W: PlaceSet> {
 
 impl<W: PlaceSet> Pass<W> {
     /// A pass that has come to the first run, for steps with the windows of the line's open cells.
+    #[tactic(auto, using(crate::proofs::Composing::gap_none_is))]
     pub fn new(span: &Span<W>) -> Pass<W>
         ensures { (line : List Cell) (windows : List ℕ)
             → IsSpanOf W.WIDTH line span.now.len (W.number span.now.free) (W.number span.now.room)

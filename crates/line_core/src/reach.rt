@@ -85,6 +85,7 @@ fn last_end<W: PlaceSet>(len: u16, last: bool) -> W
 }
 
 /// The ends of a run in whole placings.
+#[tactic(auto, using(place_sets::proofs::Doubling::one_within))]
 pub fn whole_ends<W: PlaceSet>(span: &Span<W>, clue: &[u16], j: usize, ends: W, ahead: W) -> W
     ghost line: { List Cell }
     requires span { IsSpanOf W.WIDTH line span.now.len (W.number span.now.free) (W.number span.now.room) }
@@ -99,6 +100,7 @@ pub fn whole_ends<W: PlaceSet>(span: &Span<W>, clue: &[u16], j: usize, ends: W, 
 }
 
 /// The ends in whole placings of a run that is not the last one.
+#[tactic(auto, using(place_sets::proofs::Doubling::one_within))]
 pub fn inner_ends<W: PlaceSet>(clue: &[u16], j: usize, ends: W, ahead: W) -> W
     ghost line: { List Cell }
     requires clue { AreLengths W.WIDTH clue.now }

@@ -1,8 +1,6 @@
 -- What can be on a line with a cell of some colour, as it is gathered from what is told before and after that cell.
 use Rattle.std.specs.Prelude.{◌≡◌, ℕ, ◌+◌, ◌-◌, ◌*◌, ◌<◌, ◌≤◌, ◌⊎◌, Bool, true, false, not, List, length, slice_index_or, reverse}
 use Rattle.grid_core.specs.declared.cells.Cell.{Cell}
-use Rattle.grid_core.specs.declared.cells.Cell.TheVariants.{Unknown}
-use Rattle.grid_core.specs.Cells.{colour}
 use Rattle.place_sets.specs.Masks.{Has, IsMaskOf}
 use Rattle.line_core.specs.Pairs.{ColourMasks, PairMasks, coloured, masks_if, no_pair}
 use Rattle.line_core.specs.steps.Pairs.{AreTold, CanBeBefore, IsWholeGap}

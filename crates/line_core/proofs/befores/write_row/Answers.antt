@@ -1,6 +1,6 @@
 -- `write_row`
-use Rattle.line_core.proofs.Names.{rules, nat_eq, not, ◌∙◌, ◌-◌, ◌<◌, length, sym, subst, arith, add-one, one_within, behind, length_at, get_or-append-add, no_colours, IsRow}
-use Rattle.line_core.proofs.GapRows.{left_inside, walk_more, walk_last, row_front, ready_is}
+use Rattle.line_core.proofs.Names.{rules, ◌∙◌, ◌-◌, ◌<◌, length, sym, arith, add-one, one_within, behind, get_or-append-add, no_colours}
+use Rattle.line_core.proofs.GapRows.{left_inside, walk_more, walk_last, ready_is}
 use Rattle.line_core.proofs.befores.write_row.Goals as goal
 
 pub shifted_up-longer-requires : goal.shifted_up-longer-requires
@@ -22,20 +22,16 @@ offset_bounds-row-from g c =
 
 pub loop-longer-preserved : goal.loop-longer-preserved
 loop-longer-preserved g c =
-    let clue = c.args.clue.now in
-    let j = c.args.j in
-    let p = c.first_place-place.result in
-    let here = c.loop-longer.invariant.within p c.first_place-place.ensures.in_mask in
-    let number = length_at _ clue j c.requires.1.1.1.1.0 c.requires.1.1.1.1.1.0 in
-    let told = subst (IsRow (not (nat_eq g.row.TURNED 0)) g.line clue j 0) (sym c.split_at_mut-before.ensures.front)
-    (row_front g.line clue j c.args.rows.now c.requires.1.1.1.1.1.1.0 c.requires.1.1.1.1.1.1.1.1.1.0) in
-    let inside : p < length c.loop-longer.row =
-    omega (arith, (c.requires.1.1.1.1.1.1.1.0.to p here).0.0.0, c.requires.1.1.1.1.1.1.1.1.1.1, c.split_at_mut-before.ensures.back_len) in
-    walk_more _ _ _ p _ _ _ _ _ inside c.from.ensures c.marked-left.ensures (rw (add-one j) (c.colours_before-colours.ensures g.line (behind 0 clue j) c.requires.1.1.1.0.0
-    (ready_is g.line clue j _ _ _ _ _ p _ _ c.requires.1.1.1.1.1.0 number.0 (rw (add-one j) at c.requires.1.1.1.1.1.1.1.0) c.requires.1.1.1.1.1.1.1.1.0
-    c.shifted_up-longer.ensures c.shifted_up-ended.ensures c.first_place-place.ensures.within here told
-    (λ some h. rw (add-one j) at (c.loop-longer.invariant.done (p - 1) h (λ l. omega (arith, some, c.first_place-place.ensures.least (p - 1) l)))))))
-    c.loop-longer.invariant
+    let (len, (are, (jl, (short, (gaps, (ends, (before, room))))))) = c.requires.1.1.1 in
+    let walk = c.loop-longer.invariant in
+    let first = c.first_place-place.ensures in
+    let split = c.split_at_mut-before.ensures in
+    let runs = behind 0 c.args.clue.now c.args.j in
+    let ready = ready_is g.line c.args.clue.now c.args.j _ _ _ _ _ _ _ _ _ _ are jl short gaps ends c.shifted_up-longer.ensures
+    c.shifted_up-ended.ensures first.within first.in_mask first.least split.front before walk in
+    walk_more _ _ _ c.first_place-place.result _ _ _ _ _
+    (omega (arith, (gaps.to _ (walk.within _ first.in_mask)).0.0.0, split.back_len)) c.from.ensures c.marked-left.ensures
+    (rw (add-one c.args.j) (c.colours_before-colours.ensures g.line runs len.0 ready)) walk
 
 pub returns-clause-row : goal.returns-clause-row
 returns-clause-row g c = λ i h.

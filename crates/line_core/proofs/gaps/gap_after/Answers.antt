@@ -1,9 +1,6 @@
 -- `gap_after`: a flood over the free places from those after the ends.
-use Rattle.line_core.proofs.Names.{rules, Has, flood_from, meet_of, has_of, one_within}
+use Rattle.line_core.proofs.Names.{Has, flood_from, meet_of, has_of}
 use Rattle.line_core.proofs.gaps.gap_after.Goals as goal
-
-pub shifted_up-requires : goal.shifted_up-requires
-shifted_up-requires g c = search (rules, one_within)
 
 pub returns : goal.returns
 returns g c =

@@ -1,5 +1,5 @@
 -- `run_ends`: the starts after a gap or at the opening, within the window, shifted to their ends.
-use Rattle.line_core.proofs.Names.{rules, ℕ, ◌-◌, ◌⊎◌, Has, IsMaskOf, IsShifted, meet_of, join_of, has_of, one_within, shifted_of}
+use Rattle.line_core.proofs.Names.{ℕ, ◌-◌, ◌⊎◌, Has, IsMaskOf, IsShifted, meet_of, join_of, has_of, shifted_of}
 use Rattle.line_core.proofs.gaps.run_ends.Goals as goal
 
 -- the ends of runs that begin behind a gap or at the opening, and that a window has room for
@@ -9,9 +9,6 @@ run_ends_are : (w gap opening window by after starts some ends : ℕ) → IsMask
 run_ends_are w gap opening window by after starts some ends p q r s =
     let either = join_of _ (Has opening) after opening some p (has_of opening) q in
     shifted_of w _ starts by ends (meet_of _ (Has window) some window starts either (has_of window) r) s
-
-pub shifted_up-requires : goal.shifted_up-requires
-shifted_up-requires g c = search (rules, one_within)
 
 pub returns : goal.returns
 returns g c =

@@ -1,5 +1,5 @@
 -- `colours_with_gap`: what is told before the gap, and what after it.
-use Rattle.line_core.proofs.Names.{rules, arith, ◌≤◌, length}
+use Rattle.line_core.proofs.Names.{rules}
 use Rattle.line_core.proofs.ColourMasks.{masks_same}
 use Rattle.line_core.proofs.Gathering.{far_are, near_are}
 use Rattle.line_core.proofs.gathers.colours_with_gap.Goals as goal
@@ -7,9 +7,7 @@ use Rattle.line_core.proofs.gathers.colours_with_gap.Goals as goal
 pub returns : goal.returns
 returns g c =
     let given = c.requires.1.1 in
-    let told = given.1.1.1.1 in
-    let short : length g.line ≤ 128 = omega (arith, given.0.short, given.0.len_is) in
-    let near = near_are g.line c.args.clue.now _ _ c.args.j c.args.place _ _ told short given.1.1.0 given.1.1.1.0 c.from.ensures c.index-before-j.is in
-    let far = far_are g.line c.args.clue.now _ _ c.args.j c.args.place _ _ told short given.1.1.0 given.1.1.1.0
-    (rw given.0.len_is at c.from-turned.ensures) c.index-after-clue.is in
+    let p = given.1.1 in
+    let near = near_are g.line _ _ _ _ _ given.0 p.1.1 c.args.j c.args.place _ _ p.0 p.1.0 c.from.ensures c.index-before-j.is in
+    let far = far_are g.line _ _ _ _ _ given.0 p.1.1 c.args.j c.args.place _ _ p.0 p.1.0 c.from-turned.ensures c.index-after-clue.is in
     masks_same _ _ _ c.with.ensures (λ d k. search (rules, near d k, far d k))

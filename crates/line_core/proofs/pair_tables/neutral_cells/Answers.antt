@@ -1,11 +1,7 @@
 -- `neutral_cells`: with the colour at one more cell each other unknown one is open, if that cell is found.
 use Rattle.line_core.proofs.Names.{true≢false, sym, inl, inr}
-use Rattle.line_core.proofs.GapRows.{mask_less}
 use Rattle.line_core.proofs.Pairing.{nothing_else, told_at}
 use Rattle.line_core.proofs.pair_tables.neutral_cells.Goals as goal
-
-pub loop-unknown-smaller : goal.loop-unknown-smaller
-loop-unknown-smaller g c = mask_less _ _ _ c.first_place-place.ensures.in_mask c.marked-left.ensures
 
 pub loop-unknown-preserved : goal.loop-unknown-preserved
 loop-unknown-preserved g c =

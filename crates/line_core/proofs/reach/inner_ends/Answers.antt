@@ -1,11 +1,8 @@
 -- `inner_ends`: a run that isn't the last ends before a gap ahead.
-use Rattle.line_core.proofs.Names.{◌≡◌, ◌+◌, inl, inr, length, arith, bit_at-zero, recursion_from_All, Has, mask_same, meet_of, has_of, one_within, none_is, refl}
+use Rattle.line_core.proofs.Names.{◌≡◌, ◌+◌, inl, inr, length, arith, bit_at-zero, recursion_from_All, Has, mask_same, meet_of, has_of, none_is, refl}
 use Rattle.line_core.proofs.Joining.{positive_at}
 use Rattle.line_core.proofs.Composing.{whole_is}
 use Rattle.line_core.proofs.reach.inner_ends.Goals as goal
-
-pub shifted_down-requires : goal.shifted_down-requires
-shifted_down-requires g c = one_within g.W.PlaceSet.WIDTH g.W.PlaceSet.TOP g.met.W.PlaceSet.top_is.0 g.met.W.PlaceSet.width_is
 
 pub returns : goal.returns
 returns g c =

@@ -1,11 +1,8 @@
 -- `whole_ends`: a run ends before a gap ahead, or with the line if it is the last.
-use Rattle.line_core.proofs.Names.{◌≡◌, ◌+◌, ◌-◌, length, arith, eqb-true, eq-eqb, recursion_from_All, Has, IsMaskOf, mask_same, meet_of, join_of, has_of, one_within}
+use Rattle.line_core.proofs.Names.{◌≡◌, ◌+◌, ◌-◌, length, arith, eqb-true, eq-eqb, recursion_from_All, Has, IsMaskOf, mask_same, meet_of, join_of, has_of}
 use Rattle.line_core.proofs.Joining.{positive_at}
 use Rattle.line_core.proofs.Composing.{whole_is}
 use Rattle.line_core.proofs.reach.whole_ends.Goals as goal
-
-pub shifted_down-requires : goal.shifted_down-requires
-shifted_down-requires g c = one_within g.W.PlaceSet.WIDTH g.W.PlaceSet.TOP g.met.W.PlaceSet.top_is.0 g.met.W.PlaceSet.width_is
 
 pub returns : goal.returns
 returns g c =
