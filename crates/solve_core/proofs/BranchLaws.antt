@@ -17,9 +17,9 @@ drop_take (suc m) (suc n) [] h = refl
 drop_take (suc m) (suc n) (x ∷ xs) h = drop_take m n xs (omega arith)
 
 -- going back to a mark leaves what was before each earlier one
-pub before-back : (cells : List Cell) (trail : List ℕ) (earlier mark : ℕ) → earlier ≤ mark
+pub before_back : (cells : List Cell) (trail : List ℕ) (earlier mark : ℕ) → earlier ≤ mark
     → cells_before (cells_before cells trail mark) (take mark trail) earlier ≡ cells_before cells trail earlier
-before-back cells trail earlier mark h =
+before_back cells trail earlier mark h =
     sym (cleared-append cells (drop earlier (take mark trail)) (drop mark trail)) ∙ ap (cleared cells) (drop_take earlier mark trail h)
 
 -- if the mark is the whole length of the trail, nothing is undone
@@ -113,7 +113,7 @@ module _ (pick : List Cell → Option ℕ) (lines : List GridLine) where
     made = all_split (IsBranch pick lines cells trail) rest b (rw e at w.made)
 
     same : (mark : ℕ) → mark < b.mark → cells_before now after mark ≡ cells_before cells trail mark
-    same mark h = rw (f, g) (before-back cells trail mark b.mark (omega arith))
+    same mark h = rw (f, g) (before_back cells trail mark b.mark (omega arith))
 
     -- a blank guess: the cells settled since its branch was made are unknown again
     pub back-work : IsWork pick lines now after rest

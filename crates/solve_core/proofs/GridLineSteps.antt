@@ -49,8 +49,8 @@ pub cell-read : {cells : List Cell} (rows columns : List (List Cell)) (x y : ℕ
 cell-read {cells} rows columns x y a lx ly = search (rules, get_or-along)
 
 -- the cells of the rows of a grid are its cells
-pub lines-cells : (cells : List Cell) (rows columns : List (List Cell)) → AreLinesOf cells rows columns → cells_of_rows rows ≡ cells
-lines-cells cells rows columns a =
+pub lines_cells : (cells : List Cell) (rows columns : List (List Cell)) → AreLinesOf cells rows columns → cells_of_rows rows ≡ cells
+lines_cells cells rows columns a =
     let w = length columns in
     let wide = λ (y : ℕ) (l : y < length rows). ap length (a.rows_are y l) ∙ length-along cells (y * w) 1 w in
     let long = length-rows w rows wide in
@@ -102,7 +102,7 @@ cell-changed rows columns row new_row column new_column x y c a lx ly is_row er 
           a.columns_are (ec ∙ ap (λ (line : List Cell). set line y c) (is_column ∙ line_read columns x column lx))
           (omega (arith, below, lw)));
     } in
-    let same = lines-cells (set cells k c) (set rows y new_row) (set columns x new_column) after in
+    let same = lines_cells (set cells k c) (set rows y new_row) (set columns x new_column) after in
     (rw same after, λ i. record { width = lw i; height = lh i; cells = same i })
 
 -- of no place of them anything is known
@@ -120,7 +120,7 @@ lines-unknown w h rows columns size er el =
     let along = λ (first step n : ℕ). read-unknown (w * h) (places_from first step n) ∙
     ap (λ (k : ℕ). replicate k Unknown) (length-places_from first step n) in
     let are : AreLinesOf (replicate (w * h) Unknown) rows columns = search (rules, length-replicate, along, get_or-replicate) in
-    let same = lines-cells (replicate (w * h) Unknown) rows columns are in
+    let same = lines_cells (replicate (w * h) Unknown) rows columns are in
     (same, rw same are)
 
 -- ---- unknown cells

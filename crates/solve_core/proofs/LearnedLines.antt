@@ -1,11 +1,11 @@
 -- The lines of a grid after one of them was written whole, and each that crosses it where it changes.
-use Rattle.solve_core.proofs.Names.{◌≡◌, ◌≢◌, ◌∙◌, AreFresh, IsMarkedOn, Blank, Filled, LineMarks, Nonogram, Some, colour, deduced, is_filled, is_known, line_on, subst, true, refl, ℕ, ◌*◌, ◌<◌, ◌≤◌, inl, inr, List, [], length, get_or, set, sym, ap, arith, length-set, get_or-set_same, get_or-set_other, bit_at, cases_eq, set-get_or, Cell, Unknown, Side, Rows, Columns, Extends, IsChanged, cells_at, crossing, places_on, IsSize, PartialGrid, cells_of_rows, count_on, place_on, same_cells, get_or-cells_at, length-cells_at, length-places_on, get_or-places_on, Extends-at, Has, IsMaskOf, with_cells, AreLinesOf, CanLearn, IsLearning, TrailedGrid, length-Extends, ext_get_or, rules}
+use Rattle.solve_core.proofs.Names.{◌≡◌, ◌≢◌, ◌∙◌, AreFresh, Blank, Filled, LineMarks, Nonogram, Some, colour, deduced, is_filled, is_known, subst, true, refl, ℕ, ◌*◌, ◌<◌, ◌≤◌, inl, inr, List, [], length, get_or, set, sym, ap, arith, length-set, get_or-set_same, get_or-set_other, cases_eq, set-get_or, Cell, Unknown, Side, Rows, Columns, Extends, IsChanged, cells_at, crossing, places_on, IsSize, PartialGrid, cells_of_rows, count_on, place_on, same_cells, get_or-cells_at, length-cells_at, length-places_on, get_or-places_on, Extends-at, Has, IsMaskOf, with_cells, AreLinesOf, CanLearn, IsLearning, TrailedGrid, length-Extends, ext_get_or, rules}
 use Rattle.solve_core.proofs.ClosureLaws.{length-with_cells}
-use Rattle.solve_core.proofs.GridLineSteps.{grid_of_lines, lines-cells}
+use Rattle.solve_core.proofs.GridLineSteps.{grid_of_lines, lines_cells}
 use Rattle.solve_core.proofs.LineSteps.{cells_at-same, cells_at-with_cells, get_or-with_cells, learned_cell}
 use Rattle.line_core.specs.Pairs.{AreNeutral}
 use Rattle.solve_core.specs.steps.LineMarks.{StayFresh}
-use Rattle.solve_core.specs.steps.LinePairs.{LineTables, table_on}
+use Rattle.solve_core.specs.steps.LinePairs.{LineTables}
 use Rattle.solve_core.proofs.SideLines.{across, along, by_side, below_places, cell_within, column_within, row_within, crossing_twice, distinct_places, same_place}
 use Rattle.std.proofs.Math.Nat.{mul-le-mul_left}
 
@@ -138,38 +138,20 @@ module _ (side : Side) (w h i m : ℕ) (cells new : List Cell) (is : Learns side
   -- lines that stay fresh have tables of their cells
   pub stay_fresh : (p : Nonogram) (fresh later : LineMarks) (tables : LineTables) → p.width ≡ w → p.height ≡ h →
       AreFresh p fresh tables cells → StayFresh side i (Has m) fresh later → AreFresh p later tables (after side w h i cells new)
-  stay_fresh p fresh later tables wide high f stay = record {
-    inside = by_side (λ s. (k : ℕ) → IsMarkedOn later s k → k < count_on s p.width p.height) side
-        (λ k l. f.inside side k (stay.own k l).0) (λ k l. f.inside (crossing side) k (stay.across k l).0);
-    table_is = by_side (λ s. (k : ℕ) → IsMarkedOn later s k → (table_on s k tables).line
-        ≡ Some (cells_at Unknown (after side w h i cells new) (line_on s p k).places)) side
-        (λ k l. let old = stay.own k l in f.table_is side k old.0 ∙ ap (λ (line : List Cell). Some line)
-        (rw (wide, high) (sym (own_kept k (rw (wide, high) at (f.inside side k old.0)) old.1))))
-        (λ k l. let old = stay.across k l in f.table_is (crossing side) k old.0 ∙ ap (λ (line : List Cell). Some line)
-        (rw (wide, high) (sym (across_kept k (rw (wide, high) at (f.inside (crossing side) k old.0)) old.1))));
-  }
+  stay_fresh p fresh later tables wide high f stay =
+      grind (arith, by_side, p.width, p.height, f.inside, stay.own, stay.across, f.table_is, own_kept, across_kept)
 
   -- the lines that cross
   across_learned : (lines more : List (List Cell)) → AreOn (crossing side) w h cells lines → length more ≡ length lines →
       ((k : ℕ) → Has m k → get_or more k [] ≡ set (get_or lines k []) i (get_or new k Unknown)) →
       ((k : ℕ) → (Has m k → ⊥) → get_or more k [] ≡ get_or lines k []) → AreOn (crossing side) w h (after side w h i cells new) more
-  across_learned lines more are long changed others = (
-    long ∙ are.0,
-    λ k lk.
-        let below : k < length lines = omega (arith, lk, long) in
-        let inside : k < count_on (crossing side) w h = omega (arith, below, are.0) in
-        let line = are.1 k below in
-        elim (cases_eq (bit_at m k) 1) [
-          | inl has ↦ changed k has ∙ ap (λ (r : List Cell). set r i (get_or new k Unknown)) line ∙ sym (crossed k inside)
-          | inr none ↦ others k none ∙ line ∙ sym (across_kept k inside none)
-        ],
-  )
+  across_learned lines more are long changed others = search (rules, cases_eq, crossed, across_kept)
 
 -- rows and columns that have the cells of a grid are its lines
 whole : (w h : ℕ) (cells : List Cell) (rows columns : List (List Cell)) → IsSize w h → length cells ≡ w * h → AreOn Rows w h cells rows →
     AreOn Columns w h cells columns → (grid_of_lines rows columns ≡ record { width = w; height = h; cells = cells })
     × AreLinesOf (cells_of_rows rows) rows columns
-whole w h cells rows columns size count high wide = search (rules, lines-cells)
+whole w h cells rows columns size count high wide = search (rules, lines_cells)
 
 -- the lines after a row was written
 pub learned_rows : (i m : ℕ) (new : List Cell) (rows columns lines more : List (List Cell)) → AreLinesOf (cells_of_rows rows) rows columns →
@@ -180,12 +162,9 @@ pub learned_rows : (i m : ℕ) (new : List Cell) (rows columns lines more : List
     ≡ record (grid_of_lines rows columns) { cells = after Rows (length columns) (length rows) i (cells_of_rows rows) new }) ×
     AreLinesOf (cells_of_rows (set rows i new)) (set rows i new) more
 learned_rows i m new rows columns lines more a is e long changed others =
-    let cells = cells_of_rows rows in
-    let w = length columns in
-    let h = length rows in
-    whole w h (after Rows w h i cells new) (set rows i new) more a.size (length-with_cells cells (places_on Rows w h i) new ∙ is.count)
-    (own_learned Rows w h i m cells new is rows (refl, a.rows_are))
-    (across_learned Rows w h i m cells new is lines more (ap length e, rw e a.columns_are) long changed others)
+    whole _ _ _ _ more a.size (length-with_cells (cells_of_rows rows) _ new ∙ is.count)
+    (own_learned Rows _ _ i m _ new is rows (refl, a.rows_are))
+    (across_learned Rows _ _ i m _ new is lines more (ap length e, rw e a.columns_are) long changed others)
 
 -- the lines after a column was written
 pub learned_columns : (i m : ℕ) (new : List Cell) (rows columns lines more : List (List Cell)) → AreLinesOf (cells_of_rows rows) rows columns →
@@ -196,13 +175,9 @@ pub learned_columns : (i m : ℕ) (new : List Cell) (rows columns lines more : L
     ≡ record (grid_of_lines rows columns) { cells = after Columns (length columns) (length rows) i (cells_of_rows rows) new }) ×
     AreLinesOf (cells_of_rows more) more (set columns i new)
 learned_columns i m new rows columns lines more a is e long changed others =
-    let cells = cells_of_rows rows in
-    let w = length columns in
-    let h = length rows in
-    whole w h (after Columns w h i cells new) more (set columns i new) a.size
-    (length-with_cells cells (places_on Columns w h i) new ∙ is.count)
-    (across_learned Columns w h i m cells new is lines more (ap length e, rw e a.rows_are) long changed others)
-    (own_learned Columns w h i m cells new is columns (refl, a.columns_are))
+    whole _ _ _ more _ a.size (length-with_cells (cells_of_rows rows) _ new ∙ is.count)
+    (across_learned Columns _ _ i m _ new is lines more (ap length e, rw e a.rows_are) long changed others)
+    (own_learned Columns _ _ i m _ new is columns (refl, a.columns_are))
 
 -- the place of a change fits 16 bits
 pub place_fits : (side : Side) (w h i m : ℕ) (cells new : List Cell) → IsSize w h → Learns side w h i m cells new → (k : ℕ) → Has m k →

@@ -3,7 +3,7 @@ use Rattle.solve_core.proofs.Names.{◌≡◌, ◌≢◌, ◌∙◌, refl, ℕ, 
 use Rattle.solve_core.proofs.Changes.{is_among}
 use Rattle.solve_core.proofs.ClosureLaws.{length-with_cells}
 use Rattle.solve_core.proofs.LineSteps.{below_from, cells_at-with_cells, distinct_from, distinct_same, get_or-with_cells, learned_cell}
-use Rattle.solve_core.proofs.TrailSteps.{trailed-one, trailed-refl, trailed-trans}
+use Rattle.solve_core.proofs.TrailSteps.{trailed-one, trailed-refl, trailed_trans}
 
 -- what is left is told in other words
 pub leads-same : (b : TrailedGrid) (first step n : ℕ) (new : List Cell) (trail : List ℕ) (Left Same : ℕ → Type 0) → ((k : ℕ) → Left k → Same k) →
@@ -58,7 +58,7 @@ module _ (b : TrailedGrid) (first step n m : ℕ) (new : List Cell) (is : IsLear
           others = λ j none. get_or-set_other cells q j cell Unknown (λ s. none k here (sym s)) ∙ p.others j none;
           size = length-set cells q cell ∙ p.size;
         },
-        trailed-trans b now then before.2
+        trailed_trans b now then before.2
             (trailed-one now then q cell within unknown learned.1 refl refl refl (e ∙ ap (λ (r : ℕ). trail ++ r ∷ []) (sym place))),
       )
 

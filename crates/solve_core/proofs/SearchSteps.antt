@@ -47,6 +47,6 @@ known-before lines cells now place c first closed k l =
     rw (same_known (get_or (set cells place c) k Unknown) (get_or now k Unknown) before (Extends-at (set cells place c) now k above)) before
 
 -- if no cell before a place is unknown, the first unknown one from there on is the first of all
-pub first-from : (cells seen : List Cell) (start : ℕ) (found : Option ℕ) → seen ≡ cells → AreKnownBefore start cells →
+pub first_from : (cells seen : List Cell) (start : ℕ) (found : Option ℕ) → seen ≡ cells → AreKnownBefore start cells →
     IsUnknownFrom seen start found → found ≡ first_unknown cells
-first-from cells seen start found e before h = search (rules, position_none, cases_lt, position_some)
+first_from cells seen start found e before h = search (rules, position_none, cases_lt, position_some)

@@ -21,8 +21,8 @@ pub trailed-refl : (g : TrailedGrid) → IsTrailed g g
 trailed-refl g = search (rules, append-nil)
 
 -- first some cells were settled, and then others
-pub trailed-trans : (a b c : TrailedGrid) → IsTrailed a b → IsTrailed b c → IsTrailed a c
-trailed-trans a b c x y =
+pub trailed_trans : (a b c : TrailedGrid) → IsTrailed a b → IsTrailed b c → IsTrailed a c
+trailed_trans a b c x y =
     let size : length c.cells ≡ length b.cells = sym (length-cleared c.cells y.added) ∙ ap length y.undo in
     record {
       added = x.added ++ y.added;

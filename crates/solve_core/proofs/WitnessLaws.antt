@@ -76,25 +76,17 @@ module _ (g new t : List Cell) (h : Extends g new) (l : Extends g t) where
 
         each : (side : Side) (i : ℕ) → i < count_on side p.width p.height → IsDeduced (overlaid new t) (line_on side p i)
         each Rows y ly = elim (cases_Bool (has_side lines.rows y)) [
-          | inl e ↦ settled-same t (overlaid new t) (line_on Rows p y) (with_trial Rows y ly) (λ b lb.
-              as_trial _ (theirs.rows _ (rw (row y b lb) (apart.rows y e))))
-          | inr e ↦ settled-same new (overlaid new t) (line_on Rows p y) (with_new Rows y ly) (λ b lb.
-              as_new _ (mine.rows _ (rw (row y b lb) e)))
+          | inl e ↦ settled-same t _ _ (with_trial Rows y ly) (search (rules, as_trial, theirs.rows, row, apart.rows))
+          | inr e ↦ settled-same new _ _ (with_new Rows y ly) (search (rules, as_new, mine.rows, row))
         ]
         each Columns x lx = elim (cases_Bool (has_side lines.columns x)) [
-          | inl e ↦ settled-same t (overlaid new t) (line_on Columns p x) (with_trial Columns x lx) (λ b lb.
-              as_trial _ (theirs.columns _ (rw (column x b lx lb) (apart.columns x e))))
-          | inr e ↦ settled-same new (overlaid new t) (line_on Columns p x) (with_new Columns x lx) (λ b lb.
-              as_new _ (mine.columns _ (rw (column x b lx lb) e)))
+          | inl e ↦ settled-same t _ _ (with_trial Columns x lx) (search (rules, as_trial, theirs.columns, column, apart.columns))
+          | inr e ↦ settled-same new _ _ (with_new Columns x lx) (search (rules, as_new, mine.columns, column))
         ]
 
     -- a cell that the trial knows is the same in both grids as one
     met_stays : (k : ℕ) (c : Cell) → is_unknown c ≡ false → get_or t k Unknown ≡ c → get_or (overlaid new t) k Unknown ≡ c
-    met_stays k c known is = elim (cases_Bool (has_side lines.rows (k / p.width))) [
-      | inl e ↦ as_trial k (theirs.rows k (apart.rows (k / p.width) e)) ∙ is
-      | inr e ↦ let old = mine.rows k e in
-          as_new k old ∙ same_known c (get_or new k Unknown) known (rw (old ∙ is) at (Extends-at g new k h))
-    ]
+    met_stays k c known is = grind (arith, cases_Bool, as_trial, as_new, same_known, Extends-at)
 
 -- ---- witnesses that stay
 

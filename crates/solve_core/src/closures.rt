@@ -379,6 +379,7 @@ impl<W: LineSet> Closer<W> {
     /// Gives an unknown cell of a board at rest a colour, and closes the board by what that says of the
     /// cell's row and its column. Returns whether it is alive; dead cells are open. No line is marked then,
     /// and the board leads back to where it was.
+    #[tactic(auto, using(crate::proofs::TrailSteps::trailed_trans))]
     pub fn assign(
         &mut self,
         puzzle: &Puzzle,

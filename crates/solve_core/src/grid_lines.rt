@@ -307,6 +307,7 @@ impl<W: LineSet> GridLines<W> {
     }
 
     /// Takes over the cells of a grid of its size.
+    #[tactic(auto, using(crate::proofs::GridLineSteps::lines_cells, crate::proofs::Names::with_items_is))]
     pub fn read(&mut self, grid: &Grid)
         requires width { grid.now.width ≡ self.old.width }
         requires height { grid.now.height ≡ self.old.height }

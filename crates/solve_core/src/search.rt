@@ -30,6 +30,7 @@ pub struct SearchEnd {
 }
 
 /// The place of the next guess, by the rule. By the first unknown cell no cell before `start` is unknown.
+#[tactic(auto, using(crate::proofs::SearchSteps::first_from))]
 fn next_place<W: LineSet>(board: &Board<W>, start: usize, pick: Pick) -> Option<usize>
     requires start { start ≤ length board.now.cells }
     requires known { pick ≡ First → AreKnownBefore start board.now.cells }

@@ -14,19 +14,14 @@ guess-requires-clause-cell g c =
     record { within = at.0; unknown = at.1; known = c.requires.colour }
 
 pub returns-then-not-guess-clause-goes_on : goal.returns-then-not-guess-clause-goes_on
-returns-then-not-guess-clause-goes_on g c =
+returns-then-not-guess-clause-goes_on g c = λ branches w.
     let p = c.args.puzzle.now in
-    let rule = picked c.args.pick p.width in
-    let lines = lines_of p in
     let old = c.args.board.now in
-    let new = c.guess.new.board in
-    let given = set old.cells c.args.place c.args.colour in
-    λ branches w.
-    let same : owed_by rule p branches new ≡ events rule lines given ++ owed_by rule p branches old =
-    trailed-pending rule lines old new branches c.guess.ensures.trail w
-    ∙ closed-events rule (picked-IsPick c.args.pick p.width) lines given None (owed_by rule p branches old) c.if-not-guess.ensures.closed in
+    let rule = picked c.args.pick p.width in
+    let same = trailed-pending rule (lines_of p) old c.guess.new.board branches c.guess.ensures.trail w
+    ∙ closed-events rule (picked-IsPick c.args.pick p.width) (lines_of p) _ None (owed_by rule p branches old) c.if-not-guess.ensures.closed in
     record {
-      under_way = record { work = trailed-work rule lines old new branches c.guess.ensures.trail w; older = tt; next_open = tt };
+      under_way = record { work = trailed-work rule (lines_of p) old _ branches c.guess.ensures.trail w; older = tt; next_open = tt };
       ends = λ spent left. ap (ending p c.args.solutions.now.grids spent left) same;
       fewer = omega (arith, ap length same);
     }

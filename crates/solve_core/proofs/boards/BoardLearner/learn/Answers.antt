@@ -10,7 +10,6 @@ grid_at t = record { width = t.width; height = t.height; cells = t.cells }
 
 pub push_changes-requires-clause-places : goal.push_changes-requires-clause-places
 push_changes-requires-clause-places g c = λ k has.
-    let b = trailed c.self.inside.lines c.self.inside.trail.items in
     let is = learns_at c.args.side Rows c.args.i _ c.args.new.now c.self.inside.lines _ c.self.invariant.size.width_from c.self.invariant.count
     (λ j. grid_at (c.self.view_is j)) c.in-Rows.is c.requires.i c.requires.more c.requires.changes in
     let fits = place_fits Rows _ _ _ _ _ _ c.self.invariant.size is k has in
@@ -31,7 +30,6 @@ returns-in-Rows-clause-trail g c = λ keeps.
 
 pub push_changes-requires-in-Columns : goal.push_changes-requires-in-Columns
 push_changes-requires-in-Columns g c =
-    let b = trailed c.self.inside.lines c.self.inside.trail.items in
     let is = learns_at c.args.side Columns c.args.i _ c.args.new.now c.self.inside.lines _ c.self.invariant.size.width_from c.self.invariant.count
     (λ j. grid_at (c.self.view_is j)) c.in-Columns.is c.requires.i c.requires.more c.requires.changes in
     record {

@@ -1,11 +1,11 @@
 -- `Closer::deduce_marked`: if a pass over the columns learns nothing, the rows have no mark from the pass before.
 use Rattle.solve_core.proofs.Names.{◌≡◌, ◌≢◌, ◌∙◌, ℕ, Dead, Same, Has, Side, Rows, Columns, LineMarks, marks_on, IsMarkedOn, closure, lines_of, refl, IsTrailed, TrailedGrid, rules}
-use Rattle.solve_core.proofs.TrailSteps.{trailed-trans}
+use Rattle.solve_core.proofs.TrailSteps.{trailed_trans}
 use Rattle.solve_core.proofs.GridSteps.{progress-keeps}
 use Rattle.solve_core.proofs.closures.Closer.deduce_marked.Goals as goal
 
 twice : (a b c d : TrailedGrid) → IsTrailed a b → IsTrailed b c → IsTrailed c d → IsTrailed a d
-twice a b c d x y z = trailed-trans a c d (trailed-trans a b c x y) z
+twice a b c d x y z = trailed_trans a c d (trailed_trans a b c x y) z
 
 not_dead : Same ≢ Dead
 not_dead e = cc
@@ -18,7 +18,7 @@ unmarked lines old new m n e f rows same columns Rows i h k = rows i (rw e h) (r
 unmarked lines old new m n e f rows same columns Columns i h k = columns i (rw f h) k
 
 pub returns-in-Dead-clause-trail : goal.returns-in-Dead-clause-trail
-returns-in-Dead-clause-trail g c = λ keeps. trailed-trans _ _ _ (c.loop-self.invariant.trail keeps) (c.deduce_side.ensures.trail keeps)
+returns-in-Dead-clause-trail g c = λ keeps. trailed_trans _ _ _ (c.loop-self.invariant.trail keeps) (c.deduce_side.ensures.trail keeps)
 
 pub returns-in-Dead-deduce_side : goal.returns-in-Dead-deduce_side
 returns-in-Dead-deduce_side g c =

@@ -1,7 +1,7 @@
 -- `Closer::deduce_side`: deducing a line takes its mark, and gives no other line of the side one.
 use Rattle.solve_core.proofs.Names.{true≢false, arith, cases_eq}
 use Rattle.line_core.proofs.GapRows.{mask_less}
-use Rattle.solve_core.proofs.TrailSteps.{trailed-trans}
+use Rattle.solve_core.proofs.TrailSteps.{trailed_trans}
 use Rattle.solve_core.proofs.closures.Closer.deduce_side.Goals as goal
 use Rattle.solve_core.proofs.closures.Closer.deduce_side.Goals.{in-Same, in-Changed}
 
@@ -9,7 +9,7 @@ pub loop-side-smaller : goal.loop-side-smaller
 loop-side-smaller g c = mask_less _ _ _ c.first_place-i.ensures.in_mask c.marked-left.ensures
 
 pub loop-side-preserved : goal.loop-side-preserved
-loop-side-preserved g c = grind (arith, trailed-trans, cases_eq, true≢false, in-Same, in-Changed)
+loop-side-preserved g c = grind (arith, trailed_trans, cases_eq, true≢false, in-Same, in-Changed)
 
 pub returns-in-Dead-clause-trail : goal.returns-in-Dead-clause-trail
-returns-in-Dead-clause-trail g c = λ keeps. trailed-trans _ _ _ (c.loop-side.invariant.trail keeps) (c.deduce_line.ensures.trail keeps)
+returns-in-Dead-clause-trail g c = λ keeps. trailed_trans _ _ _ (c.loop-side.invariant.trail keeps) (c.deduce_line.ensures.trail keeps)

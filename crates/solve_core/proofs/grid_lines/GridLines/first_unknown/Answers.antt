@@ -5,42 +5,35 @@ use Rattle.solve_core.proofs.grid_lines.GridLines.first_unknown.Goals as goal
 
 pub first_near_known-requires-clause-from : goal.first_near_known-requires-clause-from
 first_near_known-requires-clause-from g c =
-    let rows = c.self.inside.rows.items in
-    let columns = c.self.inside.columns.items in
-    let y = c.loop-y.y in
-    let ly : y < length rows = omega (arith, c.loop-y-test.true, c.len-y-end.ensures, c.self.inside.rows.ok.0) in
-    let long = (lines-long rows columns 0 y c.self.invariant c.self.invariant.size.width_from ly).0 in
+    let ly : c.loop-y.y < length c.self.inside.rows.items = omega (arith, c.loop-y-test.true, c.len-y-end.ensures, c.self.inside.rows.ok.0) in
+    let long = (lines-long _ _ 0 _ c.self.invariant c.self.invariant.size.width_from ly).0 in
     rw c.deref.ensures.value (omega (arith, c.loop-y.invariant.column, c.len-width.ensures, c.self.inside.columns.ok.0, long))
 
 pub returns-in-Some : goal.returns-in-Some
 returns-in-Some g c =
     let rows = c.self.inside.rows.items in
-    let columns = c.self.inside.columns.items in
-    let w = length columns in
+    let w = length c.self.inside.columns.items in
     let y = c.loop-y.y in
-    let x = c.in-Some.x in
-    let column = c.loop-y.column in
     let wide : c.len-width.result ≡ w = c.len-width.ensures ∙ c.self.inside.columns.ok.0 in
     let seen : cells_of_rows rows ≡ c.args.self.now.cells = ap (λ (g : PartialGrid). g.cells) c.self.view_is in
     let ly : y < length rows = omega (arith, c.loop-y-test.true, c.len-y-end.ensures, c.self.inside.rows.ok.0) in
     let found = rw c.deref.ensures.value at c.in-Some.ensures.found in
-    let lx : x < w = omega (arith, found.1.0, (lines-long rows columns 0 y c.self.invariant c.self.invariant.size.width_from ly).0) in
-    let start : c.args.from ≤ y * w + column = rw wide at c.loop-y.invariant.from in
+    let lx : c.in-Some.x < w = omega (arith, found.1.0, (lines-long _ _ 0 _ c.self.invariant c.self.invariant.size.width_from ly).0) in
+    let start : c.args.from ≤ y * w + c.loop-y.column = rw wide at c.loop-y.invariant.from in
     let known = rw (wide, ← seen) at c.loop-y.invariant.known in
-    let within = cell_in (cells_of_rows rows) rows columns x y c.self.invariant lx ly in
-    let unknown = sym (cell-read rows columns x y c.self.invariant lx ly).0 ∙ found.1.1 in
+    let within = cell_in _ _ _ _ _ c.self.invariant lx ly in
+    let unknown = sym (cell-read _ _ _ _ c.self.invariant lx ly).0 ∙ found.1.1 in
     rw (c.from.ensures, wide, ← seen) (record {
       found = (omega (arith, start, found.0), (within, unknown));
       each = λ zero.
-          let at = row-unknown rows columns y column x c.self.invariant ly (rw c.deref.ensures.value at (c.in-Some.ensures.each zero)) in
+          let at = row-unknown _ _ y _ _ c.self.invariant ly (rw c.deref.ensures.value at (c.in-Some.ensures.each zero)) in
           search (rules, at, known, within, unknown, start, found, cases_lt);
     })
 
 pub loop-y-preserved : goal.loop-y-preserved
 loop-y-preserved g c =
     let rows = c.self.inside.rows.items in
-    let columns = c.self.inside.columns.items in
-    let w = length columns in
+    let w = length c.self.inside.columns.items in
     let y = c.loop-y.y in
     let column = c.loop-y.column in
     let wide : c.len-width.result ≡ w = c.len-width.ensures ∙ c.self.inside.columns.ok.0 in
@@ -54,7 +47,7 @@ loop-y-preserved g c =
       from = omega (arith, start, short);
       known = λ zero k f t. elim (cases_lt k (y * w + column)) [
         | inl early ↦ known zero k f early
-        | inr late ↦ row-known rows columns y column c.self.invariant ly (rw c.deref.ensures.value at (c.in_default.ensures.each zero)) k late
+        | inr late ↦ row-known _ _ y column c.self.invariant ly (rw c.deref.ensures.value at (c.in_default.ensures.each zero)) k late
             (omega arith)
       ];
     })

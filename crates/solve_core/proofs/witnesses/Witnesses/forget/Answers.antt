@@ -4,32 +4,17 @@ use Rattle.solve_core.proofs.WitnessLaws.{forgotten, no_witnesses}
 use Rattle.solve_core.proofs.witnesses.Witnesses.forget.Goals as goal
 
 pub invariant_of-self : goal.invariant_of-self
-invariant_of-self c =
-    let inside = c.self.inside in
-    let w : WitnessLists = record {
-      witnesses = inside.witnesses.items;
-      fillable = inside.fillable.items;
-      blankable = inside.blankable.items;
-      room = inside.cells;
-    } in
-    record {
-      numbered = rw (c.truncate.ensures.items, c.fill_with_none.ensures.items, c.fill_with_none-2.ensures.items)
-          (forgotten w inside.cells c.self.invariant.numbered);
-      fillable = omega (arith, c.self.invariant.fillable, c.fill_with_none.ensures.capacity);
-      blankable = omega (arith, c.self.invariant.blankable, c.fill_with_none-2.ensures.capacity);
-    }
+invariant_of-self c = record {
+  numbered = rw (c.truncate.ensures.items, c.fill_with_none.ensures.items, c.fill_with_none-2.ensures.items)
+      (forgotten _ c.self.inside.cells c.self.invariant.numbered);
+  fillable = omega (arith, c.self.invariant.fillable, c.fill_with_none.ensures.capacity);
+  blankable = omega (arith, c.self.invariant.blankable, c.fill_with_none-2.ensures.capacity);
+}
 
 pub returns-clause-witnesses : goal.returns-clause-witnesses
 returns-clause-witnesses c = λ p cells size.
-    let inside = c.self.inside in
-    let new : WitnessLists = record {
-      witnesses = c.truncate.new.self.items;
-      fillable = c.fill_with_none.new.list.items;
-      blankable = c.fill_with_none-2.new.list.items;
-      room = inside.cells;
-    } in
     let none : ℕ = 0 in
-    no_witnesses p new cells (invariant_of-self c).numbered
+    no_witnesses p _ cells (invariant_of-self c).numbered
     (size ∙ ap (λ (q : WitnessLists). q.room) (sym c.self.view_is) ∙
-    sym (ap length c.fill_with_none.ensures.items ∙ length-replicate inside.cells none))
-    (omega (arith, ap length c.truncate.ensures.items, length-take 1 inside.witnesses.items))
+    sym (ap length c.fill_with_none.ensures.items ∙ length-replicate c.self.inside.cells none))
+    (omega (arith, ap length c.truncate.ensures.items, length-take 1 c.self.inside.witnesses.items))
