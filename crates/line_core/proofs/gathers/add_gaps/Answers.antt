@@ -1,5 +1,5 @@
 -- `add_gaps`: what goes with one more gap is added.
-use Rattle.line_core.proofs.Names.{rules, arith, ◌≡◌, ◌∙◌, sym, eqb-true, none_has}
+use Rattle.line_core.proofs.Names.{arith, ◌≡◌, ◌∙◌, sym, eqb-true, none_has}
 use Rattle.line_core.proofs.ColourMasks.{masks_are}
 use Rattle.line_core.proofs.Gathering.{pairs_more, pairs_same}
 use Rattle.line_core.proofs.gathers.add_gaps.Goals as goal
@@ -7,7 +7,8 @@ use Rattle.line_core.proofs.gathers.add_gaps.Goals as goal
 pub loop-left-preserved : goal.loop-left-preserved
 loop-left-preserved g c =
     pairs_more _ _ _ _ c.first_place-place.result _ _ _ _ c.loop-left.invariant c.first_place-place.ensures.in_mask c.marked-left.ensures
-    (pairs_same _ _ _ _ _ c.add_to_each.ensures (λ x d k. search (rules, masks_are _ _ c.colours_with_gap-colours.ensures d k)))
+    (pairs_same _ _ _ _ _ c.add_to_each.ensures (λ x d k.
+    let are = masks_are _ _ c.colours_with_gap-colours.ensures d k in (λ (low, high, h). (low, high, are.0 h), λ (low, high, h). (low, high, are.1 h))))
 
 pub returns : goal.returns
 returns g c =

@@ -25,7 +25,8 @@ add_to_each-requires g c =
 pub loop-left-preserved : goal.loop-left-preserved
 loop-left-preserved g c =
     pairs_more _ _ _ _ c.first_place-end.result _ _ _ _ c.loop-left.invariant c.first_place-end.ensures.in_mask c.marked-left.ensures
-    (pairs_same _ _ _ _ _ c.add_to_each.ensures (λ x d k. search (rules, masks_are _ _ c.colours_with_run-colours.ensures d k)))
+    (pairs_same _ _ _ _ _ c.add_to_each.ensures (λ x d k.
+    let are = masks_are _ _ c.colours_with_run-colours.ensures d k in (λ (low, high, h). (low, high, are.0 h), λ (low, high, h). (low, high, are.1 h))))
 
 pub returns : goal.returns
 returns g c =
