@@ -1,12 +1,12 @@
 -- A grid as its rows and its columns: its cells, and what changing one of them does.
-use Rattle.solve_core.proofs.Names.{◌≡◌, ℕ, ◌+◌, ◌-◌, ◌*◌, ◌/◌, ◌%◌, ◌<◌, ◌≤◌, false, Some, None, List, [], ◌∷◌, length, get_or, set, refl, sym, ap, ◌∙◌, arith, length-set, get_or-set_same, get_or-set_other, replicate, ext_get_or, get_or_default, get_or-replicate, length-replicate, div_below, Cell, Unknown, is_unknown, PartialGrid, IsSize, Side, Rows, Columns, places_from, cells_at, crossing, places_on, count_on, place_on, length-places_from, get_or-places_from, length-cells_at, get_or-cells_at, IsUnknownFrom, AreLinesOf, cells_of_rows, row_of, get_or-row_of, get_or-rows, length-row_of, length-rows, cases_eq, rules}
+use Rattle.solve_core.proofs.Names.{◌≡◌, ℕ, ◌+◌, ◌-◌, ◌*◌, ◌/◌, ◌%◌, ◌<◌, ◌≤◌, List, [], ◌∷◌, length, get_or, set, refl, sym, ap, ◌∙◌, arith, length-set, get_or-set_same, get_or-set_other, replicate, ext_get_or, get_or_default, get_or-replicate, length-replicate, div_below, Cell, Unknown, PartialGrid, IsSize, Side, Rows, Columns, places_from, cells_at, crossing, places_on, count_on, place_on, length-places_from, get_or-places_from, length-cells_at, get_or-cells_at, IsUnknownCell, AreLinesOf, cells_of_rows, row_of, get_or-row_of, get_or-rows, length-row_of, length-rows, cases_eq, cases_lt, inl, inr, subst, rules}
 use Rattle.solve_core.proofs.SideLines.{along, line-set, same_place, row_within}
 use Rattle.solve_core.proofs.LineSteps.{cells_at-same, get_or-replicated}
 
-length-along : (cells : List Cell) (first step n : ℕ) → length (cells_at Unknown cells (places_from first step n)) ≡ n
+pub length-along : (cells : List Cell) (first step n : ℕ) → length (cells_at Unknown cells (places_from first step n)) ≡ n
 length-along cells first step n = length-cells_at Unknown cells (places_from first step n) ∙ length-places_from first step n
 
-get_or-along : (cells : List Cell) (first step n i k : ℕ) → i < n → first + i * step ≡ k →
+pub get_or-along : (cells : List Cell) (first step n i k : ℕ) → i < n → first + i * step ≡ k →
     get_or (cells_at Unknown cells (places_from first step n)) i Unknown ≡ get_or cells k Unknown
 get_or-along cells first step n i k h e = search (rules, get_or-cells_at, length-places_from, get_or-places_from)
 
@@ -125,34 +125,26 @@ lines-unknown w h rows columns size er el =
 
 -- ---- unknown cells
 
--- the cell of a row that a cell of the grid is
-in_row : (rows columns : List (List Cell)) (y k : ℕ) → AreLinesOf (cells_of_rows rows) rows columns → y < length rows → y * length columns ≤ k →
-    k < y * length columns + length columns →
-    get_or (cells_of_rows rows) k Unknown ≡ get_or (get_or rows y []) (k - y * length columns) Unknown
-in_row rows columns y k a ly from to =
-    let at : y * length columns + (k - y * length columns) ≡ k = omega arith in
-    sym (rw at at ((cell-read rows columns (k - y * length columns) y a (omega arith) ly).0))
+-- an unknown cell of a row is one of the grid
+pub unknown-in_grid : (rows columns : List (List Cell)) (y x : ℕ) → AreLinesOf (cells_of_rows rows) rows columns → y < length rows →
+    IsUnknownCell (get_or rows y []) x → (x < length columns) × IsUnknownCell (cells_of_rows rows) (y * length columns + x)
+unknown-in_grid rows columns y x a ly u =
+    let lx : x < length columns = omega (arith, u.0, (lines-long rows columns 0 y a a.size.width_from ly).0) in
+    (lx, (cell_in (cells_of_rows rows) rows columns x y a lx ly, sym (cell-read rows columns x y a lx ly).0 ∙ u.1))
 
--- the cells of a row that has no unknown one from a cell on
-pub row-known : (rows columns : List (List Cell)) (y column : ℕ) → AreLinesOf (cells_of_rows rows) rows columns → y < length rows →
-    IsUnknownFrom (get_or rows y []) column None → (k : ℕ) → y * length columns + column ≤ k → k < y * length columns + length columns →
-    is_unknown (get_or (cells_of_rows rows) k Unknown) ≡ false
-row-known rows columns y column a ly none k from to =
-    let long = (lines-long rows columns 0 y a a.size.width_from ly).0 in
-    rw (in_row rows columns y k a ly (omega arith) to) (none (k - y * length columns) (omega arith) (omega (arith, long)))
+-- and the other way
+pub unknown-in_row : (rows columns : List (List Cell)) (y x : ℕ) → AreLinesOf (cells_of_rows rows) rows columns → y < length rows →
+    x < length columns → IsUnknownCell (cells_of_rows rows) (y * length columns + x) → IsUnknownCell (get_or rows y []) x
+unknown-in_row rows columns y x a ly lx u =
+    (omega (arith, lx, (lines-long rows columns x y a lx ly).0), (cell-read rows columns x y a lx ly).0 ∙ u.1)
 
--- the first unknown cell of a row
-pub row-unknown : (rows columns : List (List Cell)) (y column x : ℕ) → AreLinesOf (cells_of_rows rows) rows columns → y < length rows →
-    IsUnknownFrom (get_or rows y []) column (Some x)
-    → (x < length columns) × (get_or (cells_of_rows rows) (y * length columns + x) Unknown ≡ Unknown)
-    × ((k : ℕ) → y * length columns + column ≤ k → k < y * length columns + x → is_unknown (get_or (cells_of_rows rows) k Unknown) ≡ false)
-row-unknown rows columns y column x a ly found =
-    let lx : x < length columns = omega (arith, found.1, (lines-long rows columns 0 y a a.size.width_from ly).0) in (
-      lx,
-      sym (cell-read rows columns x y a lx ly).0 ∙ found.2,
-      λ k from to. rw (in_row rows columns y k a ly (omega arith) (omega (arith, lx)))
-          (found.3 (k - y * length columns) (omega arith) (omega arith)),
-    )
+-- what holds of all cells from one on up to a place of row y, and of those up to another place of the row
+pub passed : (P : ℕ → Type 0) (w y column end from : ℕ) → ((k : ℕ) → from ≤ k → k < y * w + column → P k) →
+    ((x : ℕ) → column ≤ x → x < end → P (y * w + x)) → (k : ℕ) → from ≤ k → k < y * w + end → P k
+passed P w y column end from before here k low high = elim (cases_lt k (y * w + column)) [
+  | inl early ↦ before k low early
+  | inr late ↦ (let at : y * w + (k - y * w) ≡ k = omega arith in subst P at (here (k - y * w) (omega arith) (omega arith)))
+]
 
 -- ---- rows read from a grid
 

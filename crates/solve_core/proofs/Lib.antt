@@ -15,7 +15,7 @@ pub mod GridSteps
 pub mod GridLineSteps
 pub mod BoardSteps
 pub mod TrialSteps
-pub mod WitnessLaws
+pub mod OpeningLaws
 pub mod SearchLaws
 pub mod ReportLaws
 pub mod AnswerLaws

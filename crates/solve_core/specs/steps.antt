@@ -2,6 +2,7 @@
 pub mod Boards
 pub mod Branches
 pub mod Closers
+pub mod ColourMasks
 pub mod Counts
 pub mod Deductions
 pub mod Endings
@@ -11,10 +12,8 @@ pub mod Guesses
 pub mod Learning
 pub mod LineMarks
 pub mod Marks
-pub mod Overlaid
+pub mod Openings
 pub mod Trails
 pub mod Tried
 pub mod Widths
-pub mod WitnessLists
-pub mod Witnesses
 pub mod LinePairs

@@ -22,7 +22,7 @@ use crate::learning::settle_across;
 use crate::picks::{known_cells, most_in_row, near_known};
 use grid_core::{Cell, Grid, Side};
 use line_core::{LineOf, LineSet};
-use place_sets::first_places;
+use place_sets::{first_from, first_places};
 use std::marker::Model;
 
 /// A grid, each row and each column of it as a line, so that none has to be gathered cell by cell. A cell is
@@ -162,32 +162,6 @@ fn sure_below<W: LineSet>(rows: &[LineOf<W>], y: usize) -> W
     }
 }
 
-/// The first of row y's unknown cells from a place on of whose neighbours at least `least`, 0 to 4, are known or
-/// outside the grid.
-fn first_near_known<W: LineSet>(
-    rows: &[LineOf<W>],
-    y: usize,
-    from: u16,
-    least: usize,
-) -> Option<u16>
-    requires y { y < length rows.now }
-    requires from { from < length (slice_index_or rows.now y []) }
-    requires least { least ≤ 4 }
-    ensures found { IfSome result (λ x. (from ≤ x) × IsUnknownCell (slice_index_or rows.now y []) x) }
-    ensures each { least ≡ 0 → IsUnknownFrom (slice_index_or rows.now y []) from result }
-{
-    if least == 0 {
-        return rows[y].first_unknown(from);
-    }
-    near_known(
-        &rows[y],
-        sure_above(rows, y),
-        sure_below(rows, y),
-        from,
-        least,
-    )
-}
-
 impl<W: LineSet> GridLines<W> {
     /// Its rows and its columns.
     pub fn into_lists(self) -> (Vec<LineOf<W>>, Vec<LineOf<W>>) {
@@ -248,18 +222,36 @@ impl<W: LineSet> GridLines<W> {
         self.rows[place / width].get((place % width) as u16)
     }
 
-    /// The place of the first unknown cell from a place on in row order of whose neighbours at least `least`, 0
-    /// to 4, are known or outside the grid, if there is one.
-    pub fn first_unknown(&self, from: usize, least: usize) -> Option<usize>
-        requires from { from ≤ length self.now.cells }
+    /// The unknown cells of row y of whose neighbours at least `least`, 0 to 4, are known or outside the grid.
+    pub fn near_cells(&self, y: usize, least: usize) -> W
+        requires row { y < self.now.height }
         requires least { least ≤ 4 }
-        ensures found { IfSome result (λ place. (from ≤ place) × IsUnknownCell self.now.cells place) }
-        ensures each { least ≡ 0 → IsUnknownFrom self.now.cells from result }
+        ensures unknown { (x : ℕ) → Has (W.number result) x → (x < self.now.width) × IsUnknownCell self.now.cells (y * self.now.width + x) }
+        ensures each { least ≡ 0 → (x : ℕ) → x < self.now.width → IsUnknownCell self.now.cells (y * self.now.width + x) →
+            Has (W.number result) x }
+        ensures fits { self.now.width ≤ W.WIDTH }
     {
-        let width = self.columns.len();
+        let row = &self.rows[y];
+        if least == 0 {
+            return row.unknown_cells();
+        }
+        near_known(
+            row,
+            sure_above(&self.rows, y),
+            sure_below(&self.rows, y),
+            least,
+        )
+    }
+
+    /// The place of the first unknown cell from a place on in row order, if there is one.
+    pub fn first_unknown(&self, from: usize) -> Option<usize>
+        requires { from ≤ length self.now.cells }
+        ensures { IsUnknownFrom self.now.cells from result }
+    {
+        let width = self.width();
         let mut column = from % width;
-        for y in from / width..self.rows.len() {
-            if let Some(x) = first_near_known(&self.rows, y, column as u16, least) {
+        for y in from / width..self.height() {
+            if let Some(x) = first_from(self.near_cells(y, 0), column as u16) {
                 return Some(y * width + usize::from(x));
             }
             column = 0;

@@ -4,6 +4,7 @@
 mod boards;
 mod branches;
 mod closures;
+mod colour_sets;
 mod dead_ends;
 mod deductions;
 mod findings;
@@ -15,6 +16,7 @@ mod learning;
 mod line_grids;
 mod line_pairs;
 mod marks;
+mod openings;
 mod picks;
 mod places;
 mod reports;
@@ -25,7 +27,6 @@ mod solver;
 mod trails;
 mod trials;
 mod widths;
-mod witnesses;
 mod words;
 mod workspaces;
 

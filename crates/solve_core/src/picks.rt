@@ -6,7 +6,7 @@ ghost use Rattle.grid_core.specs.Lines.{IsUnknownCell};
 ghost use Rattle.solve_core.specs.steps.Counts.{AreCounts, IsKnownCell, IsMostInRow, beside_score, told_by, two_of};
 
 use line_core::LineOf;
-use place_sets::{PlaceSet, complement_within, first_from};
+use place_sets::{PlaceSet, complement_within};
 
 /// Which unknown cell is guessed next.
 #[derive(Clone, Copy, Debug, PartialEq, Eq)]
@@ -128,21 +128,14 @@ pub fn most_in_row<W: PlaceSet>(
     first_in_most(row.unknown_cells(), &beside, &across, least)
 }
 
-/// The first of a row's unknown cells from a place on of whose neighbours at least `least`, 0 to 4, are known or
-/// outside the grid. Above and below are the cells of which the neighbour there is.
-pub fn near_known<W: PlaceSet>(
-    row: &LineOf<W>,
-    above: W,
-    below: W,
-    from: u16,
-    least: usize,
-) -> Option<u16>
-    requires from { from < length row.now }
-    requires least { least ≤ 4 }
-    ensures { IfSome result (λ x. (from ≤ x) × IsUnknownCell row.now x) }
+/// Those of a row's unknown cells of whose neighbours at least `least`, 0 to 4, are known or outside the grid. Above
+/// and below are the cells of which the neighbour there is.
+pub fn near_known<W: PlaceSet>(row: &LineOf<W>, above: W, below: W, least: usize) -> W
+    requires { least ≤ 4 }
+    ensures unknown { (x : ℕ) → Has (W.number result) x → IsUnknownCell row.now x }
+    ensures fits { length row.now ≤ W.WIDTH }
 {
     let in_row = known_beside(row);
     let in_column = Two::of(above, below);
-    let near = in_so_many(row.unknown_cells(), &in_row, &in_column, least);
-    first_from(near, from)
+    in_so_many(row.unknown_cells(), &in_row, &in_column, least)
 }

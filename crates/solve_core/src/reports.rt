@@ -36,7 +36,7 @@ fn count_known<W: LineSet>(board: &Board<W>) -> u32
     let lines = board.lines();
     let mut unknown = 0;
     let mut from = 0;
-    while let Some(place) = lines.first_unknown(from, 0) {
+    while let Some(place) = lines.first_unknown(from) {
         unknown += 1;
         from = place + 1;
     }
@@ -61,7 +61,7 @@ fn try_unless_full<W: LineSet>(
 ) -> (bool, TrialRoom<W>)
     requires fits { FitsIn W.WIDTH puzzle.now }
     requires rest { IsAtRest puzzle.now room.closer board.old.cells }
-    requires room { HasTrialRoom puzzle.now room.filled room.blank room.witnesses.room }
+    requires room { HasTrialRoom puzzle.now room.filled room.blank room.openings }
     requires size { IsBoardOf puzzle.now board.old }
     requires full { full ≡ list_all is_known board.old.cells }
     ensures tried { if_alive result.0 board.new.cells ≡ trials_of (lines_of puzzle.now) board.old.cells }
@@ -100,7 +100,7 @@ fn findings<W: LineSet>(
 ) -> (Findings, TrialRoom<W>)
     requires fits { FitsIn W.WIDTH puzzle.now }
     requires memory { IsMemoryOf puzzle.now room.closer }
-    requires trials { HasTrialRoom puzzle.now room.filled room.blank room.witnesses.room }
+    requires trials { HasTrialRoom puzzle.now room.filled room.blank room.openings }
     requires unknown { board.old.cells ≡ unknown_grid puzzle.now }
     requires size { IsBoardOf puzzle.now board.old }
     requires solutions { IsSizeOf puzzle.now solutions.width solutions.height }

@@ -37,7 +37,7 @@ fn next_place<W: LineSet>(board: &Board<W>, start: usize, pick: Pick) -> Option<
     ensures { result ≡ picked pick board.now.width board.now.cells }
 {
     match pick {
-        Pick::First => board.lines().first_unknown(start, 0),
+        Pick::First => board.lines().first_unknown(start),
         Pick::Most => board.lines().most_known(),
     }
 }

@@ -10,19 +10,20 @@ ghost use Rattle.solve_core.specs.Trials.{trials, IsTried};
 ghost use Rattle.solve_core.specs.steps.Closers.{AreFresh, IsMemoryOf};
 ghost use Rattle.solve_core.specs.steps.Marks.{Progresses, IsAtRest, IsTrialOf};
 ghost use Rattle.solve_core.specs.Closure.{if_alive};
-ghost use Rattle.solve_core.specs.steps.Trails.{CanSettle, cleared};
+ghost use Rattle.solve_core.specs.steps.Trails.{CanSettle};
 ghost use Rattle.solve_core.specs.steps.Tried.{HasRoomFor, HasTrialRoom, IsReady};
 ghost use Rattle.solve_core.specs.steps.Widths.{FitsIn};
-ghost use Rattle.solve_core.specs.steps.Witnesses.{AreWitnesses};
+ghost use Rattle.solve_core.specs.steps.Openings.{AreOpenings};
 ghost use Rattle.solve_core.specs.steps.Boards.{IsBoardOf};
 ghost use Rattle.solve_core.specs.declared.trials.Trial.TheVariants.{Refuted, Closed};
 ghost use Rattle.solve_core.specs.declared.closures.Progress.TheVariants.{Dead, Same};
 
 use crate::boards::{Board, BoardRoom};
 use crate::closures::{Closer, Progress};
-use crate::witnesses::Witnesses;
+use crate::openings::Openings;
 use grid_core::{Cell, NoMemory, Puzzle};
 use line_core::LineSet;
+use place_sets::first_places;
 use std::alloc::Global;
 use std::marker::Model;
 use std::mem;
@@ -32,7 +33,7 @@ use std::mem;
 pub enum Trial {
     /// The colour leads to a contradiction.
     Refuted,
-    /// It doesn't, as another trial has shown, or tables.
+    /// It doesn't: the colour is known to be open.
     Open,
     /// It doesn't: the copy is the closed grid.
     Closed,
@@ -52,50 +53,56 @@ impl Trial {
     }
 }
 
-/// Tries a colour at an unknown cell, on a copy, unless a witness has met it there, or tables show that nothing else
-/// is certain with it. If the copy closes alive, it is a witness.
+/// Tries a colour at an unknown cell, on a copy, unless it is known to be open there, or tables show that nothing else
+/// is certain with it. If the copy closes alive, all of its colours are open.
 fn try_colour<W: LineSet>(
     closer: &mut Closer<W>,
-    witnesses: &mut Witnesses,
+    openings: &mut Openings<W>,
     puzzle: &Puzzle,
     board: &Board<W>,
     trial: &mut Board<W>,
     place: usize,
     colour: Cell,
 ) -> Trial
+    requires fits { FitsIn W.WIDTH puzzle.now }
     requires rest { IsAtRest puzzle.now closer.old board.now.cells }
     requires fresh { AreFresh puzzle.now closer.old.fresh closer.old.kept.tables board.now.cells }
-    requires witnesses { AreWitnesses puzzle.now witnesses.old board.now.cells }
-    requires room { witnesses.old.room ≡ puzzle.now.width * puzzle.now.height }
+    requires openings { AreOpenings puzzle.now openings.old board.now.cells }
+    requires rows { length openings.old ≡ puzzle.now.height }
     requires size { IsBoardOf puzzle.now board.now }
     requires trial { IsBoardOf puzzle.now trial.old }
     requires cell { CanSettle board.now.cells place colour }
     ensures tried { IsTrialOf result (lines_of puzzle.now) board.now.cells place colour trial.new.cells }
-    ensures witnesses { AreWitnesses puzzle.now witnesses.new board.now.cells }
-    ensures room { witnesses.new.room ≡ witnesses.old.room }
+    ensures openings { AreOpenings puzzle.now openings.new board.now.cells }
+    ensures rows { length openings.new ≡ length openings.old }
     ensures rest { IsAtRest puzzle.now closer.new board.now.cells }
     ensures fresh { AreFresh puzzle.now closer.new.fresh closer.new.kept.tables board.now.cells }
     ensures closed_rest { result ≡ Closed → IsAtRest puzzle.now closer.new trial.new.cells }
-    ensures back { result ≡ Closed → cleared trial.new.cells trial.new.trail ≡ board.now.cells }
     ensures trial { IsBoardOf puzzle.now trial.new }
 {
-    if witnesses.has_met(place, colour) || closer.is_neutral(puzzle, board, place, colour) {
+    let width = usize::from(puzzle.width());
+    let (x, y) = ((place % width) as u16, place / width);
+    if openings.is_open(x, y, colour) {
+        return Trial::Open;
+    }
+    if closer.is_neutral(puzzle, board, place, colour) {
+        openings.open(x, y, colour);
         return Trial::Open;
     }
     if !closer.assign_copy(puzzle, board, trial, place, colour) {
         return Trial::Refuted;
     }
-    witnesses.add(puzzle, trial);
+    openings.add(trial.lines(), first_places(puzzle.height()));
     Trial::Closed
 }
 
-/// What trials are made of: what closes, room for a board for the trials of each colour, and witnesses.
+/// What trials are made of: what closes, room for a board for the trials of each colour, and openings.
 #[derive(Drop)]
 pub struct TrialRoom<W: LineSet> {
     pub(crate) closer: Closer<W>,
     filled: BoardRoom<W>,
     blank: BoardRoom<W>,
-    witnesses: Witnesses,
+    openings: Openings<W>,
 }
 
 impl<W: LineSet> TrialRoom<W> {
@@ -107,17 +114,17 @@ impl<W: LineSet> TrialRoom<W> {
     ) -> Result<TrialRoom<W>, NoMemory>
         requires { FitsIn W.WIDTH puzzle.now }
         ensures memory { IfOk result (λ room. IsMemoryOf puzzle.now room.closer) }
-        ensures room { IfOk result (λ room. HasTrialRoom puzzle.now room.filled room.blank room.witnesses.room) }
+        ensures room { IfOk result (λ room. HasTrialRoom puzzle.now room.filled room.blank room.openings) }
     {
-        let (closer, filled, blank, witnesses) = match others {
+        let (closer, filled, blank, openings) = match others {
             Some(
                 TrialRoom {
                     closer,
                     filled,
                     blank,
-                    witnesses,
+                    openings,
                 },
-            ) => (Some(closer), Some(filled), Some(blank), Some(witnesses)),
+            ) => (Some(closer), Some(filled), Some(blank), Some(openings)),
             None => (None, None, None, None),
         };
         let (width, height) = (puzzle.width(), puzzle.height());
@@ -125,17 +132,17 @@ impl<W: LineSet> TrialRoom<W> {
             closer: Closer::for_puzzle(alloc, closer, puzzle)?,
             filled: BoardRoom::new(alloc, filled, width, height)?,
             blank: BoardRoom::new(alloc, blank, width, height)?,
-            witnesses: Witnesses::new(alloc, witnesses, puzzle)?,
+            openings: Openings::new(alloc, openings, puzzle)?,
         })
     }
 }
 
-/// What trials work with: what closes, a board for the trials of each colour, and the witnesses.
+/// What trials work with: what closes, a board for the trials of each colour, and the openings.
 pub struct Trials<W: LineSet> {
     pub(crate) closer: Closer<W>,
     filled_trial: Board<W>,
     blank_trial: Board<W>,
-    witnesses: Witnesses,
+    openings: Openings<W>,
 }
 
 /// A call of its own, so that a proof takes it as one step.
@@ -145,7 +152,7 @@ impl<W: LineSet> Drop for Trials<W> {
             closer: _,
             filled_trial: _,
             blank_trial: _,
-            witnesses: _,
+            openings: _,
         } = self;
     }
 }
@@ -156,10 +163,11 @@ impl<W: LineSet> Model for Trials<W> {
     ghost Value = { Tried };
 
     ghost view = { λ t. record {
+      width = W.WIDTH;
       closer = t.closer;
       filled = t.filled_trial;
       blank = t.blank_trial;
-      witnesses = t.witnesses;
+      openings = t.openings;
     } };
 }
 
@@ -168,7 +176,7 @@ impl<W: LineSet> Trials<W> {
     pub fn new(room: TrialRoom<W>, puzzle: &Puzzle) -> Trials<W>
         requires fits { FitsIn W.WIDTH puzzle.now }
         requires memory { IsMemoryOf puzzle.now room.closer }
-        requires room { HasTrialRoom puzzle.now room.filled room.blank room.witnesses.room }
+        requires room { HasTrialRoom puzzle.now room.filled room.blank room.openings }
         ensures room { HasRoomFor puzzle.now result }
         ensures closer { result.closer ≡ room.closer }
     {
@@ -176,14 +184,14 @@ impl<W: LineSet> Trials<W> {
             closer,
             filled,
             blank,
-            witnesses,
+            openings,
         } = room;
         let (width, height) = (puzzle.width(), puzzle.height());
         Trials {
             closer,
             filled_trial: Board::unknown(filled, width, height),
             blank_trial: Board::unknown(blank, width, height),
-            witnesses,
+            openings,
         }
     }
 
@@ -195,13 +203,13 @@ impl<W: LineSet> Trials<W> {
             closer,
             filled_trial,
             blank_trial,
-            witnesses,
+            openings,
         } = self;
         TrialRoom {
             closer,
             filled: filled_trial.into_room(),
             blank: blank_trial.into_room(),
-            witnesses,
+            openings,
         }
     }
 
@@ -224,11 +232,10 @@ impl<W: LineSet> Trials<W> {
         ensures size { IsBoardOf puzzle.now board.new }
         ensures room { HasRoomFor puzzle.now self.new }
     {
-        let mark = board.trail().len();
         if !self.closer.assign(puzzle, board, place, colour) {
             return Progress::Dead;
         }
-        self.witnesses.keep(puzzle, board, mark, place, colour);
+        self.openings.forget();
         Progress::Changed
     }
 
@@ -247,7 +254,7 @@ impl<W: LineSet> Trials<W> {
     {
         let filled = try_colour(
             &mut self.closer,
-            &mut self.witnesses,
+            &mut self.openings,
             puzzle,
             board,
             &mut self.filled_trial,
@@ -259,7 +266,7 @@ impl<W: LineSet> Trials<W> {
         }
         let blank = try_colour(
             &mut self.closer,
-            &mut self.witnesses,
+            &mut self.openings,
             puzzle,
             board,
             &mut self.blank_trial,
@@ -270,8 +277,7 @@ impl<W: LineSet> Trials<W> {
             return Progress::Same;
         }
         if filled.is_closed() {
-            self.witnesses
-                .keep(puzzle, &self.filled_trial, 0, place, Cell::Filled);
+            self.openings.forget();
             mem::swap(board, &mut self.filled_trial);
             self.closer.forget_fresh();
             return Progress::Changed;
@@ -294,7 +300,7 @@ impl<W: LineSet> Trials<W> {
     {
         let mut progress = Progress::Same;
         let mut from = 0;
-        while let Some(place) = board.lines().first_unknown(from, least) {
+        while let Some(place) = self.openings.first_untried(board.lines(), from, least) {
             match self.try_place(puzzle, board, place) {
                 Progress::Dead => return Progress::Dead,
                 Progress::Same => {}
@@ -341,7 +347,7 @@ impl<W: LineSet> Trials<W> {
         ensures size { IsBoardOf puzzle.now board.new }
         ensures room { HasRoomFor puzzle.now self.new }
     {
-        self.witnesses.forget();
+        self.openings.forget();
         self.closer.forget_fresh();
         let alive = self.try_until_same(puzzle, board);
         self.closer.forget_tables();

@@ -1,9 +1,9 @@
--- What closing and trials keep: the marks of lines and of colours, and what a step came to.
-use Rattle.std.specs.Prelude.{◌⊎◌, ◌≡◌, ℕ, ◌*◌, ◌<◌, Bool, true, false, List, length, Option, Some, None, slice_index_or, slice_set}
+-- What closing and trials keep: the marks of lines, and what a step came to.
+use Rattle.std.specs.Prelude.{◌⊎◌, ◌≡◌, ℕ, ◌*◌, ◌<◌, false, List, length, Option, Some, None, slice_index_or, slice_set}
 use Rattle.grid_core.specs.declared.cells.Cell.{Cell}
-use Rattle.grid_core.specs.declared.cells.Cell.TheVariants.{Unknown, Filled, Blank}
+use Rattle.grid_core.specs.declared.cells.Cell.TheVariants.{Unknown}
 use Rattle.grid_core.specs.declared.sides.Side.{Side}
-use Rattle.grid_core.specs.Nonogram.{Nonogram, IsNonogram, GridLine, lines_of, line_on, crossing, cells_at}
+use Rattle.grid_core.specs.Nonogram.{Nonogram, IsNonogram, GridLine, line_on, crossing, cells_at}
 use Rattle.grid_core.specs.steps.Sides.{count_on, place_on}
 use Rattle.line_core.specs.Deduction.{deduced}
 use Rattle.solve_core.specs.Closure.{with_cells, closure}
@@ -83,18 +83,7 @@ pub record IsAtRest (p : Nonogram) (c : Closing) (cells : List Cell) : Type 0 wh
   pub marks : HasMarks p c.marks cells
   pub idle : IsIdle p c
 
--- at each marked place the colour isn't refuted
-abbrev pub AreOpen : List GridLine → List Cell → Cell → List Bool → Type 0
-AreOpen lines cells colour marks = (k : ℕ) → slice_index_or marks k false ≡ true → is_refuted lines cells k colour ≡ false
-
--- each cell has a mark for each colour, and if it is set, the colour isn't refuted
-pub record AreOpenColours (p : Nonogram) (cells : List Cell) (fillable blankable : List Bool) : Type 0 where
-  pub filled_count : length fillable ≡ length cells
-  pub blank_count : length blankable ≡ length cells
-  pub filled : AreOpen (lines_of p) cells Filled fillable
-  pub blank : AreOpen (lines_of p) cells Blank blankable
-
--- what a trial of a colour at a place came to: no grid, the closed one, or one that another trial met
+-- what a trial of a colour at a place came to: no grid, the closed one, or the colour is known to be open
 abbrev pub IsTrialOf : Trial → List GridLine → List Cell → ℕ → Cell → List Cell → Type 0
 IsTrialOf Refuted lines cells k colour trial = closure lines (slice_set cells k colour) ≡ None
 IsTrialOf Open lines cells k colour trial = is_refuted lines cells k colour ≡ false

@@ -1,5 +1,5 @@
 -- `count_known`: between two unknown cells, and behind the last one, all are known.
-use Rattle.solve_core.proofs.Names.{◌≡◌, ◌∙◌, ◌+◌, ◌-◌, arith, length, refl, ap, take, take_all, count_by, count_by_more_no, is_known, Unknown, PartialGrid, rules}
+use Rattle.solve_core.proofs.Names.{◌≡◌, ◌∙◌, ◌+◌, ◌-◌, arith, length, ap, take, take_all, count_by, count_by_more_no, is_known, Unknown, PartialGrid, rules}
 use Rattle.solve_core.proofs.Counting.{count-run}
 use Rattle.solve_core.proofs.reports.count_known.Goals as goal
 
@@ -8,7 +8,7 @@ loop-place-preserved g c =
     let cells = c.args.board.now.cells in
     let from = c.loop-place.from in
     let place = c.in-Some.place in
-    let next = rw c.lines-lines.ensures.lines at (c.in-Some.ensures.each refl) in
+    let next = rw c.lines-lines.ensures.lines at c.in-Some.ensures in
     let run = count-run cells (place - from) from place (omega (arith, next.0)) (omega (arith, next.1)) next.3 in
     let here : count_by is_known (take (place + 1) cells) ≡ count_by is_known (take place cells) =
     count_by_more_no is_known cells place Unknown next.1 (ap is_known next.2) in
@@ -18,7 +18,7 @@ pub returns : goal.returns
 returns g c =
     let cells = c.args.board.now.cells in
     let from = c.loop-place.from in
-    let none = rw c.lines-lines.ensures.lines at (c.in_default.ensures.each refl) in
+    let none = rw c.lines-lines.ensures.lines at c.in_default.ensures in
     let count : c.count.result ≡ length cells = c.count.ensures.count ∙ ap (λ (g : PartialGrid). length g.cells) c.lines-lines.ensures.lines in
     let run = count-run cells (length cells - from) from (length cells) (omega (arith, c.loop-place.invariant.within)) (omega arith) none in
     omega (arith, count, rw (take_all (length cells) cells (omega arith)) at run, c.loop-place.invariant.counted, c.loop-place.invariant.within)

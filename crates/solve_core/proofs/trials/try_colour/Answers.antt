@@ -1,11 +1,15 @@
--- `try_colour`: a copy that closes alive is line-closed and knows all that the board does: it is a witness.
-use Rattle.solve_core.proofs.Names.{rules}
+-- `try_colour`: a copy that closes alive is line-closed and knows all that the board does, so its colours are open.
+use Rattle.solve_core.proofs.Names.{set, sym, lines_of}
 use Rattle.solve_core.proofs.ClosureLaws.{closure-IsLeastClosed}
 use Rattle.solve_core.proofs.TrialSteps.{settled-extends}
 use Rattle.solve_core.proofs.trials.try_colour.Goals as goal
 
-pub add-requires-clause-closed : goal.add-requires-clause-closed
-add-requires-clause-closed g c = search (rules, closure-IsLeastClosed, c.if-not-assign_copy.ensures.closed)
-
-pub add-requires-clause-extends : goal.add-requires-clause-extends
-add-requires-clause-extends g c = search (rules, settled-extends)
+pub returns-clause-openings : goal.returns-clause-openings
+returns-clause-openings g c =
+    let lines = lines_of c.args.puzzle.now in
+    let cells = c.args.board.now.cells in
+    let trial = c.assign_copy.new.trial.cells in
+    let closed = sym c.if-not-assign_copy.ensures.closed in
+    (rw c.lines.ensures.lines at c.add.ensures.openings) c.args.puzzle.now cells c.assign_copy.ensures.trial.0
+    ((closure-IsLeastClosed lines (set cells c.args.place c.args.colour)).closed trial closed)
+    (settled-extends lines cells trial c.args.place c.args.colour c.requires.cell.unknown closed) c.requires.openings

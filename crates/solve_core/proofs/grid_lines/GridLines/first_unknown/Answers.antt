@@ -1,53 +1,43 @@
 -- `GridLines::first_unknown`: all cells passed are known, so a row's first unknown cell is the grid's.
-use Rattle.solve_core.proofs.Names.{rules, ◌≡◌, ◌∙◌, ◌+◌, ◌*◌, ◌<◌, ◌≤◌, inl, inr, length, ap, sym, arith, cases_lt, PartialGrid, cells_of_rows}
-use Rattle.solve_core.proofs.GridLineSteps.{cell_in, cell-read, lines-long, row-known, row-unknown}
+use Rattle.std.proofs.lemmas.Nat.{row_fits_turned}
+use Rattle.solve_core.proofs.Names.{◌≡◌, ℕ, ◌+◌, ◌*◌, ◌<◌, ◌≤◌, false, List, length, get_or, refl, arith, false_from_ne_true, Cell, Unknown, is_unknown, Has, IsUnknownCell}
+use Rattle.solve_core.proofs.GridLineSteps.{passed}
+use Rattle.solve_core.proofs.SearchLaws.{unknown_is}
 use Rattle.solve_core.proofs.grid_lines.GridLines.first_unknown.Goals as goal
 
-pub first_near_known-requires-clause-from : goal.first_near_known-requires-clause-from
-first_near_known-requires-clause-from g c =
-    let ly : c.loop-y.y < length c.self.inside.rows.items = omega (arith, c.loop-y-test.true, c.len-y-end.ensures, c.self.inside.rows.ok.0) in
-    let long = (lines-long _ _ 0 _ c.self.invariant c.self.invariant.size.width_from ly).0 in
-    rw c.deref.ensures.value (omega (arith, c.loop-y.invariant.column, c.len-width.ensures, c.self.inside.columns.ok.0, long))
+-- the cells up to a place of row y are known if those before a column of the row are, and none from there on is unknown
+known_before : (cells : List Cell) (w y column end from near : ℕ) → y * w + end ≤ length cells → end ≤ w →
+    ((x : ℕ) → x < w → IsUnknownCell cells (y * w + x) → Has near x) → ((x : ℕ) → column ≤ x → x < end → Has near x → ⊥) →
+    ((k : ℕ) → from ≤ k → k < y * w + column → is_unknown (get_or cells k Unknown) ≡ false) →
+    (k : ℕ) → from ≤ k → k < y * w + end → is_unknown (get_or cells k Unknown) ≡ false
+known_before cells w y column end from near here within each none before =
+    passed (λ k. is_unknown (get_or cells k Unknown) ≡ false) w y column end from before (λ x low high. false_from_ne_true _
+    (λ e. none x low high (each x (omega (arith, high, within)) (omega (arith, high, here), unknown_is _ e))))
 
 pub returns-in-Some : goal.returns-in-Some
 returns-in-Some g c =
-    let rows = c.self.inside.rows.items in
-    let w = length c.self.inside.columns.items in
-    let y = c.loop-y.y in
-    let wide : c.len-width.result ≡ w = c.len-width.ensures ∙ c.self.inside.columns.ok.0 in
-    let seen : cells_of_rows rows ≡ c.args.self.now.cells = ap (λ (g : PartialGrid). g.cells) c.self.view_is in
-    let ly : y < length rows = omega (arith, c.loop-y-test.true, c.len-y-end.ensures, c.self.inside.rows.ok.0) in
-    let found = rw c.deref.ensures.value at c.in-Some.ensures.found in
-    let lx : c.in-Some.x < w = omega (arith, found.1.0, (lines-long _ _ 0 _ c.self.invariant c.self.invariant.size.width_from ly).0) in
-    let start : c.args.from ≤ y * w + c.loop-y.column = rw wide at c.loop-y.invariant.from in
-    let known = rw (wide, ← seen) at c.loop-y.invariant.known in
-    let within = cell_in _ _ _ _ _ c.self.invariant lx ly in
-    let unknown = sym (cell-read _ _ _ _ c.self.invariant lx ly).0 ∙ found.1.1 in
-    rw (c.from.ensures, wide, ← seen) (record {
-      found = (omega (arith, start, found.0), (within, unknown));
-      each = λ zero.
-          let at = row-unknown _ _ y _ _ c.self.invariant ly (rw c.deref.ensures.value at (c.in-Some.ensures.each zero)) in
-          search (rules, at, known, within, unknown, start, found, cases_lt);
-    })
+    let found = c.in-Some.ensures in
+    let at = c.near_cells.ensures.unknown c.in-Some.x found.2 in
+    rw (c.from.ensures, c.width-width.ensures.width) (
+      omega (arith, rw c.width-width.ensures.width at c.loop-y.invariant.from, found.0),
+      at.1.0,
+      at.1.1,
+      known_before c.args.self.now.cells c.args.self.now.width c.loop-y.y c.loop-y.column c.in-Some.x c.args.from _ (omega (arith, at.1.0))
+          (omega (arith, at.0)) (c.near_cells.ensures.each refl) found.3 (rw c.width-width.ensures.width at c.loop-y.invariant.known),
+    )
 
 pub loop-y-preserved : goal.loop-y-preserved
 loop-y-preserved g c =
-    let rows = c.self.inside.rows.items in
-    let w = length c.self.inside.columns.items in
-    let y = c.loop-y.y in
-    let column = c.loop-y.column in
-    let wide : c.len-width.result ≡ w = c.len-width.ensures ∙ c.self.inside.columns.ok.0 in
-    let seen : cells_of_rows rows ≡ c.args.self.now.cells = ap (λ (g : PartialGrid). g.cells) c.self.view_is in
-    let ly : y < length rows = omega (arith, c.loop-y-test.true, c.len-y-end.ensures, c.self.inside.rows.ok.0) in
-    let start : c.args.from ≤ y * w + column = rw wide at c.loop-y.invariant.from in
-    let known = rw (wide, ← seen) at c.loop-y.invariant.known in
-    let short : column < w = omega (arith, c.loop-y.invariant.column, wide) in
-    rw (wide, ← seen) (record {
-      column = omega (arith, c.self.invariant.size.width_from);
-      from = omega (arith, start, short);
-      known = λ zero k f t. elim (cases_lt k (y * w + column)) [
-        | inl early ↦ known zero k f early
-        | inr late ↦ row-known _ _ y column c.self.invariant ly (rw c.deref.ensures.value at (c.in_default.ensures.each zero)) k late
-            (omega arith)
-      ];
+    let w = c.width-width.result in
+    let next : (c.loop-y.y + 1) * w + 0 ≡ c.loop-y.y * w + w = omega arith in
+    let here : c.loop-y.y * w + w ≤ length c.args.self.now.cells =
+    rw (c.width-width.ensures.width, c.width-width.ensures.count) (row_fits_turned c.loop-y.y c.args.self.now.width c.args.self.now.width
+    c.args.self.now.height (omega (arith, c.loop-y-test.true, c.height-y-end.ensures)) (omega arith)) in
+    rw next (record {
+      column = omega (arith, c.width-width.ensures.width, c.width-width.ensures.size.width_from);
+      from = omega (arith, c.loop-y.invariant.from, c.loop-y.invariant.column);
+      known = known_before c.args.self.now.cells w c.loop-y.y c.loop-y.column w c.args.from _ here (omega arith)
+          (rw (← c.width-width.ensures.width) at (c.near_cells.ensures.each refl))
+          (λ x low high. c.in_default.ensures x low (omega (arith, c.near_cells.ensures.fits, c.width-width.ensures.width, high)))
+          c.loop-y.invariant.known;
     })

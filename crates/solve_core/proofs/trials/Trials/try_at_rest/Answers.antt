@@ -1,5 +1,5 @@
--- `Trials::try_at_rest`: without witnesses each that counts is alive.
-use Rattle.solve_core.proofs.Names.{◌∙◌, ap, sym, subst, IsAtRest, Tried}
+-- `Trials::try_at_rest`: if nothing is noted, all that is noted is open.
+use Rattle.solve_core.proofs.Names.{sym, subst, IsAtRest, Tried}
 use Rattle.solve_core.proofs.trials.Trials.try_at_rest.Goals as goal
 
 pub try_until_same-alive-requires-clause-ready : goal.try_until_same-alive-requires-clause-ready
@@ -9,6 +9,5 @@ try_until_same-alive-requires-clause-ready g c =
     record {
       rest = c.forget_fresh.ensures.rest p cells (subst (λ (t : Tried). IsAtRest p t.closer cells) (sym c.self.view_is) c.requires.rest);
       fresh = c.forget_fresh.ensures.fresh p cells;
-      witnesses = c.forget.ensures.witnesses p cells (c.requires.size.2 ∙ sym c.requires.room.cells ∙
-          ap (λ (t : Tried). t.witnesses.room) (sym c.self.view_is));
+      openings = c.forget.ensures.openings p cells;
     }

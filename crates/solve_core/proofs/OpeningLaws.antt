@@ -1,0 +1,57 @@
+-- What is noted of a grid's colours, and what that says of its trials.
+use Rattle.std.proofs.Math.Nat.{mod-add-div'}
+use Rattle.solve_core.proofs.Names.{◌≡◌, ℕ, ◌+◌, ◌*◌, ◌/◌, ◌%◌, ◌<◌, ◌≤◌, ◌⊎◌, ◌∙◌, inl, inr, false, List, length, set, get_or, Some, sym, ap, arith, cases_Bool, cases_eq, div-mul-add, mod-mul-add, get_or-set_same, get_or-set_other, get_or_default, Cell, Unknown, Extends, Has, has, IsMaskOf, IsUnknownCell, Nonogram, Rows, lines_of, round, is_refuted, TrailedGrid, cells_along, ColourMasks, mask_of, no_colours, AreBothNoted, AreOpenings, rules}
+use Rattle.place_sets.proofs.HasLemmas.{true_has}
+use Rattle.solve_core.proofs.GridLineSteps.{get_or-along, length-along, passed}
+use Rattle.solve_core.proofs.TrialSteps.{met_open}
+
+-- if what is noted more at a row isn't refuted, all that is noted is open
+more_open : (p : Nonogram) (rows : List ColourMasks) (row : ColourMasks) (y : ℕ) (cells : List Cell) → AreOpenings p rows cells →
+    y < length rows → ((k : ℕ) (c : Cell) → k < length cells → k / p.width ≡ y → Has (mask_of c row) (k % p.width) →
+    Has (mask_of c (get_or rows y no_colours)) (k % p.width) ⊎ (is_refuted (lines_of p) cells k c ≡ false)) →
+    AreOpenings p (set rows y row) cells
+more_open p rows row y cells before ly more = search (rules, cases_eq, get_or-set_same, get_or-set_other)
+
+-- with one place more
+pub opened : (p : Nonogram) (rows : List ColourMasks) (old row : ColourMasks) (x y : ℕ) (colour : Cell) (cells : List Cell) →
+    AreOpenings p rows cells → y < length rows → old ≡ get_or rows y old →
+    ((c : Cell) (i : ℕ) → Has (mask_of c row) i → Has (mask_of c old) i ⊎ ((c ≡ colour) × (i ≡ x))) →
+    is_refuted (lines_of p) cells (y * p.width + x) colour ≡ false → AreOpenings p (set rows y row) cells
+opened p rows old row x y colour cells before ly is only free =
+    more_open p rows row y cells before ly (λ k c lk at h. elim (only c (k % p.width) h) [
+      | inl was ↦ inl (rw (is ∙ get_or_default rows y old no_colours ly) at was)
+      | inr new ↦ (let place : y * p.width + x ≡ k = rw (← at, ← new.1) (omega (arith, mod-add-div' k p.width)) in
+          inr (rw (new.0, ← place) free))
+    ])
+
+-- with the known cells of a row of a closed grid
+pub all_open : (p : Nonogram) (rows : List ColourMasks) (old row : ColourMasks) (line : List Cell) (g : TrailedGrid) (y : ℕ) (cells : List Cell)
+    → 0 < p.width → AreOpenings p rows cells → y < length rows → old ≡ get_or rows y old → g.width ≡ p.width →
+    round (lines_of p) g.cells ≡ Some g.cells → Extends cells g.cells → line ≡ cells_along g Rows y →
+    ((c : Cell) (i : ℕ) → i < length line → Has (mask_of c row) i → Has (mask_of c old) i ⊎ (get_or line i Unknown ≡ c)) →
+    AreOpenings p (set rows y row) cells
+all_open p rows old row line g y cells some before ly is wide closed more along only =
+    let w = p.width in
+    let is_row = rw wide at along in
+    let long : length line ≡ w = ap length is_row ∙ length-along g.cells (y * w) 1 w in
+    more_open p rows row y cells before ly (λ k c lk at h. elim (only c (k % w) (omega (arith, long, some)) h) [
+      | inl was ↦ inl (rw (is ∙ get_or_default rows y old no_colours ly) at was)
+      | inr new ↦ (let place : y * w + k % w * 1 ≡ k = rw (← at) (omega (arith, mod-add-div' k w)) in
+          inr (met_open (lines_of p) cells g.cells k c closed more
+          (sym (get_or-along g.cells (y * w) 1 w (k % w) k (omega (arith, some)) place) ∙ rw is_row at new)))
+    ])
+
+-- The unknown cells up to a place of row y are tried if those before a column of the row are, and none from there on up
+-- to the place is near and untried.
+pub tried_before : (rows : List ColourMasks) (cells : List Cell) (w y column end from near tried untried : ℕ) → end ≤ w →
+    ((x : ℕ) → x < w → IsUnknownCell cells (y * w + x) → Has near x) → IsMaskOf (λ x. AreBothNoted rows x y) tried →
+    IsMaskOf (λ x. Has near x × (has tried x ≡ false)) untried → ((x : ℕ) → column ≤ x → x < end → Has untried x → ⊥) →
+    ((k : ℕ) → from ≤ k → k < y * w + column → IsUnknownCell cells k → AreBothNoted rows (k % w) (k / w)) →
+    (k : ℕ) → from ≤ k → k < y * w + end → IsUnknownCell cells k → AreBothNoted rows (k % w) (k / w)
+tried_before rows cells w y column end from near tried untried within each both left none before =
+    passed (λ k. IsUnknownCell cells k → AreBothNoted rows (k % w) (k / w)) w y column end from before (λ x low high unknown.
+    let lx : x < w = omega (arith, high, within) in
+    rw (mod-mul-add y w x lx, div-mul-add y w x lx) (elim (cases_Bool (has tried x)) [
+      | inl is ↦ both.to x (true_has tried x is)
+      | inr not ↦ absurd (none x low high (left.from x (each x lx unknown, not)))
+    ]))

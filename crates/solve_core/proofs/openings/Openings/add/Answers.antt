@@ -1,0 +1,25 @@
+-- `Openings::add`: more is noted at a row only if the closed grid has the colour there.
+use Rattle.solve_core.proofs.Names.{◌<◌, ◌∙◌, inl, inr, length, length-set, sym, arith, true≢false}
+use Rattle.line_core.proofs.GapRows.{mask_less}
+use Rattle.solve_core.specs.steps.Boards.{fresh_board}
+use Rattle.solve_core.proofs.OpeningLaws.{all_open}
+use Rattle.solve_core.proofs.openings.Openings.add.Goals as goal
+
+pub loop-left-preserved : goal.loop-left-preserved
+loop-left-preserved g c =
+    let rows = c.loop-left.self-inside.rows.items in
+    let ly : c.from.result < length rows =
+    omega (arith, c.loop-left.invariant.left _ c.first_place-y.ensures.in_mask, c.loop-left.invariant.count) in record {
+      left = λ y h. elim (c.marked-left.ensures.to y h) [
+        | inl was ↦ c.loop-left.invariant.left y was.0
+        | inr new ↦ absurd (true≢false (sym new.1))
+      ];
+      count = length-set rows _ _ ∙ c.loop-left.invariant.count;
+      openings = λ p cells wide closed more before.
+          all_open p rows c.index_mut.result.now c.add_line.new.self c.line.result.now (fresh_board c.args.lines.now) c.from.result cells
+          (rw (← wide) c.line.ensures.whole.0.width_from) (c.loop-left.invariant.openings p cells wide closed more before) ly
+          c.index_mut.ensures.value wide closed more (rw c.from.ensures c.line.ensures.cells) c.add_line.ensures.only;
+    }
+
+pub loop-left-smaller : goal.loop-left-smaller
+loop-left-smaller g c = mask_less _ _ _ c.first_place-y.ensures.in_mask c.marked-left.ensures

@@ -1,0 +1,14 @@
+-- What the loop of `Openings::add` keeps: what is noted is open, and the rows that are left are among `rows`.
+use Rattle.solve_core.proofs.Names.{◌≡◌, ◌<◌, ℕ, List, length, Some, Cell, Extends, Has, Nonogram, lines_of, round, AreOpenings}
+use Rattle.solve_core.proofs.openings.Openings.add.Given as goal
+
+abbrev pub invariant-loop-left : goal.invariant-loop-left
+invariant-loop-left g l = record {
+  left : (y : ℕ) → Has (g.W.PlaceSet.number l.left) y → y < l.lines.height;
+  count : length l.self-inside.rows.items ≡ length l.fn.self;
+  openings : (p : Nonogram) (cells : List Cell) → l.lines.width ≡ p.width → round (lines_of p) l.lines.cells ≡ Some l.lines.cells
+      → Extends cells l.lines.cells → AreOpenings p l.fn.self cells → AreOpenings p l.self-inside.rows.items cells;
+}
+
+abbrev pub decreases-loop-left : goal.decreases-loop-left
+decreases-loop-left g l = g.W.PlaceSet.number l.left

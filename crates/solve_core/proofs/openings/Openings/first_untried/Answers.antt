@@ -1,0 +1,25 @@
+-- `Openings::first_untried`: of a row's cells passed none is near and untried, so if all unknown ones are near, they are tried.
+use Rattle.solve_core.proofs.Names.{◌≡◌, ◌+◌, ◌*◌, arith}
+use Rattle.solve_core.proofs.OpeningLaws.{tried_before}
+use Rattle.solve_core.proofs.openings.Openings.first_untried.Goals as goal
+
+pub returns-in-Some-clause-passed : goal.returns-in-Some-clause-passed
+returns-in-Some-clause-passed g c = λ zero.
+    let found = c.in-Some.ensures in
+    rw (c.from.ensures, c.width-width.ensures.width) (tried_before c.args.self.now c.args.lines.now.cells c.args.lines.now.width c.loop-y.y
+    c.loop-y.column c.in-Some.x c.args.from _ _ _ (let x = (c.near_cells.ensures.unknown _ (c.difference-untried.ensures.to _ found.2).0).0 in omega (arith, x))
+    (c.near_cells.ensures.each zero) c.tried.ensures c.difference-untried.ensures found.3
+    (rw c.width-width.ensures.width at (c.loop-y.invariant.passed zero)))
+
+pub loop-y-preserved : goal.loop-y-preserved
+loop-y-preserved g c =
+    let w = c.width-width.result in
+    let next : (c.loop-y.y + 1) * w + 0 ≡ c.loop-y.y * w + w = omega arith in
+    rw next (record {
+      column = omega (arith, c.width-width.ensures.width, c.width-width.ensures.size.width_from);
+      from = omega (arith, c.loop-y.invariant.from, c.loop-y.invariant.column);
+      passed = λ zero. tried_before c.args.self.now c.args.lines.now.cells w c.loop-y.y c.loop-y.column w c.args.from _ _ _ (omega arith)
+          (rw (← c.width-width.ensures.width) at (c.near_cells.ensures.each zero)) c.tried.ensures c.difference-untried.ensures
+          (λ x low high. c.in_default.ensures x low (omega (arith, c.near_cells.ensures.fits, c.width-width.ensures.width, high)))
+          (c.loop-y.invariant.passed zero);
+    })

@@ -1,0 +1,12 @@
+-- What the loop of `Openings::first_untried` keeps: both colours are noted at the unknown cells passed, from `from` on,
+-- if `least` is 0.
+use Rattle.solve_core.proofs.Names.{◌≡◌, ◌+◌, ◌*◌, ◌/◌, ◌%◌, ◌<◌, ◌≤◌, ℕ, IsUnknownCell, AreBothNoted}
+use Rattle.solve_core.proofs.openings.Openings.first_untried.Given as goal
+
+abbrev pub invariant-loop-y : goal.invariant-loop-y
+invariant-loop-y g l = record {
+  column : l.column < l.width;
+  from : l.from ≤ l.y * l.width + l.column;
+  passed : l.least ≡ 0 → (k : ℕ) → l.from ≤ k → k < l.y * l.width + l.column → IsUnknownCell l.lines.cells k
+      → AreBothNoted l.self (k % l.width) (k / l.width);
+}
