@@ -1,7 +1,7 @@
 -- The names that most proofs cite, passed on from one place. Declares nothing.
 pub use Rattle.std.proofs.Common.{Bool, IfNone, IfSome, List, None, Option, Some, [], add-one, add-zero, ap, append-nil, append_assoc, arith, below_more, cond, count_by, drop, false, get_or, get_or-set_other, get_or-set_same, inl, inr, is_none, leb, length, length-append, length-set, ltb-false, ltb-true, map, nat_eq, nat_le, nat_lt, option_and_then, option_map, refl, replicate, rules, set, slice_index_or, slice_set, subst, suc, sym, take, take_all, true, true≢false, vec_capacity, vec_len, zero, zero-add, ℕ, ◌%◌, ◌*◌, ◌++◌, ◌+◌, ◌-◌, ◌/◌, ◌<◌, ◌∙◌, ◌∷◌, ◌≡◌, ◌≢◌, ◌≤◌, ◌⊎◌}
 pub use Rattle.std.proofs.Math.ListN.{get_or-eq_default, get_or-map, length-map}
-pub use Rattle.std.proofs.Math.Seq.{drop-length}
+pub use Rattle.std.proofs.Math.Seq.{drop-append_seam, drop-length, take-append_seam}
 pub use Rattle.std.proofs.lemmas.Bool.{and_parts, cases_Bool, cases_eq, cases_lt, eq-eqb, eqb-false, eqb-true, false_from_ne_true, le-leb, le-ltb, leb-true, lt-leb, lt-ltb, ne_eqb, or_cases}
 pub use Rattle.std.proofs.lemmas.List.{drop-append-le, ext_get_or, get_or-replicate, get_or_default, length-replicate, length-take, length-take-le, set-get_or, set-set, take-append-drop, take-take, with_items_is}
 pub use Rattle.std.proofs.lemmas.List.Elements.{All-contains, All-from_recursion, All-more, recursion_from_All}
@@ -51,7 +51,7 @@ pub use Rattle.solve_core.specs.steps.GridLines.{AreLinesOf}
 pub use Rattle.solve_core.specs.steps.Guesses.{IsUnderWay, owed, owed_by}
 pub use Rattle.solve_core.specs.steps.Learning.{CanLearn, IsIn, IsLearning, LeadsBackBut}
 pub use Rattle.solve_core.specs.steps.LineMarks.{AreMarksWithin, AreUnmarked, IsMarkedOn, IsUnmarkedOn, LineMarks, marks_on}
-pub use Rattle.solve_core.specs.steps.Marks.{HasMarks, HasWork, IsAtRest, IsDeduced, IsLearned, IsTrialOf, IsWritten, MarksAfter, MarksChanges, Progresses}
+pub use Rattle.solve_core.specs.steps.Marks.{HasMarks, HasWork, IsAtRest, IsDeduced, IsLearned, IsWritten, MarksAfter, MarksChanges, Progresses}
 pub use Rattle.solve_core.specs.steps.Openings.{AreBothNoted, AreOpenings}
 pub use Rattle.solve_core.specs.steps.Trails.{IsTrailed, TrailedGrid, cleared, unknown_count}
 pub use Rattle.solve_core.specs.steps.Tried.{HasRoomFor, IsReady, Tried}

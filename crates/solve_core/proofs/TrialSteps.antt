@@ -1,7 +1,5 @@
 -- What a trial's outcome says of a cell, and what settling the cell leaves of the trials' end.
-use Rattle.solve_core.proofs.Names.{◌≡◌, ℕ, ◌+◌, ◌<◌, inl, inr, Bool, true, false, List, length, get_or, set, Some, None, ap, ◌∙◌, arith, zero-add, Cell, Unknown, Filled, Blank, CellExtends, Extends, is_known, GridLine, Changed, round, closure, is_refuted, left_over, tried, trial_round, trials, IsTried, Progresses, IsTrialOf, unknown_count, AtMost, Extends-refl, Extends-trans, length-Extends, rules}
-use Rattle.solve_core.specs.declared.trials.Trial.{Trial}
-use Rattle.solve_core.specs.declared.trials.Trial.TheVariants.{Refuted, Closed}
+use Rattle.solve_core.proofs.Names.{◌≡◌, ℕ, ◌+◌, ◌<◌, inl, inr, Bool, true, false, List, length, get_or, set, Some, None, ap, ◌∙◌, arith, zero-add, Cell, Unknown, Filled, Blank, CellExtends, Extends, is_known, GridLine, Changed, round, closure, is_refuted, left_over, tried, trial_round, trials, IsTried, Progresses, unknown_count, AtMost, Extends-refl, Extends-trans, length-Extends, rules}
 use Rattle.solve_core.proofs.Order.{set_extends, set_within, below_each}
 use Rattle.solve_core.proofs.Closing.{repeat-fixed, fewer_unknown}
 use Rattle.solve_core.proofs.ClosureLaws.{closure-IsLeastClosed, same_at_most}
@@ -97,13 +95,3 @@ settle-changed lines g new k c l unknown n below e =
 pub settle-dead : (lines : List GridLine) (g : List Cell) (k : ℕ) (c : Cell) → get_or g k Unknown ≡ Unknown →
     AtMost (Some (set g k c)) (trials lines g) → closure lines (set g k c) ≡ None → trials lines g ≡ None
 settle-dead lines g k c unknown below e = search (rules, trials_between, set_extends, closure_below)
-
--- a trial that came to `Refuted` refutes its colour
-pub trial-refuted : (r : Trial) (lines : List GridLine) (g trial : List Cell) (k : ℕ) (c : Cell) → r ≡ Refuted →
-    IsTrialOf r lines g k c trial → is_refuted lines g k c ≡ true
-trial-refuted r lines g trial k c h l = search rules
-
--- the grid of a trial that came to `Closed` is the closure of the cells with its colour
-pub trial-closed : (r : Trial) (lines : List GridLine) (g trial : List Cell) (k : ℕ) (c : Cell) → r ≡ Closed →
-    IsTrialOf r lines g k c trial → closure lines (set g k c) ≡ Some trial
-trial-closed r lines g trial k c h l = search rules

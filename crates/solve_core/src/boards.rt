@@ -188,16 +188,6 @@ impl<W: LineSet> Board<W> {
         }
     }
 
-    /// Takes over another board's cells, with nothing to go back to.
-    pub fn restart_from(&mut self, other: &Board<W>)
-        requires width { other.now.width ≡ self.old.width }
-        requires height { other.now.height ≡ self.old.height }
-        ensures { self.new ≡ record other.now { trail = [] } }
-    {
-        self.lines.copy_from(&other.lines);
-        self.trail.clear();
-    }
-
     /// Closes it by all lines, with nothing to go back to. Returns whether it is alive.
     pub fn close(&mut self, closer: &mut Closer<W>, puzzle: &Puzzle) -> bool
         requires memory { IsMemoryOf puzzle.now closer.old }

@@ -434,32 +434,28 @@ impl<W: LineSet> Closer<W> {
         alive
     }
 
-    /// Gives an unknown cell of a board at rest a colour, on a copy. Returns whether the copy is alive, which
-    /// then is closed.
-    pub fn assign_copy(
+    /// As `assign`, on trial: the board goes back after it, so lines are fresh as they were before, and what is
+    /// deduced is remembered from the first trial on.
+    pub fn assign_on_trial(
         &mut self,
         puzzle: &Puzzle,
-        board: &Board<W>,
-        trial: &mut Board<W>,
+        board: &mut Board<W>,
         place: usize,
         colour: Cell,
     ) -> bool
-        requires rest { IsAtRest puzzle.now self.old board.now.cells }
-        requires fresh { AreFresh puzzle.now self.old.fresh self.old.kept.tables board.now.cells }
-        requires size { IsBoardOf puzzle.now board.now }
-        requires trial { IsBoardOf puzzle.now trial.old }
-        requires cell { CanSettle board.now.cells place colour }
-        ensures closed { if_alive result trial.new.cells ≡ closure (lines_of puzzle.now) (slice_set board.now.cells place colour) }
-        ensures rest { IsAtRest puzzle.now self.new board.now.cells }
-        ensures fresh { AreFresh puzzle.now self.new.fresh self.new.kept.tables board.now.cells }
-        ensures closed_rest { IsTrue result → IsAtRest puzzle.now self.new trial.new.cells }
-        ensures back { cleared trial.new.cells trial.new.trail ≡ board.now.cells }
-        ensures trial { IsBoardOf puzzle.now trial.new }
+        requires rest { IsAtRest puzzle.now self.old board.old.cells }
+        requires fresh { AreFresh puzzle.now self.old.fresh self.old.kept.tables board.old.cells }
+        requires size { IsBoardOf puzzle.now board.old }
+        requires cell { CanSettle board.old.cells place colour }
+        ensures closed { if_alive result board.new.cells ≡ closure (lines_of puzzle.now) (slice_set board.old.cells place colour) }
+        ensures rest { IsAtRest puzzle.now self.new board.old.cells }
+        ensures fresh { AreFresh puzzle.now self.new.fresh self.new.kept.tables board.old.cells }
+        ensures trail { IsTrailed board.old board.new }
+        ensures size { IsBoardOf puzzle.now board.new }
     {
         self.deductions.open();
-        trial.restart_from(board);
         let fresh = self.fresh.copy();
-        let alive = self.assign(puzzle, trial, place, colour);
+        let alive = self.assign(puzzle, board, place, colour);
         self.fresh = fresh;
         self.calm = if alive {
             self.calm.saturating_add(1).min(CALM)

@@ -69,17 +69,6 @@ fn unknown_lines<W: LineSet>(list: Vec<LineOf<W>>, len: u16, count: u16) -> Vec<
     lines
 }
 
-/// Copies lines over others of the same lengths.
-fn copy_lines<W: LineSet>(lines: &mut [LineOf<W>], others: &[LineOf<W>])
-    requires count { length others.now ≡ length lines.old }
-    requires lengths { (i : ℕ) → i < length lines.old → length (slice_index_or others.now i []) ≡ length (slice_index_or lines.old i []) }
-    ensures { lines.new ≡ others.now }
-{
-    for i in 0..lines.len() {
-        lines[i].copy_from(&others[i]);
-    }
-}
-
 /// Takes over the rows of a grid, each as a whole.
 fn read_rows<W: LineSet>(rows: &mut [LineOf<W>], grid: &Grid)
     requires few { length rows.old ≤ 256 }
@@ -286,16 +275,6 @@ impl<W: LineSet> GridLines<W> {
     {
         self.rows[y].set(x as u16, cell);
         self.columns[x].set(y as u16, cell);
-    }
-
-    /// Becomes the same as another grid of its size, in place.
-    pub fn copy_from(&mut self, other: &GridLines<W>)
-        requires width { other.now.width ≡ self.old.width }
-        requires height { other.now.height ≡ self.old.height }
-        ensures { self.new ≡ other.now }
-    {
-        copy_lines(&mut self.rows, &other.rows);
-        copy_lines(&mut self.columns, &other.columns);
     }
 
     /// Takes over the cells of a grid of its size.

@@ -11,7 +11,7 @@ ghost use Rattle.solve_core.specs.Closure.{if_alive};
 ghost use Rattle.solve_core.specs.Trials.{trials as trials_of};
 ghost use Rattle.solve_core.specs.Sizes.{IsSizeOf};
 ghost use Rattle.solve_core.specs.Report.{report_of, grade_by, unknown_grid};
-ghost use Rattle.solve_core.specs.steps.Tried.{HasTrialRoom};
+ghost use Rattle.solve_core.specs.steps.Tried.{HasRoomFor};
 ghost use Rattle.solve_core.specs.Verdicts.{Holds};
 ghost use Rattle.solve_core.specs.steps.Widths.{FitsIn};
 
@@ -21,7 +21,7 @@ use crate::picks::Pick;
 use crate::rooms::emptied;
 use crate::search::search;
 use crate::solutions::Solutions;
-use crate::trials::{TrialRoom, Trials};
+use crate::trials::Trials;
 use crate::widths::width_for;
 use crate::{Findings, Grade, Verdict};
 use grid_core::{NoMemory, Puzzle};
@@ -52,28 +52,22 @@ fn are_known<W: LineSet>(board: &Board<W>, known: u32) -> bool
 }
 
 /// Closes a board at rest under trials, of which nothing is left to do if it is full. Returns whether it is
-/// alive, and gives the room back.
+/// alive.
 fn try_unless_full<W: LineSet>(
-    room: TrialRoom<W>,
+    trials: &mut Trials<W>,
     puzzle: &Puzzle,
     board: &mut Board<W>,
     full: bool,
-) -> (bool, TrialRoom<W>)
-    requires fits { FitsIn W.WIDTH puzzle.now }
-    requires rest { IsAtRest puzzle.now room.closer board.old.cells }
-    requires room { HasTrialRoom puzzle.now room.filled room.blank room.openings }
+) -> bool
+    requires rest { IsAtRest puzzle.now trials.old.closer board.old.cells }
+    requires room { HasRoomFor puzzle.now trials.old }
     requires size { IsBoardOf puzzle.now board.old }
     requires full { full ≡ list_all is_known board.old.cells }
-    ensures tried { if_alive result.0 board.new.cells ≡ trials_of (lines_of puzzle.now) board.old.cells }
-    ensures rest { IsTrue result.0 → IsAtRest puzzle.now result.1.closer board.new.cells }
+    ensures tried { if_alive result board.new.cells ≡ trials_of (lines_of puzzle.now) board.old.cells }
+    ensures rest { IsTrue result → IsAtRest puzzle.now trials.new.closer board.new.cells }
     ensures size { IsBoardOf puzzle.now board.new }
 {
-    if full {
-        return (true, room);
-    }
-    let mut trials = Trials::new(room, puzzle);
-    let alive = trials.try_at_rest(puzzle, board);
-    (alive, trials.into_room())
+    full || trials.try_at_rest(puzzle, board)
 }
 
 fn grade(by_lines: bool, by_trials: bool) -> Grade
@@ -88,56 +82,50 @@ fn grade(by_lines: bool, by_trials: bool) -> Grade
     }
 }
 
-/// The report, by a board of which nothing is known and in room that is made, which it gives back.
+/// The report, by a board of which nothing is known and in room that is made.
 fn findings<W: LineSet>(
-    room: TrialRoom<W>,
+    trials: &mut Trials<W>,
     puzzle: &Puzzle,
     board: &mut Board<W>,
     branches: &mut Vec<Branch>,
     solutions: Solutions,
     guesses: u32,
     pick: Pick,
-) -> (Findings, TrialRoom<W>)
-    requires fits { FitsIn W.WIDTH puzzle.now }
-    requires memory { IsMemoryOf puzzle.now room.closer }
-    requires trials { HasTrialRoom puzzle.now room.filled room.blank room.openings }
+) -> Findings
+    requires trials { HasRoomFor puzzle.now trials.old }
     requires unknown { board.old.cells ≡ unknown_grid puzzle.now }
     requires size { IsBoardOf puzzle.now board.old }
     requires solutions { IsSizeOf puzzle.now solutions.width solutions.height }
     requires branches { branches.old.items ≡ [] }
     requires found { solutions.grids ≡ [] }
     requires room { length board.old.cells ≤ vec_capacity branches.old }
-    ensures { result.0 ≡ report_of (picked pick puzzle.now.width) puzzle.now guesses }
+    ensures { result ≡ report_of (picked pick puzzle.now.width) puzzle.now guesses }
 {
-    let mut room = room;
-    if !board.close(&mut room.closer, puzzle) {
-        let dead = Findings {
+    if !board.close(&mut trials.closer, puzzle) {
+        return Findings {
             verdict: Verdict::Nothing,
             grade: Grade::Lines,
             line_known: 0,
             trial_known: 0,
             spent: 0,
         };
-        return (dead, room);
     }
     let line_known = count_known(board);
     let by_lines = are_known(board, line_known);
-    let (alive, mut room) = try_unless_full(room, puzzle, board, by_lines);
-    if !alive {
-        let refuted = Findings {
+    if !try_unless_full(trials, puzzle, board, by_lines) {
+        return Findings {
             verdict: Verdict::Nothing,
             grade: grade(by_lines, true),
             line_known,
             trial_known: 0,
             spent: 0,
         };
-        return (refuted, room);
     }
     let trial_known = count_known(board);
     let grade = grade(by_lines, are_known(board, trial_known));
     let mut solutions = solutions;
     let end = search(
-        &mut room.closer,
+        &mut trials.closer,
         puzzle,
         board,
         branches,
@@ -145,20 +133,19 @@ fn findings<W: LineSet>(
         guesses,
         pick,
     );
-    let findings = Findings {
+    Findings {
         verdict: solutions.verdict(end.cut),
         grade,
         line_known,
         trial_known,
         spent: end.spent,
-    };
-    (findings, room)
+    }
 }
 
 /// What a report works in.
 #[derive(Drop)]
 struct Room<W: LineSet> {
-    trials: TrialRoom<W>,
+    trials: Trials<W>,
     board: BoardRoom<W>,
     branches: Vec<Branch>,
 }
@@ -188,13 +175,13 @@ fn report_within<W: LineSet>(
         None => (None, None, Vec::new(alloc)),
     };
     let (width, height) = (puzzle.width(), puzzle.height());
-    let trials = TrialRoom::<W>::new(alloc, trials, puzzle)?;
+    let mut trials = Trials::<W>::new(alloc, trials, puzzle)?;
     let board = BoardRoom::<W>::new(alloc, board, width, height)?;
     let mut board = Board::unknown(board, width, height);
     let mut branches = emptied(alloc, branches, board.lines().count())?;
     let solutions = Solutions::new(alloc, width, height)?;
-    let (findings, trials) = findings(
-        trials,
+    let findings = findings(
+        &mut trials,
         puzzle,
         &mut board,
         &mut branches,

@@ -1,24 +1,18 @@
 //! Trials, one cell and one colour at a time.
-ghost use Rattle.std.specs.Prelude.{◌≡◌, ◌≢◌, ℕ, ◌+◌, ◌*◌, ◌<◌, ◌≤◌, ◌↔◌, Some, true, length, slice_set, slice_index_or, false, IsTrue, IfOk, IfSome};
-ghost use Rattle.grid_core.specs.declared.cells.Cell.TheVariants.{Unknown, Filled, Blank};
+ghost use Rattle.std.specs.Prelude.{◌≡◌, ◌≢◌, ℕ, ◌+◌, ◌*◌, ◌<◌, ◌≤◌, Some, length, slice_set, slice_index_or, IsTrue, IfOk};
+ghost use Rattle.grid_core.specs.declared.cells.Cell.TheVariants.{Unknown};
 ghost use Rattle.grid_core.specs.Nonogram.{lines_of};
-ghost use Rattle.grid_core.specs.Cells.{is_known};
-ghost use Rattle.grid_core.specs.Lines.{IsUnknownCell, IsUnknownFrom};
-ghost use Rattle.solve_core.specs.Closure.{round, closure};
 ghost use Rattle.line_core.specs.Order.{AtMost};
-ghost use Rattle.solve_core.specs.Trials.{trials, IsTried};
-ghost use Rattle.solve_core.specs.steps.Closers.{AreFresh, IsMemoryOf};
-ghost use Rattle.solve_core.specs.steps.Marks.{Progresses, IsAtRest, IsTrialOf};
+ghost use Rattle.solve_core.specs.Trials.{is_refuted, trials, IsTried};
+ghost use Rattle.solve_core.specs.steps.Marks.{Progresses, IsAtRest};
 ghost use Rattle.solve_core.specs.Closure.{if_alive};
 ghost use Rattle.solve_core.specs.steps.Trails.{CanSettle};
-ghost use Rattle.solve_core.specs.steps.Tried.{HasRoomFor, HasTrialRoom, IsReady};
+ghost use Rattle.solve_core.specs.steps.Tried.{HasRoomFor, IsReady};
 ghost use Rattle.solve_core.specs.steps.Widths.{FitsIn};
-ghost use Rattle.solve_core.specs.steps.Openings.{AreOpenings};
 ghost use Rattle.solve_core.specs.steps.Boards.{IsBoardOf};
-ghost use Rattle.solve_core.specs.declared.trials.Trial.TheVariants.{Refuted, Closed};
 ghost use Rattle.solve_core.specs.declared.closures.Progress.TheVariants.{Dead, Same};
 
-use crate::boards::{Board, BoardRoom};
+use crate::boards::Board;
 use crate::closures::{Closer, Progress};
 use crate::openings::Openings;
 use grid_core::{Cell, NoMemory, Puzzle};
@@ -26,122 +20,10 @@ use line_core::LineSet;
 use place_sets::first_places;
 use std::alloc::Global;
 use std::marker::Model;
-use std::mem;
 
-/// What a trial of a colour at an unknown cell came to.
-#[derive(Clone, Copy)]
-pub enum Trial {
-    /// The colour leads to a contradiction.
-    Refuted,
-    /// It doesn't: the colour is known to be open.
-    Open,
-    /// It doesn't: the copy is the closed grid.
-    Closed,
-}
-
-impl Trial {
-    fn is_refuted(self) -> bool
-        ensures { IsTrue result ↔ (self ≡ Refuted) }
-    {
-        matches!(&self, Trial::Refuted)
-    }
-
-    fn is_closed(self) -> bool
-        ensures { IsTrue result ↔ (self ≡ Closed) }
-    {
-        matches!(&self, Trial::Closed)
-    }
-}
-
-/// Tries a colour at an unknown cell, on a copy, unless it is known to be open there, or tables show that nothing else
-/// is certain with it. If the copy closes alive, all of its colours are open.
-fn try_colour<W: LineSet>(
-    closer: &mut Closer<W>,
-    openings: &mut Openings<W>,
-    puzzle: &Puzzle,
-    board: &Board<W>,
-    trial: &mut Board<W>,
-    place: usize,
-    colour: Cell,
-) -> Trial
-    requires fits { FitsIn W.WIDTH puzzle.now }
-    requires rest { IsAtRest puzzle.now closer.old board.now.cells }
-    requires fresh { AreFresh puzzle.now closer.old.fresh closer.old.kept.tables board.now.cells }
-    requires openings { AreOpenings puzzle.now openings.old board.now.cells }
-    requires rows { length openings.old ≡ puzzle.now.height }
-    requires size { IsBoardOf puzzle.now board.now }
-    requires trial { IsBoardOf puzzle.now trial.old }
-    requires cell { CanSettle board.now.cells place colour }
-    ensures tried { IsTrialOf result (lines_of puzzle.now) board.now.cells place colour trial.new.cells }
-    ensures openings { AreOpenings puzzle.now openings.new board.now.cells }
-    ensures rows { length openings.new ≡ length openings.old }
-    ensures rest { IsAtRest puzzle.now closer.new board.now.cells }
-    ensures fresh { AreFresh puzzle.now closer.new.fresh closer.new.kept.tables board.now.cells }
-    ensures closed_rest { result ≡ Closed → IsAtRest puzzle.now closer.new trial.new.cells }
-    ensures trial { IsBoardOf puzzle.now trial.new }
-{
-    let width = usize::from(puzzle.width());
-    let (x, y) = ((place % width) as u16, place / width);
-    if openings.is_open(x, y, colour) {
-        return Trial::Open;
-    }
-    if closer.is_neutral(puzzle, board, place, colour) {
-        openings.open(x, y, colour);
-        return Trial::Open;
-    }
-    if !closer.assign_copy(puzzle, board, trial, place, colour) {
-        return Trial::Refuted;
-    }
-    openings.add(trial.lines(), first_places(puzzle.height()));
-    Trial::Closed
-}
-
-/// What trials are made of: what closes, room for a board for the trials of each colour, and openings.
-#[derive(Drop)]
-pub struct TrialRoom<W: LineSet> {
-    pub(crate) closer: Closer<W>,
-    filled: BoardRoom<W>,
-    blank: BoardRoom<W>,
-    openings: Openings<W>,
-}
-
-impl<W: LineSet> TrialRoom<W> {
-    /// Makes the room that closing and trials of a puzzle take, of that of others, if there are any.
-    pub fn new(
-        alloc: Global,
-        others: Option<TrialRoom<W>>,
-        puzzle: &Puzzle,
-    ) -> Result<TrialRoom<W>, NoMemory>
-        requires { FitsIn W.WIDTH puzzle.now }
-        ensures memory { IfOk result (λ room. IsMemoryOf puzzle.now room.closer) }
-        ensures room { IfOk result (λ room. HasTrialRoom puzzle.now room.filled room.blank room.openings) }
-    {
-        let (closer, filled, blank, openings) = match others {
-            Some(
-                TrialRoom {
-                    closer,
-                    filled,
-                    blank,
-                    openings,
-                },
-            ) => (Some(closer), Some(filled), Some(blank), Some(openings)),
-            None => (None, None, None, None),
-        };
-        let (width, height) = (puzzle.width(), puzzle.height());
-        Ok(TrialRoom {
-            closer: Closer::for_puzzle(alloc, closer, puzzle)?,
-            filled: BoardRoom::new(alloc, filled, width, height)?,
-            blank: BoardRoom::new(alloc, blank, width, height)?,
-            openings: Openings::new(alloc, openings, puzzle)?,
-        })
-    }
-}
-
-/// What trials work with: what closes, a board for the trials of each colour, and the openings.
+/// What trials of a puzzle's grids work with, in room that is made once: what closes, and the openings.
 pub struct Trials<W: LineSet> {
     pub(crate) closer: Closer<W>,
-    filled_trial: Board<W>,
-    blank_trial: Board<W>,
     openings: Openings<W>,
 }
 
@@ -150,8 +32,6 @@ impl<W: LineSet> Drop for Trials<W> {
     fn drop(self) {
         let Trials {
             closer: _,
-            filled_trial: _,
-            blank_trial: _,
             openings: _,
         } = self;
     }
@@ -162,55 +42,36 @@ impl<W: LineSet> Model for Trials<W> {
 
     ghost Value = { Tried };
 
-    ghost view = { λ t. record {
-      width = W.WIDTH;
-      closer = t.closer;
-      filled = t.filled_trial;
-      blank = t.blank_trial;
-      openings = t.openings;
-    } };
+    ghost view = { λ t. record { width = W.WIDTH; closer = t.closer; openings = t.openings } };
 }
 
 impl<W: LineSet> Trials<W> {
-    /// Trials of a puzzle, in room that is made for it.
-    pub fn new(room: TrialRoom<W>, puzzle: &Puzzle) -> Trials<W>
-        requires fits { FitsIn W.WIDTH puzzle.now }
-        requires memory { IsMemoryOf puzzle.now room.closer }
-        requires room { HasTrialRoom puzzle.now room.filled room.blank room.openings }
-        ensures room { HasRoomFor puzzle.now result }
-        ensures closer { result.closer ≡ room.closer }
-    {
-        let TrialRoom {
-            closer,
-            filled,
-            blank,
-            openings,
-        } = room;
-        let (width, height) = (puzzle.width(), puzzle.height());
-        Trials {
-            closer,
-            filled_trial: Board::unknown(filled, width, height),
-            blank_trial: Board::unknown(blank, width, height),
-            openings,
-        }
+    /// Its parts.
+    fn into_parts(self) -> (Closer<W>, Openings<W>) {
+        let Trials { closer, openings } = self;
+        (closer, openings)
     }
 
-    /// What closes, and its room, for other trials.
-    pub fn into_room(self) -> TrialRoom<W>
-        ensures { result.closer ≡ self.closer }
+    /// Makes the room that closing and trials of a puzzle take, of that of others, if there are any.
+    pub fn new(
+        alloc: Global,
+        others: Option<Trials<W>>,
+        puzzle: &Puzzle,
+    ) -> Result<Trials<W>, NoMemory>
+        requires { FitsIn W.WIDTH puzzle.now }
+        ensures { IfOk result (HasRoomFor puzzle.now) }
     {
-        let Trials {
-            closer,
-            filled_trial,
-            blank_trial,
-            openings,
-        } = self;
-        TrialRoom {
-            closer,
-            filled: filled_trial.into_room(),
-            blank: blank_trial.into_room(),
-            openings,
-        }
+        let (closer, openings) = match others {
+            Some(others) => {
+                let (closer, openings) = others.into_parts();
+                (Some(closer), Some(openings))
+            }
+            None => (None, None),
+        };
+        Ok(Trials {
+            closer: Closer::for_puzzle(alloc, closer, puzzle)?,
+            openings: Openings::new(alloc, openings, puzzle)?,
+        })
     }
 
     /// Gives a cell the colour that is left, and closes the board.
@@ -239,6 +100,64 @@ impl<W: LineSet> Trials<W> {
         Progress::Changed
     }
 
+    /// Whether a colour is refuted at an unknown cell. It is tried on the board itself, which then goes back; if the
+    /// board stays alive, the colours of all cells known there are open.
+    fn is_refuted_by_trial(
+        &mut self,
+        puzzle: &Puzzle,
+        board: &mut Board<W>,
+        place: usize,
+        colour: Cell,
+    ) -> bool
+        requires ready { IsReady puzzle.now self.old board.old.cells }
+        requires room { HasRoomFor puzzle.now self.old }
+        requires size { IsBoardOf puzzle.now board.old }
+        requires cell { CanSettle board.old.cells place colour }
+        ensures refuted { result ≡ is_refuted (lines_of puzzle.now) board.old.cells place colour }
+        ensures board { board.new ≡ board.old }
+        ensures ready { IsReady puzzle.now self.new board.old.cells }
+        ensures room { HasRoomFor puzzle.now self.new }
+    {
+        let mark = board.trail().len();
+        let alive = self.closer.assign_on_trial(puzzle, board, place, colour);
+        if alive {
+            self.openings
+                .add(board.lines(), first_places(puzzle.height()));
+        }
+        board.go_back(mark);
+        !alive
+    }
+
+    /// Whether a colour is refuted at an unknown cell, without a trial if it is known to be open, or tables show that
+    /// nothing else is certain with it.
+    fn is_refuted(
+        &mut self,
+        puzzle: &Puzzle,
+        board: &mut Board<W>,
+        place: usize,
+        colour: Cell,
+    ) -> bool
+        requires ready { IsReady puzzle.now self.old board.old.cells }
+        requires room { HasRoomFor puzzle.now self.old }
+        requires size { IsBoardOf puzzle.now board.old }
+        requires cell { CanSettle board.old.cells place colour }
+        ensures refuted { result ≡ is_refuted (lines_of puzzle.now) board.old.cells place colour }
+        ensures board { board.new ≡ board.old }
+        ensures ready { IsReady puzzle.now self.new board.old.cells }
+        ensures room { HasRoomFor puzzle.now self.new }
+    {
+        let width = usize::from(puzzle.width());
+        let (x, y) = ((place % width) as u16, place / width);
+        if self.openings.is_open(x, y, colour) {
+            return false;
+        }
+        if self.closer.is_neutral(puzzle, board, place, colour) {
+            self.openings.open(x, y, colour);
+            return false;
+        }
+        self.is_refuted_by_trial(puzzle, board, place, colour)
+    }
+
     /// Tries both colours at an unknown cell.
     fn try_place(&mut self, puzzle: &Puzzle, board: &mut Board<W>, place: usize) -> Progress
         requires ready { IsReady puzzle.now self.old board.old.cells }
@@ -252,37 +171,13 @@ impl<W: LineSet> Trials<W> {
         ensures size { IsBoardOf puzzle.now board.new }
         ensures room { HasRoomFor puzzle.now self.new }
     {
-        let filled = try_colour(
-            &mut self.closer,
-            &mut self.openings,
-            puzzle,
-            board,
-            &mut self.filled_trial,
-            place,
-            Cell::Filled,
-        );
-        if filled.is_refuted() {
+        if self.is_refuted(puzzle, board, place, Cell::Filled) {
             return self.keep_colour(puzzle, board, place, Cell::Blank);
         }
-        let blank = try_colour(
-            &mut self.closer,
-            &mut self.openings,
-            puzzle,
-            board,
-            &mut self.blank_trial,
-            place,
-            Cell::Blank,
-        );
-        if !blank.is_refuted() {
-            return Progress::Same;
+        if self.is_refuted(puzzle, board, place, Cell::Blank) {
+            return self.keep_colour(puzzle, board, place, Cell::Filled);
         }
-        if filled.is_closed() {
-            self.openings.forget();
-            mem::swap(board, &mut self.filled_trial);
-            self.closer.forget_fresh();
-            return Progress::Changed;
-        }
-        self.keep_colour(puzzle, board, place, Cell::Filled)
+        Progress::Same
     }
 
     /// Tries once each unknown cell of whose neighbours at least `least`, 0 to 4, are known or outside the grid.

@@ -8,7 +8,7 @@ ghost use Rattle.solve_core.specs.Closure.{if_alive};
 ghost use Rattle.solve_core.specs.steps.Widths.{FitsIn};
 
 use crate::boards::{Board, BoardRoom};
-use crate::trials::{TrialRoom, Trials};
+use crate::trials::Trials;
 use grid_core::{Grid, NoMemory, Puzzle};
 use line_core::LineSet;
 use std::alloc::Global;
@@ -42,11 +42,11 @@ impl<'p, W: LineSet> Workspace<'p, W> {
         ensures { IfOk result (λ workspace. workspace ≡ puzzle.now) }
     {
         let (width, height) = (puzzle.width(), puzzle.height());
-        let room = TrialRoom::new(alloc, None, puzzle)?;
+        let trials = Trials::new(alloc, None, puzzle)?;
         let board = BoardRoom::new(alloc, None, width, height)?;
         Ok(Workspace {
             puzzle,
-            trials: Trials::new(room, puzzle),
+            trials,
             board: Board::unknown(board, width, height),
         })
     }

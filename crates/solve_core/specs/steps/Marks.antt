@@ -1,18 +1,15 @@
 -- What closing and trials keep: the marks of lines, and what a step came to.
-use Rattle.std.specs.Prelude.{◌⊎◌, ◌≡◌, ℕ, ◌*◌, ◌<◌, false, List, length, Option, Some, None, slice_index_or, slice_set}
+use Rattle.std.specs.Prelude.{◌⊎◌, ◌≡◌, ℕ, ◌*◌, ◌<◌, List, length, Option, Some, None, slice_index_or}
 use Rattle.grid_core.specs.declared.cells.Cell.{Cell}
 use Rattle.grid_core.specs.declared.cells.Cell.TheVariants.{Unknown}
 use Rattle.grid_core.specs.declared.sides.Side.{Side}
 use Rattle.grid_core.specs.Nonogram.{Nonogram, IsNonogram, GridLine, line_on, crossing, cells_at}
 use Rattle.grid_core.specs.steps.Sides.{count_on, place_on}
 use Rattle.line_core.specs.Deduction.{deduced}
-use Rattle.solve_core.specs.Closure.{with_cells, closure}
+use Rattle.solve_core.specs.Closure.{with_cells}
 use Rattle.solve_core.specs.steps.LineMarks.{LineMarks, marks_on, IsMarkedOn, AreMarksWithin}
 use Rattle.solve_core.specs.steps.Trails.{unknown_count}
-use Rattle.solve_core.specs.Trials.{is_refuted}
 use Rattle.solve_core.specs.steps.Closers.{AreFresh, Closing, IsIdle, IsMemoryOf}
-use Rattle.solve_core.specs.declared.trials.Trial.{Trial}
-use Rattle.solve_core.specs.declared.trials.Trial.TheVariants.{Refuted, Open, Closed}
 use Rattle.solve_core.specs.declared.closures.Progress.{Progress}
 use Rattle.solve_core.specs.declared.closures.Progress.TheVariants.{Dead, Same, Changed}
 
@@ -82,9 +79,3 @@ Progresses f Changed old new = (f new ≡ f old) × (unknown_count new < unknown
 pub record IsAtRest (p : Nonogram) (c : Closing) (cells : List Cell) : Type 0 where
   pub marks : HasMarks p c.marks cells
   pub idle : IsIdle p c
-
--- what a trial of a colour at a place came to: no grid, the closed one, or the colour is known to be open
-abbrev pub IsTrialOf : Trial → List GridLine → List Cell → ℕ → Cell → List Cell → Type 0
-IsTrialOf Refuted lines cells k colour trial = closure lines (slice_set cells k colour) ≡ None
-IsTrialOf Open lines cells k colour trial = is_refuted lines cells k colour ≡ false
-IsTrialOf Closed lines cells k colour trial = closure lines (slice_set cells k colour) ≡ Some trial

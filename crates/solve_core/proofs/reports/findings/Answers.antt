@@ -1,13 +1,15 @@
 -- `findings`: the report is the defined one, whether lines end dead, trials end dead, or there is a search.
-use Rattle.solve_core.proofs.Names.{◌∙◌, grade_by, picked, refl, Some}
+use Rattle.solve_core.proofs.Names.{◌∙◌, grade_by, picked, refl, subst, sym, IsAtRest, Some, Tried}
 use Rattle.solve_core.proofs.ReportLaws.{report-told}
 use Rattle.solve_core.proofs.reports.findings.Goals as goal
 
-pub try_unless_full-alive-requires-clause-rest : goal.try_unless_full-alive-requires-clause-rest
-try_unless_full-alive-requires-clause-rest g c = c.if-not-close.ensures.rest refl
+pub try_unless_full-requires-clause-rest : goal.try_unless_full-requires-clause-rest
+try_unless_full-requires-clause-rest g c = c.if-not-close.ensures.rest refl
 
 pub search-end-requires-clause-rest : goal.search-end-requires-clause-rest
-search-end-requires-clause-rest g c = c.try_unless_full-alive.ensures.rest (rw c.if-not-alive.false refl)
+search-end-requires-clause-rest g c =
+    subst (λ (t : Tried). IsAtRest c.args.puzzle.now t.closer c.try_unless_full.new.board.cells) (sym c.trials-2.view_is)
+    (c.try_unless_full.ensures.rest (rw c.if-not-try_unless_full.false refl))
 
 pub returns : goal.returns
 returns g c =
@@ -15,5 +17,5 @@ returns g c =
     let graded = c.grade-grade.ensures ∙ (λ i. grade_by (c.are_known-by_lines.ensures i) (c.are_known.ensures i)) in
     rw (c.verdict.ensures, graded, c.count_known-line_known.ensures, c.count_known-trial_known.ensures)
     (rw (← c.search-end.ensures) at (report-told (picked c.args.pick p.width) p c.args.guesses c.args.board.now.cells
-    (Some c.close.new.self.cells) (Some c.try_unless_full-alive.new.board.cells) c.requires.unknown c.if-not-close.ensures.closed
-    (rw c.if-not-alive.false at c.try_unless_full-alive.ensures.tried)))
+    (Some c.close.new.self.cells) (Some c.try_unless_full.new.board.cells) c.requires.unknown c.if-not-close.ensures.closed
+    (rw c.if-not-try_unless_full.false at c.try_unless_full.ensures.tried)))

@@ -7,8 +7,9 @@ use Rattle.solve_core.proofs.reports.try_unless_full.Goals as goal
 
 pub returns-then-full-clause-tried : goal.returns-then-full-clause-tried
 returns-then-full-clause-tried g c =
-    let closer = c.args.room.closer in
+    let closer = c.args.trials.now.closer in
     let lines = lines_of c.args.puzzle.now in
     let cells = c.args.board.now.cells in
-    sym (tried_ends lines cells (rest_closed c.args.puzzle.now closer cells c.requires.rest)
-    (full-tried lines cells (sym c.requires.full ∙ c.if-full.true)))
+    rw c.if-full.true
+    (sym (tried_ends lines cells (rest_closed c.args.puzzle.now closer cells c.requires.rest)
+    (full-tried lines cells (sym c.requires.full ∙ c.if-full.true))))

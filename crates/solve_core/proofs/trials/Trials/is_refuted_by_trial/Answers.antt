@@ -1,0 +1,33 @@
+-- `Trials::is_refuted_by_trial`: a board that closes alive is line-closed and knows all that the board knew, so its
+-- colours are open; and then the board goes back.
+use Rattle.solve_core.proofs.Names.{set, sym, subst, lines_of, HasRoomFor, Tried, arith}
+use Rattle.solve_core.proofs.ClosureLaws.{closure-IsLeastClosed}
+use Rattle.solve_core.proofs.TrialSteps.{settled-extends}
+use Rattle.solve_core.proofs.trials.Trials.is_refuted_by_trial.Goals as goal
+use Rattle.solve_core.proofs.trials.Trials.is_refuted_by_trial.Goals.{then-alive, else-alive}
+
+pub first_places-requires : goal.first_places-requires
+first_places-requires g c =
+    let fits = (subst (λ (t : Tried). HasRoomFor c.args.puzzle.now t) (sym c.self.view_is) c.requires.room).fits in
+    (omega (arith, c.height.ensures, c.requires.ready.rest.marks.puzzle.size.height_from), omega (arith, c.height.ensures, fits.columns_short))
+
+pub returns-clause-ready : goal.returns-clause-ready
+returns-clause-ready g c =
+    let p = c.args.puzzle.now in
+    let lines = lines_of p in
+    let cells = c.args.board.now.cells in
+    let tried = c.assign_on_trial-alive in
+    let openings = rw (← c.self.view_is) at c.requires.ready.openings in
+    elim c.if-alive.branch [
+      | then-alive w ↦ (
+          let closed = sym (rw w.if-alive.true at tried.ensures.closed) in
+          rw w.self-is
+          (record {
+            rest = tried.ensures.rest;
+            fresh = tried.ensures.fresh;
+            openings = (rw w.lines.ensures.lines at w.add.ensures.openings) p cells tried.ensures.size.0
+                ((closure-IsLeastClosed lines (set cells c.args.place c.args.colour)).closed tried.new.board.cells closed)
+                (settled-extends lines cells tried.new.board.cells c.args.place c.args.colour c.requires.cell.unknown closed) openings;
+          }))
+      | else-alive w ↦ rw w.self-is (record { rest = tried.ensures.rest; fresh = tried.ensures.fresh; openings = openings })
+    ]
