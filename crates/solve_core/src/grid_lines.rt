@@ -202,15 +202,6 @@ impl<W: LineSet> GridLines<W> {
         self.rows.len() * self.columns.len()
     }
 
-    /// What is known of the cell at a place in row order, from 0.
-    pub fn at(&self, place: usize) -> Cell
-        requires { place < length self.now.cells }
-        ensures { result ≡ slice_index_or self.now.cells place Unknown }
-    {
-        let width = self.columns.len();
-        self.rows[place / width].get((place % width) as u16)
-    }
-
     /// The unknown cells of row y of whose neighbours at least `least`, 0 to 4, are known or outside the grid.
     pub fn near_cells(&self, y: usize, least: usize) -> W
         requires row { y < self.now.height }
