@@ -2,6 +2,7 @@
 pub mod Boards
 pub mod Branches
 pub mod Closers
+pub mod ColourSets
 pub mod Counts
 pub mod Deductions
 pub mod Endings

@@ -4,6 +4,7 @@
 mod boards;
 mod branches;
 mod closures;
+mod colour_sets;
 mod dead_ends;
 mod deductions;
 mod findings;

@@ -23,6 +23,7 @@ use crate::closures::{Closer, Progress};
 use crate::witnesses::Witnesses;
 use grid_core::{Cell, NoMemory, Puzzle};
 use line_core::LineSet;
+use place_sets::PlaceSet;
 use std::alloc::Global;
 use std::marker::Model;
 use std::mem;
@@ -79,7 +80,14 @@ fn try_colour<W: LineSet>(
     ensures back { result ≡ Closed → cleared trial.new.cells trial.new.trail ≡ board.now.cells }
     ensures trial { IsBoardOf puzzle.now trial.new }
 {
-    if witnesses.has_met(place, colour) || closer.is_neutral(puzzle, board, place, colour) {
+    let width = usize::from(puzzle.width());
+    let (x, y) = ((place % width) as u16, (place / width) as u16);
+    if witnesses.has_met(place, colour)
+        || closer
+            .neutral_in_row(puzzle, board, x, y)
+            .on(colour)
+            .contains(x)
+    {
         return Trial::Open;
     }
     if !closer.assign_copy(puzzle, board, trial, place, colour) {
