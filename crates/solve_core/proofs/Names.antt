@@ -44,7 +44,7 @@ pub use Rattle.solve_core.specs.declared.findings.Findings.{Findings}
 pub use Rattle.solve_core.specs.steps.Boards.{BoardSpace, IsBoard, IsBoardOf, cells_along}
 pub use Rattle.solve_core.specs.steps.Branches.{AreBefore, AreInOrder, AreKnownBefore, AreOlder, IsBranch, IsClosed, IsNext, IsOpen, IsWork, cells_before, open_events, pending, ready_events}
 pub use Rattle.solve_core.specs.steps.Closers.{AreFresh, Closing, IsIdle, IsMemoryOf}
-pub use Rattle.solve_core.specs.steps.ColourMasks.{ColourMasks, mask_of, no_colours}
+pub use Rattle.solve_core.specs.steps.ColourMasks.{ColourMasks, mask_if, mask_of, no_colours}
 pub use Rattle.solve_core.specs.steps.Counts.{AreCounts, IsKnownCell, IsMostInRow, row_score, told_by, two_of}
 pub use Rattle.solve_core.specs.steps.Endings.{Ending, ending}
 pub use Rattle.solve_core.specs.steps.GridLines.{AreLinesOf}

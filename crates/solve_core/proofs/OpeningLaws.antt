@@ -4,24 +4,24 @@ use Rattle.solve_core.proofs.Names.{◌≡◌, ℕ, ◌+◌, ◌*◌, ◌/◌, �
 use Rattle.place_sets.proofs.HasLemmas.{true_has}
 use Rattle.solve_core.proofs.GridLineSteps.{get_or-along, length-along, passed}
 use Rattle.solve_core.proofs.TrialSteps.{met_open}
+use Rattle.solve_core.specs.steps.Trails.{CanSettle}
 
 -- if what is noted more at a row isn't refuted, all that is noted is open
 more_open : (p : Nonogram) (rows : List ColourMasks) (row : ColourMasks) (y : ℕ) (cells : List Cell) → AreOpenings p rows cells →
-    y < length rows → ((k : ℕ) (c : Cell) → k < length cells → k / p.width ≡ y → Has (mask_of c row) (k % p.width) →
+    y < length rows → ((k : ℕ) (c : Cell) → CanSettle cells k c → k / p.width ≡ y → Has (mask_of c row) (k % p.width) →
     Has (mask_of c (get_or rows y no_colours)) (k % p.width) ⊎ (is_refuted (lines_of p) cells k c ≡ false)) →
     AreOpenings p (set rows y row) cells
 more_open p rows row y cells before ly more = search (rules, cases_eq, get_or-set_same, get_or-set_other)
 
--- with one place more
-pub opened : (p : Nonogram) (rows : List ColourMasks) (old row : ColourMasks) (x y : ℕ) (colour : Cell) (cells : List Cell) →
-    AreOpenings p rows cells → y < length rows → old ≡ get_or rows y old →
-    ((c : Cell) (i : ℕ) → Has (mask_of c row) i → Has (mask_of c old) i ⊎ ((c ≡ colour) × (i ≡ x))) →
-    is_refuted (lines_of p) cells (y * p.width + x) colour ≡ false → AreOpenings p (set rows y row) cells
-opened p rows old row x y colour cells before ly is only free =
-    more_open p rows row y cells before ly (λ k c lk at h. elim (only c (k % p.width) h) [
+-- with colours that aren't refuted
+pub opened : (p : Nonogram) (rows : List ColourMasks) (old row more : ColourMasks) (y : ℕ) (cells : List Cell) → AreOpenings p rows cells →
+    y < length rows → old ≡ get_or rows y old → ((c : Cell) (i : ℕ) → Has (mask_of c row) i → Has (mask_of c old) i ⊎ Has (mask_of c more) i) →
+    ((k : ℕ) (c : Cell) → k / p.width ≡ y → Has (mask_of c more) (k % p.width) → CanSettle cells k c →
+    is_refuted (lines_of p) cells k c ≡ false) → AreOpenings p (set rows y row) cells
+opened p rows old row more y cells before ly is only free =
+    more_open p rows row y cells before ly (λ k c settle at h. elim (only c (k % p.width) h) [
       | inl was ↦ inl (rw (is ∙ get_or_default rows y old no_colours ly) at was)
-      | inr new ↦ (let place : y * p.width + x ≡ k = rw (← at, ← new.1) (omega (arith, mod-add-div' k p.width)) in
-          inr (rw (new.0, ← place) free))
+      | inr new ↦ inr (free k c at new settle)
     ])
 
 -- with the known cells of a row of a closed grid
@@ -34,7 +34,7 @@ all_open p rows old row line g y cells some before ly is wide closed more along 
     let w = p.width in
     let is_row = rw wide at along in
     let long : length line ≡ w = ap length is_row ∙ length-along g.cells (y * w) 1 w in
-    more_open p rows row y cells before ly (λ k c lk at h. elim (only c (k % w) (omega (arith, long, some)) h) [
+    more_open p rows row y cells before ly (λ k c settle at h. elim (only c (k % w) (omega (arith, long, some)) h) [
       | inl was ↦ inl (rw (is ∙ get_or_default rows y old no_colours ly) at was)
       | inr new ↦ (let place : y * w + k % w * 1 ≡ k = rw (← at) (omega (arith, mod-add-div' k w)) in
           inr (met_open (lines_of p) cells g.cells k c closed more

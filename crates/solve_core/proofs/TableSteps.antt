@@ -1,13 +1,14 @@
 -- Tables of lines as they are made, forgotten and written.
-use Rattle.solve_core.proofs.Names.{ap, inl, inr, ◌≡◌, ◌≢◌, ℕ, zero, suc, refl, arith, ◌<◌, ◌≤◌, List, length, [], ◌∷◌, ◌++◌, None, get_or}
+use Rattle.solve_core.proofs.Names.{ap, bit_at-zero, eqb-true, inl, inr, ◌≡◌, ◌≢◌, ℕ, zero, suc, refl, arith, ◌<◌, ◌≤◌, Bool, true, false, List, length, [], ◌∷◌, ◌++◌, None, get_or, get_or-set_other, get_or-set_same, set, Has, IsMarked, IsMaskOf, has}
 use Rattle.std.proofs.lemmas.Bool.{cases_eq, cases_lt}
 use Rattle.std.proofs.Math.ListN.{get_or-eq_default}
 use Rattle.grid_core.specs.Nonogram.{Nonogram, line_on}
 use Rattle.grid_core.specs.declared.sides.Side.{Side}
 use Rattle.grid_core.specs.declared.sides.Side.TheVariants.{Rows, Columns}
 use Rattle.line_core.proofs.Pairing.{empty_table}
-use Rattle.line_core.specs.Pairs.{IsTableOf, Table, no_table}
-use Rattle.solve_core.specs.steps.LinePairs.{AreEmpty, AreTablesOf, LineTables, table_on}
+use Rattle.line_core.specs.Pairs.{IsTableOf, Table, neutral_if, no_table}
+use Rattle.solve_core.specs.steps.ColourMasks.{ColourMasks, mask_if, no_colours}
+use Rattle.solve_core.specs.steps.LinePairs.{AreEmpty, AreNeutralOf, AreTablesOf, LineTables, table_on}
 
 -- no table has a line if there is none
 pub none_empty : (xs : List Table) → xs ≡ [] → AreEmpty xs
@@ -64,3 +65,35 @@ pub column_others : (old new : LineTables) (i : ℕ) → ((k : ℕ) → k ≢ i 
     → new.rows ≡ old.rows → (s : Side) (k : ℕ) → (s ≡ Columns → k ≢ i) → table_on s k new ≡ table_on s k old
 column_others old new i others same Rows k n = ap (λ (tables : List Table). get_or tables k no_table) same
 column_others old new i others same Columns k n = others k (n refl)
+
+-- sets beside tables without a line can be any
+pub empty_sets : (width : ℕ) (tables : List Table) (sets : List ColourMasks) → AreEmpty tables → length sets ≤ width → AreNeutralOf width tables sets
+empty_sets width tables sets empty few = record { few = few; neutral = λ j k filled some has. absurd (some (empty.each k)) }
+
+-- no place is for a colour if there is none
+pub none_marked : (filled : Bool) (k : ℕ) → Has (mask_if filled no_colours) k → ⊥
+none_marked true k has = absurd (omega (arith, has, bit_at-zero k))
+none_marked false k has = absurd (omega (arith, has, bit_at-zero k))
+
+-- a table that is written is marked at its neutral cells, and no other is
+pub table_marked : (width i place : ℕ) (old : List Table) (written d : Table) (before after : List ColourMasks) (own : ColourMasks)
+    → AreNeutralOf width old before → place ≡ i → place < length old
+    → ((filled : Bool) → mask_if filled own ≡ neutral_if filled (get_or (set old place written) place d)) → length after ≡ length before
+    → ((j : ℕ) (filled : Bool) → j < length before → IsMaskOf (IsMarked (Has (mask_if filled (get_or before j no_colours))) i
+    (has (mask_if filled own) j)) (mask_if filled (get_or after j no_colours))) → AreNeutralOf width (set old place written) after
+table_marked width i place old written d before after own are e inside own_is count marked = record {
+  few = rw count are.few;
+  neutral = λ j k filled some has. elim (cases_lt j (length before)) [
+    | inl within ↦ elim ((marked j filled within).to k has) [
+      | inl other ↦
+          let same : get_or (set old place written) k no_table ≡ get_or old k no_table =
+          get_or-set_other old place k written no_table (rw e other.1) in
+          rw same (are.neutral j k filled (rw same at some) other.0)
+      | inr here ↦
+          let same : get_or (set old place written) k no_table ≡ get_or (set old place written) place d = grind (arith, get_or-set_same) in
+          rw (same, ← own_is filled) (eqb-true _ _ here.1)
+    ]
+    | inr past ↦
+        let long : length after ≤ j = omega arith in absurd (none_marked filled k (rw (get_or-eq_default after no_colours long) at has))
+  ];
+}

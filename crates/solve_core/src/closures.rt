@@ -8,10 +8,11 @@ ghost use Rattle.grid_core.specs.declared.cells.Cell.{Cell as CellValue};
 ghost use Rattle.grid_core.specs.declared.cells.Cell.TheVariants.{Unknown};
 ghost use Rattle.grid_core.specs.declared.sides.Side.{Side as SideValue};
 ghost use Rattle.solve_core.specs.Closure.{closure};
-ghost use Rattle.solve_core.specs.steps.Closers.{AreFresh, IsIdle, IsMemoryOf};
+ghost use Rattle.solve_core.specs.steps.Closers.{AreFresh, IsIdle, IsMemoryOf, IsNeutralCell};
+ghost use Rattle.solve_core.specs.steps.ColourMasks.{mask_if};
 ghost use Rattle.solve_core.specs.steps.Deductions.{AreRight};
 ghost use Rattle.solve_core.specs.steps.LineMarks.{marks_on, IsMarkedOn, StayFresh};
-ghost use Rattle.solve_core.specs.steps.LinePairs.{IsNeutralAt};
+ghost use Rattle.solve_core.specs.steps.LinePairs.{IsNeutralAt, table_on};
 ghost use Rattle.solve_core.specs.steps.Marks.{HasMarks, IsLearned, MarksChanges, HasWork, LeavesWork, Progresses, IsAtRest};
 ghost use Rattle.solve_core.specs.Closure.{if_alive};
 ghost use Rattle.solve_core.specs.steps.Trails.{CanSettle, IsTrailed, cleared};
@@ -20,6 +21,7 @@ ghost use Rattle.solve_core.specs.steps.Widths.{FitsIn};
 ghost use Rattle.solve_core.specs.declared.closures.Progress.TheVariants.{Dead, Same};
 
 use crate::boards::Board;
+use crate::colour_sets::ColourSets;
 use crate::dead_ends::DeadEnds;
 use crate::deductions::Deductions;
 use crate::grid_lines::GridLines;
@@ -50,12 +52,12 @@ pub struct Closer<W: LineSet> {
     marks: Marks<W>,
     /// The lines that have tables of their cells as they are.
     fresh: Marks<W>,
-    /// How many copies in succession were alive, at most 16.
+    /// How many trials in succession were alive, at most 16.
     calm: u8,
     dead_ends: DeadEnds<W>,
 }
 
-/// How many copies in succession are alive before tables are made: while colours are refuted, lines change too
+/// How many trials in succession are alive before tables are made: while colours are refuted, lines change too
 /// often.
 const CALM: u8 = 16;
 
@@ -80,6 +82,7 @@ fn open_changes<W: LineSet>(
 ) -> W
     requires i { i < W.WIDTH }
     requires changes { (k : ℕ) → Has (W.number changes) k → k < length new.now }
+    requires fresh { (k : ℕ) → IsMarkedOn fresh.old (crossing side) k → (table_on (crossing side) k deductions.now.tables).line ≢ None }
     ensures within { (k : ℕ) → Has (W.number result) k → Has (W.number changes) k }
     ensures others { (k : ℕ) → Has (W.number changes) k → (Has (W.number result) k → ⊥) →
         IsMarkedOn fresh.old (crossing side) k
@@ -88,9 +91,6 @@ fn open_changes<W: LineSet>(
 {
     if !may_be_fresh {
         *fresh = Marks::none();
-        return changes;
-    }
-    if fresh.is_empty() {
         return changes;
     }
     deductions
@@ -465,45 +465,35 @@ impl<W: LineSet> Closer<W> {
         alive
     }
 
-    /// Whether line i of a side is fresh, and its table shows that nothing else is certain of it once an unknown
-    /// cell has a colour.
-    fn is_neutral_on(&self, side: Side, i: u16, cell: u16, colour: Cell) -> bool
-        requires { (i < W.WIDTH) × (cell < W.WIDTH) }
-        ensures { IsTrue result → IsMarkedOn self.now.fresh side i × IsNeutralAt self.now.kept.tables side i cell (is_filled colour) }
-    {
-        self.fresh.on(side).contains(i)
-            && self
-                .deductions
-                .pairs()
-                .is_neutral(side, i, cell, colour.is_filled())
-    }
-
-    /// Whether tables show that nothing else is certain once an unknown cell of a board at rest has a colour. Once
-    /// 16 copies in succession were alive, the tables of its row and of its column are made.
-    pub fn is_neutral(
+    /// The cells of row y of a board at rest with which nothing else is certain, as tables show, for each colour. Once
+    /// 16 trials in succession were alive, the tables of row y and of column x are made.
+    pub fn neutral_in_row(
         &mut self,
         puzzle: &Puzzle,
         board: &Board<W>,
-        place: usize,
-        colour: Cell,
-    ) -> bool
+        x: u16,
+        y: u16,
+    ) -> ColourSets<W>
         requires rest { IsAtRest puzzle.now self.old board.now.cells }
         requires fresh { AreFresh puzzle.now self.old.fresh self.old.kept.tables board.now.cells }
         requires size { IsBoardOf puzzle.now board.now }
-        requires cell { CanSettle board.now.cells place colour }
+        requires x { x < puzzle.now.width }
+        requires y { y < puzzle.now.height }
         ensures rest { IsAtRest puzzle.now self.new board.now.cells }
         ensures fresh { AreFresh puzzle.now self.new.fresh self.new.kept.tables board.now.cells }
-        ensures neutral { IsTrue result → closure (lines_of puzzle.now) (slice_set board.now.cells place colour)
-            ≡ Some (slice_set board.now.cells place colour) }
+        ensures neutral { (k : ℕ) (colour : CellValue) → Has (mask_if (is_filled colour) result) k →
+            IsNeutralCell puzzle.now board.now.cells (y * puzzle.now.width + k) colour }
     {
         if self.calm < CALM {
-            return false;
+            return ColourSets::none();
         }
-        let width = usize::from(puzzle.width());
-        let (x, y) = ((place % width) as u16, (place / width) as u16);
         self.prepare_line(puzzle, Side::Rows, y, board);
         self.prepare_line(puzzle, Side::Columns, x, board);
-        self.is_neutral_on(Side::Rows, y, x, colour)
-            && self.is_neutral_on(Side::Columns, x, y, colour)
+        if !self.fresh.on(Side::Rows).contains(y) {
+            return ColourSets::none();
+        }
+        self.deductions
+            .pairs()
+            .neutral_in_row(y, self.fresh.on(Side::Columns))
     }
 }

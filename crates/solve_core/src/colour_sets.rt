@@ -1,22 +1,23 @@
-//! Places of a line, noted by colour.
+//! Places of a line, by colour.
 
-ghost use Rattle.std.specs.Prelude.{◌≡◌, ◌<◌, ◌⊎◌, ℕ, true, length, slice_index_or};
-ghost use Rattle.grid_core.specs.Cells.{is_known};
+ghost use Rattle.std.specs.Prelude.{◌≡◌, ◌<◌, ◌≤◌, ◌⊎◌, Bool, ℕ, length, replicate, slice_index_or, vec_capacity, IfOk};
 ghost use Rattle.grid_core.specs.declared.cells.Cell.{Cell as CellValue};
 ghost use Rattle.grid_core.specs.declared.cells.Cell.TheVariants.{Unknown};
-ghost use Rattle.place_sets.specs.Masks.{Has, has, IsMaskOf};
-ghost use Rattle.solve_core.specs.steps.ColourMasks.{mask_of, no_colours};
+ghost use Rattle.place_sets.specs.Masks.{Has, has, IsMarked, IsMaskOf};
+ghost use Rattle.solve_core.specs.steps.ColourMasks.{mask_if, mask_of, no_colours};
 
-use grid_core::Cell;
+use crate::rooms::emptied;
+use grid_core::{Cell, NoMemory};
 use line_core::LineOf;
 use place_sets::PlaceSet;
+use std::alloc::Global;
 use std::marker::Model;
 
-/// The places of a line that are noted for filled, and those that are noted for blank.
+/// A set of places for filled, and one for blank.
 #[derive(Drop)]
 pub struct ColourSets<W: PlaceSet> {
-    filled: W,
-    blank: W,
+    pub filled: W,
+    pub blank: W,
 }
 
 impl<W: PlaceSet> Model for ColourSets<W> {
@@ -28,7 +29,7 @@ impl<W: PlaceSet> Model for ColourSets<W> {
 }
 
 impl<W: PlaceSet> ColourSets<W> {
-    /// No place.
+    /// No place for either colour.
     pub fn none() -> ColourSets<W>
         ensures { result ≡ no_colours }
     {
@@ -38,7 +39,7 @@ impl<W: PlaceSet> ColourSets<W> {
         }
     }
 
-    /// Whether a place is noted for a colour.
+    /// Whether a place is there for a colour.
     pub fn contains(&self, place: u16, colour: Cell) -> bool
         requires { place < W.WIDTH }
         ensures { result ≡ has (mask_of colour self.now) place }
@@ -50,36 +51,70 @@ impl<W: PlaceSet> ColourSets<W> {
         }
     }
 
-    /// The places that are noted for both colours.
+    /// The places that are there for both colours.
     pub fn in_both(&self) -> W
         ensures { IsMaskOf (λ i. Has self.now.filled i × Has self.now.blank i) (W.number result) }
     {
         self.filled.intersection(self.blank)
     }
 
-    /// Notes a place for a colour.
-    pub fn add(&mut self, place: u16, colour: Cell)
-        requires { place < W.WIDTH }
-        ensures only { (c : CellValue) (i : ℕ) → Has (mask_of c self.new) i → Has (mask_of c self.old) i ⊎ ((c ≡ colour) × (i ≡ place)) }
-        ensures kept { (c : CellValue) (i : ℕ) → Has (mask_of c self.old) i → Has (mask_of c self.new) i }
-        ensures added { is_known colour ≡ true → Has (mask_of colour self.new) place }
+    /// The places that are there for their own colour: filled for some, and blank for all others.
+    pub fn coloured(&self, filled: W) -> W
+        ensures { IsMaskOf (λ k. Has (mask_if (has (W.number filled) k) self.now) k) (W.number result) }
     {
-        match colour {
-            Cell::Unknown => {}
-            Cell::Filled => self.filled = self.filled.marked(place, true),
-            Cell::Blank => self.blank = self.blank.marked(place, true),
-        }
+        self.filled
+            .intersection(filled)
+            .union(self.blank.difference(filled))
     }
 
-    /// Notes the known cells of a line for their colours.
+    /// Puts a place into the set of each colour for which it is wanted, and takes it out of the others.
+    pub fn mark(&mut self, place: u16, filled: bool, blank: bool)
+        requires { place < W.WIDTH }
+        ensures filled { IsMaskOf (IsMarked (Has self.old.filled) place filled) self.new.filled }
+        ensures blank { IsMaskOf (IsMarked (Has self.old.blank) place blank) self.new.blank }
+    {
+        self.filled = self.filled.marked(place, filled);
+        self.blank = self.blank.marked(place, blank);
+    }
+
+    /// Adds other places, each for its colours.
+    pub fn add(&mut self, others: &ColourSets<W>)
+        ensures only { (c : CellValue) (i : ℕ) → Has (mask_of c self.new) i → Has (mask_of c self.old) i ⊎ Has (mask_of c others.now) i }
+    {
+        self.filled = self.filled.union(others.filled);
+        self.blank = self.blank.union(others.blank);
+    }
+
+    /// Adds the known cells of a line, each for its colour.
     pub fn add_line(&mut self, line: &LineOf<W>)
         ensures only { (c : CellValue) (i : ℕ) → i < length line.now → Has (mask_of c self.new) i →
             Has (mask_of c self.old) i ⊎ (slice_index_or line.now i Unknown ≡ c) }
-        ensures kept { (c : CellValue) (i : ℕ) → Has (mask_of c self.old) i → Has (mask_of c self.new) i }
-        ensures added { (c : CellValue) (i : ℕ) → i < length line.now → is_known c ≡ true → slice_index_or line.now i Unknown ≡ c →
-            Has (mask_of c self.new) i }
     {
         self.filled = self.filled.union(line.filled());
         self.blank = self.blank.union(line.blank());
     }
+}
+
+/// Makes a list of so many empty sets, in room that is made.
+pub fn fill_with_none<W: PlaceSet>(sets: &mut Vec<ColourSets<W>>, count: usize)
+    requires { count ≤ vec_capacity sets.old }
+    ensures { sets.new.items ≡ replicate count no_colours }
+{
+    sets.clear();
+    for _ in 0..count {
+        sets.push_reserved(ColourSets::none());
+    }
+}
+
+/// So many empty sets, in room that there is if it is enough.
+pub fn with_sets<W: PlaceSet>(
+    alloc: Global,
+    sets: Vec<ColourSets<W>>,
+    count: usize,
+) -> Result<Vec<ColourSets<W>>, NoMemory>
+    ensures { IfOk result (λ sets. sets.items ≡ replicate count no_colours) }
+{
+    let mut sets = emptied(alloc, sets, count)?;
+    fill_with_none(&mut sets, count);
+    Ok(sets)
 }

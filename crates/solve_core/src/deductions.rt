@@ -26,9 +26,6 @@ const REMEMBERED_PER_CELL: usize = 16;
 /// How many slots are made at once.
 const GROUP: usize = 64;
 
-/// From how many runs on a line is remembered: with fewer it is deduced as soon as it is looked up.
-const FEWEST_RUNS: usize = 3;
-
 /// What stands in a slot that no deduction has taken: the index of none.
 const NO_DEDUCTION: u16 = u16::MAX;
 
@@ -95,19 +92,18 @@ fn key_of(side: Side, i: u16) -> u64 {
 }
 
 /// Which of `slots` slots, a power of two, is that of a line, by its group and its place there. `None` if
-/// there is no slot yet, or if the line's clue has so few runs that it is deduced as soon as it is looked up.
+/// there is no slot yet.
 fn slot_of<W: LineSet>(
     groups: &[[u16; GROUP]],
     slots: usize,
     side: Side,
     number: u16,
     line: &LineOf<W>,
-    runs: usize,
 ) -> Option<(usize, usize)>
     requires { 0 < slots }
     ensures { IfSome result (λ slot. (slot.0 < length groups.now) × (slot.1 < 64)) }
 {
-    if groups.is_empty() || runs < FEWEST_RUNS {
+    if groups.is_empty() {
         return None;
     }
     let mixed = line
@@ -309,15 +305,15 @@ impl<W: LineSet> Deductions<W> {
         if let Some(colours) = self.colours_of(side, i, line) {
             return colours.certain(line.len());
         }
-        let clue = clue_of_line(puzzle, side, i);
-        let runs = clue.numbers().len();
-        let Some((group, place)) = slot_of(&self.slots, self.room, side, i, line, runs) else {
+        let Some((group, place)) = slot_of(&self.slots, self.room, side, i, line) else {
+            let clue = clue_of_line(puzzle, side, i);
             return W::deduce(&mut self.tables, line, clue);
         };
         let index = usize::from(self.slots[group][place]);
         if index < self.kept.len() && self.kept[index].is_of(side, i, line) {
             return copy_answer(&self.kept[index].answer);
         }
+        let clue = clue_of_line(puzzle, side, i);
         let answer = W::deduce(&mut self.tables, line, clue);
         let deduction = Deduction {
             side,

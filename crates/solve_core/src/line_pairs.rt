@@ -1,21 +1,25 @@
 //! Tables of what is certain of a puzzle's lines once one more cell is known.
 
-ghost use Rattle.std.specs.Prelude.{◌≡◌, ◌≢◌, ◌<◌, ◌≤◌, ℕ, length, slice_index_or, All, IfOk, IfSome, IsTrue};
+ghost use Rattle.std.specs.Prelude.{◌≡◌, ◌≢◌, ◌<◌, ◌≤◌, ℕ, Bool, None, length, replicate, slice_index_or, All, IfOk, IfSome, IsTrue};
 ghost use Rattle.grid_core.specs.Nonogram.{Nonogram, crossing, line_on};
 ghost use Rattle.grid_core.specs.declared.sides.Side.{Side as SideValue};
-ghost use Rattle.place_sets.specs.Masks.{Has, has};
+ghost use Rattle.grid_core.specs.declared.sides.Side.TheVariants.{Rows, Columns};
+ghost use Rattle.place_sets.specs.Masks.{Has, has, IsMarked, IsMaskOf};
 ghost use Rattle.grid_core.specs.steps.Sides.{count_on};
 ghost use Rattle.line_core.specs.Deduction.{deduced};
 ghost use Rattle.line_core.specs.Pairs.{IsTableOf, neutral_if, no_table};
 ghost use Rattle.line_core.specs.Told.{told_by};
-ghost use Rattle.solve_core.specs.steps.LinePairs.{AreEmpty, AreTablesOf, IsNeutralAt, table_on};
+ghost use Rattle.solve_core.specs.steps.ColourMasks.{mask_if, no_colours};
+ghost use Rattle.solve_core.specs.steps.LinePairs.{AreEmpty, AreNeutralOf, AreTablesOf, IsNeutralAt, table_on};
 ghost use Rattle.solve_core.specs.steps.LineMarks.{IsMarkedOn, StayFresh};
 ghost use Rattle.solve_core.specs.steps.Widths.{FitsIn};
 
+use crate::colour_sets::{ColourSets, with_sets};
 use crate::marks::Marks;
 use crate::places::clue_of_line;
 use grid_core::{Clue, MOST_RUNS, NoMemory, Puzzle, Side};
 use line_core::{Colours, LineOf, LineSet, PairRoom, PairTable, Tables};
+use place_sets::PlaceSet;
 use std::alloc::Global;
 use std::marker::Model;
 
@@ -23,9 +27,11 @@ use std::marker::Model;
 const WIDEST: u16 = 128;
 
 /// How many of `count` lines have a table: none if the sets are too wide.
-fn tables_for<W: LineSet>(count: u16) -> usize {
+fn tables_for<W: LineSet>(count: u16) -> usize
+    ensures { result ≤ W.WIDTH }
+{
     if W::WIDTH <= WIDEST {
-        usize::from(count)
+        usize::from(count.min(W::WIDTH))
     } else {
         0
     }
@@ -71,39 +77,62 @@ fn forget_all<W: LineSet>(tables: &mut [PairTable<W>])
     }
 }
 
-/// Makes the table of line i, given its clue, if there is room for one. Returns whether there is.
+/// Marks line k in the set of each line that crosses it at a neutral cell, for the colours in which it is neutral.
+fn mark_neutral<W: LineSet>(sets: &mut [ColourSets<W>], k: u16, neutral: &ColourSets<W>)
+    requires k { k < W.WIDTH }
+    requires few { length sets.old ≤ W.WIDTH }
+    ensures { (j : ℕ) (filled : Bool) → j < length sets.old →
+        IsMaskOf (IsMarked (Has (mask_if filled (slice_index_or sets.old j no_colours))) k (has (mask_if filled neutral.now) j))
+        (mask_if filled (slice_index_or sets.new j no_colours)) }
+{
+    for j in 0..sets.len() {
+        let place = j as u16;
+        sets[j].mark(
+            k,
+            neutral.filled.contains(place),
+            neutral.blank.contains(place),
+        );
+    }
+}
+
+/// The neutral cells of a table.
+fn neutral_cells<W: LineSet>(table: &PairTable<W>) -> ColourSets<W>
+    ensures { (filled : Bool) → mask_if filled result ≡ neutral_if filled table.now }
+{
+    ColourSets {
+        filled: table.neutral_cells(true),
+        blank: table.neutral_cells(false),
+    }
+}
+
+/// Makes the table of line i, given its clue, if there is room for one, and marks it at the lines that cross it at
+/// neutral cells. Returns whether there is room.
 fn write_at<W: LineSet>(
     tables: &mut [PairTable<W>],
+    sets: &mut [ColourSets<W>],
     i: u16,
     lines: &mut Tables,
     room: &mut PairRoom<W>,
     line: &LineOf<W>,
     clue: &Clue,
 ) -> bool
+    requires i { i < W.WIDTH }
     requires clue { All (λ number. number ≤ W.WIDTH) clue.now }
     requires table { IsTableOf clue.now (slice_index_or tables.old i no_table) }
+    requires neutral { AreNeutralOf W.WIDTH tables.old sets.old }
     ensures table { IsTableOf clue.now (slice_index_or tables.new i no_table) }
     ensures others { (k : ℕ) → k ≢ i → slice_index_or tables.new k no_table ≡ slice_index_or tables.old k no_table }
     ensures count { length tables.new ≡ length tables.old }
     ensures line { IsTrue result → (slice_index_or tables.new i no_table).line ≡ Some line.now }
+    ensures neutral { AreNeutralOf W.WIDTH tables.new sets.new }
 {
     let place = usize::from(i);
     if place >= tables.len() {
         return false;
     }
     tables[place].write(lines, room, line, clue);
+    mark_neutral(sets, i, &neutral_cells(&tables[place]));
     tables[place].is_of(line)
-}
-
-/// Whether the table of a line has a cell of it among its neutral ones, filled or blank.
-fn is_neutral_in<W: LineSet>(tables: &[PairTable<W>], i: u16, cell: u16, filled: bool) -> bool
-    requires { cell < W.WIDTH }
-    ensures { IsTrue result → Has (neutral_if filled (slice_index_or tables.now i no_table)) cell }
-{
-    match tables.get(usize::from(i)) {
-        None => false,
-        Some(table) => table.neutral_cells(filled).contains(cell),
-    }
 }
 
 /// A table for each row and each column of a puzzle, in room that is made once.
@@ -111,6 +140,10 @@ pub struct LinePairs<W: LineSet> {
     room: PairRoom<W>,
     rows: Vec<PairTable<W>>,
     columns: Vec<PairTable<W>>,
+    /// For each column the rows that have its cell among their neutral ones.
+    neutral_rows: Vec<ColourSets<W>>,
+    /// And for each row the columns that do.
+    neutral_columns: Vec<ColourSets<W>>,
     /// Whether one of them may have a line.
     written: bool,
 }
@@ -122,19 +155,22 @@ impl<W: LineSet> Drop for LinePairs<W> {
             room: _,
             rows: _,
             columns: _,
+            neutral_rows: _,
+            neutral_columns: _,
             written: _,
         } = self;
     }
 }
 
 impl<W: LineSet> Model for LinePairs<W> {
-    ghost use Rattle.solve_core.specs.steps.LinePairs.{AreForgotten, LineTables};
+    ghost use Rattle.solve_core.specs.steps.LinePairs.{HasSets, LineTables};
 
     ghost Value = { LineTables };
 
     ghost view = { λ t. record { rows = t.rows.items; columns = t.columns.items } };
 
-    ghost invariant = { λ t. AreForgotten t.written (record { rows = t.rows.items; columns = t.columns.items }) };
+    ghost invariant = { λ t. HasSets W.WIDTH t.written (record { rows = t.rows.items; columns = t.columns.items })
+        t.neutral_rows.items t.neutral_columns.items };
 }
 
 impl<W: LineSet> LinePairs<W> {
@@ -145,12 +181,22 @@ impl<W: LineSet> LinePairs<W> {
             room: PairRoom::new(alloc, 0)?,
             rows: Vec::new(alloc),
             columns: Vec::new(alloc),
+            neutral_rows: Vec::new(alloc),
+            neutral_columns: Vec::new(alloc),
             written: false,
         })
     }
 
-    /// Its room, and the tables of its rows and of its columns.
-    fn into_parts(self) -> (PairRoom<W>, Vec<PairTable<W>>, Vec<PairTable<W>>)
+    /// Its room, the tables of its rows and of its columns, and the sets beside these.
+    fn into_parts(
+        self,
+    ) -> (
+        PairRoom<W>,
+        Vec<PairTable<W>>,
+        Vec<PairTable<W>>,
+        Vec<ColourSets<W>>,
+        Vec<ColourSets<W>>,
+    )
         ensures rows { result.1.items ≡ self.rows }
         ensures columns { result.2.items ≡ self.columns }
     {
@@ -158,9 +204,11 @@ impl<W: LineSet> LinePairs<W> {
             room,
             rows,
             columns,
+            neutral_rows,
+            neutral_columns,
             written: _,
         } = self;
-        (room, rows, columns)
+        (room, rows, columns, neutral_rows, neutral_columns)
     }
 
     /// Whether a table may have a line.
@@ -195,12 +243,14 @@ impl<W: LineSet> LinePairs<W> {
             None => LinePairs::none(alloc)?,
         };
         pairs.forget();
-        let (room, rows, columns) = pairs.into_parts();
+        let (room, rows, columns, neutral_rows, neutral_columns) = pairs.into_parts();
         let most_runs = tables_for::<W>(width.max(height)).div_ceil(2);
         Ok(LinePairs {
             room: with_room(alloc, room, most_runs.min(MOST_RUNS))?,
             rows: with_tables(alloc, rows, tables_for::<W>(height))?,
             columns: with_tables(alloc, columns, tables_for::<W>(width))?,
+            neutral_rows: with_sets(alloc, neutral_rows, tables_for::<W>(width))?,
+            neutral_columns: with_sets(alloc, neutral_columns, tables_for::<W>(height))?,
             written: false,
         })
     }
@@ -226,8 +276,24 @@ impl<W: LineSet> LinePairs<W> {
         self.written = true;
         let clue = clue_of_line(puzzle, side, i);
         match side {
-            Side::Rows => write_at(&mut self.rows, i, lines, &mut self.room, line, clue),
-            Side::Columns => write_at(&mut self.columns, i, lines, &mut self.room, line, clue),
+            Side::Rows => write_at(
+                &mut self.rows,
+                &mut self.neutral_rows,
+                i,
+                lines,
+                &mut self.room,
+                line,
+                clue,
+            ),
+            Side::Columns => write_at(
+                &mut self.columns,
+                &mut self.neutral_columns,
+                i,
+                lines,
+                &mut self.room,
+                line,
+                clue,
+            ),
         }
     }
 
@@ -249,34 +315,54 @@ impl<W: LineSet> LinePairs<W> {
         }
     }
 
-    /// Whether the table of line i of a side has a cell of it among its neutral ones, filled or blank.
-    pub fn is_neutral(&self, side: Side, i: u16, cell: u16, filled: bool) -> bool
-        requires { cell < W.WIDTH }
-        ensures { IsTrue result → IsNeutralAt self.now side i cell filled }
+    /// The lines that cross line i of a side and have its cell among their neutral ones, if there is room for them.
+    fn neutral_across(&self, side: Side, i: u16) -> Option<&ColourSets<W>>
+        ensures { IfSome result (λ sets. (k : ℕ) (filled : Bool) → (table_on (crossing side) k self.now).line ≢ None
+            → Has (mask_if filled sets.now) k → IsNeutralAt self.now (crossing side) k i filled) }
     {
-        is_neutral_in(self.on(side), i, cell, filled)
+        match side {
+            Side::Rows => self.neutral_columns.get(usize::from(i)),
+            Side::Columns => self.neutral_rows.get(usize::from(i)),
+        }
+    }
+
+    /// The cells of row y that are neutral at its table and at those of their columns, of these columns, for each
+    /// colour.
+    pub fn neutral_in_row(&self, y: u16, columns: W) -> ColourSets<W>
+        requires { (k : ℕ) → Has (W.number columns) k → (table_on Columns k self.now).line ≢ None }
+        ensures { (k : ℕ) (filled : Bool) → Has (mask_if filled result) k →
+            Has (W.number columns) k × IsNeutralAt self.now Rows y k filled × IsNeutralAt self.now Columns k y filled }
+    {
+        let Some(table) = self.rows.get(usize::from(y)) else {
+            return ColourSets::none();
+        };
+        let Some(across) = self.neutral_across(Side::Rows, y) else {
+            return ColourSets::none();
+        };
+        let own = neutral_cells(table);
+        ColourSets {
+            filled: own.filled.intersection(across.filled).intersection(columns),
+            blank: own.blank.intersection(across.blank).intersection(columns),
+        }
     }
 
     /// Those of the changes of line i of a side, some of them `filled`, at which a line that crosses may have more
     /// to give: not those at a fresh line whose table has the cell among its neutral ones. Lines that change aren't
     /// fresh any more.
-    // Inlined, it would cost all that closes without fresh lines.
-    #[inline(never)]
+    #[inline(always)]
     pub fn open_changes(&self, side: Side, i: u16, filled: W, changes: W, fresh: &mut Marks<W>) -> W
         requires i { i < W.WIDTH }
+        requires fresh { (k : ℕ) → IsMarkedOn fresh.old (crossing side) k → (table_on (crossing side) k self.now).line ≢ None }
         ensures within { (k : ℕ) → Has (W.number result) k → Has (W.number changes) k }
         ensures others { (k : ℕ) → Has (W.number changes) k → (Has (W.number result) k → ⊥) →
             IsMarkedOn fresh.old (crossing side) k × IsNeutralAt self.now (crossing side) k i (has (W.number filled) k) }
         ensures fresh { StayFresh side i (Has (W.number changes)) fresh.old fresh.new }
     {
-        let tables = self.on(side.crossing());
-        let mut open = changes;
-        let mut left = changes.intersection(fresh.on(side.crossing()));
-        while !left.is_empty() {
-            let k = left.first_place();
-            left = left.marked(k, false);
-            open = open.marked(k, !is_neutral_in(tables, k, i, filled.contains(k)));
-        }
+        let across = fresh.on(side.crossing());
+        let open = match self.neutral_across(side, i) {
+            None => changes,
+            Some(neutral) => changes.difference(neutral.coloured(filled).intersection(across)),
+        };
         fresh.set(side, i, false);
         fresh.take(side.crossing(), changes);
         open

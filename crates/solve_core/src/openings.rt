@@ -1,5 +1,5 @@
 //! Openings: colours of a grid's cells that are known to be open, which means that they aren't refuted.
-ghost use Rattle.std.specs.Prelude.{◌≡◌, ◌+◌, ◌*◌, ◌<◌, ◌≤◌, ◌↔◌, ℕ, List, Some, false, length, replicate, vec_capacity, IsTrue, IfOk, IfSome};
+ghost use Rattle.std.specs.Prelude.{◌≡◌, ◌+◌, ◌*◌, ◌/◌, ◌%◌, ◌<◌, ◌≤◌, ◌↔◌, ℕ, List, Some, false, length, replicate, vec_capacity, IsTrue, IfOk, IfSome};
 ghost use Rattle.grid_core.specs.declared.cells.Cell.{Cell as CellValue};
 ghost use Rattle.grid_core.specs.Cells.{Extends};
 ghost use Rattle.grid_core.specs.Lines.{IsUnknownCell};
@@ -7,29 +7,18 @@ ghost use Rattle.grid_core.specs.Nonogram.{Nonogram, lines_of};
 ghost use Rattle.place_sets.specs.Masks.{Has, IsMaskOf};
 ghost use Rattle.solve_core.specs.Closure.{round};
 ghost use Rattle.solve_core.specs.Trials.{is_refuted};
-ghost use Rattle.solve_core.specs.steps.ColourMasks.{no_colours};
+ghost use Rattle.solve_core.specs.steps.ColourMasks.{mask_of, no_colours};
+ghost use Rattle.solve_core.specs.steps.Trails.{CanSettle};
 ghost use Rattle.solve_core.specs.steps.Openings.{AreBothNoted, AreOpenings, AreTriedFrom, IsNoted};
 
-use crate::colour_sets::ColourSets;
+use crate::colour_sets::{ColourSets, fill_with_none, with_sets};
 use crate::grid_lines::GridLines;
 use crate::learners::Learner;
-use crate::rooms::emptied;
 use grid_core::{Cell, NoMemory, Puzzle, Side};
 use line_core::LineSet;
 use place_sets::first_from;
 use std::alloc::Global;
 use std::marker::Model;
-
-/// Makes a list of so many rows at which nothing is noted, in room that is made.
-fn fill_with_none<W: LineSet>(rows: &mut Vec<ColourSets<W>>, count: usize)
-    requires { count ≤ vec_capacity rows.old }
-    ensures { rows.new.items ≡ replicate count no_colours }
-{
-    rows.clear();
-    for _ in 0..count {
-        rows.push_reserved(ColourSets::none());
-    }
-}
 
 /// For each row of a grid the cells at which filled is noted as open, and those at which blank is, in room that is
 /// made once.
@@ -60,10 +49,9 @@ impl<W: LineSet> Openings<W> {
             Some(Openings { rows }) => rows,
             None => Vec::new(alloc),
         };
-        let height = usize::from(puzzle.height());
-        let mut rows = emptied(alloc, rows, height)?;
-        fill_with_none(&mut rows, height);
-        Ok(Openings { rows })
+        Ok(Openings {
+            rows: with_sets(alloc, rows, usize::from(puzzle.height()))?,
+        })
     }
 
     /// Forgets all, so that what is noted is open in any grid.
@@ -92,15 +80,15 @@ impl<W: LineSet> Openings<W> {
         self.rows[y].in_both()
     }
 
-    /// Notes a colour at column x of row y, which isn't refuted there.
-    pub fn open(&mut self, x: u16, y: usize, colour: Cell)
-        requires column { x < W.WIDTH }
+    /// Notes colours of unknown cells of row y that aren't refuted there.
+    pub fn open_row(&mut self, y: usize, colours: &ColourSets<W>)
         requires row { y < length self.old }
         ensures openings { (p : Nonogram) (cells : List CellValue) → AreOpenings p self.old cells →
-            is_refuted (lines_of p) cells (y * p.width + x) colour ≡ false → AreOpenings p self.new cells }
+            ((k : ℕ) (colour : CellValue) → k / p.width ≡ y → Has (mask_of colour colours.now) (k % p.width) →
+            CanSettle cells k colour → is_refuted (lines_of p) cells k colour ≡ false) → AreOpenings p self.new cells }
         ensures rows { length self.new ≡ length self.old }
     {
-        self.rows[y].add(x, colour);
+        self.rows[y].add(colours);
     }
 
     /// Notes the known cells of some rows of a closed grid that is alive. In a grid that knows no more their colours

@@ -128,6 +128,21 @@ impl<W: LineSet> Trials<W> {
         !alive
     }
 
+    /// Notes as open the colours of the cells of row y for which they are neutral, as the tables of the row and of the
+    /// columns show, that of column x at least.
+    fn open_neutral(&mut self, puzzle: &Puzzle, board: &Board<W>, x: u16, y: u16)
+        requires ready { IsReady puzzle.now self.old board.now.cells }
+        requires room { HasRoomFor puzzle.now self.old }
+        requires size { IsBoardOf puzzle.now board.now }
+        requires x { x < puzzle.now.width }
+        requires y { y < puzzle.now.height }
+        ensures ready { IsReady puzzle.now self.new board.now.cells }
+        ensures room { HasRoomFor puzzle.now self.new }
+    {
+        let neutral = self.closer.neutral_in_row(puzzle, board, x, y);
+        self.openings.open_row(usize::from(y), &neutral);
+    }
+
     /// Whether a colour is refuted at an unknown cell, without a trial if it is known to be open, or tables show that
     /// nothing else is certain with it.
     fn is_refuted(
@@ -151,8 +166,8 @@ impl<W: LineSet> Trials<W> {
         if self.openings.is_open(x, y, colour) {
             return false;
         }
-        if self.closer.is_neutral(puzzle, board, place, colour) {
-            self.openings.open(x, y, colour);
+        self.open_neutral(puzzle, board, x, y as u16);
+        if self.openings.is_open(x, y, colour) {
             return false;
         }
         self.is_refuted_by_trial(puzzle, board, place, colour)

@@ -1,10 +1,11 @@
 -- Tables of what is certain of a puzzle's lines once one more cell is known.
-use Rattle.std.specs.Prelude.{◌≡◌, ℕ, Bool, false, List, None, slice_index_or}
+use Rattle.std.specs.Prelude.{◌≡◌, ◌≢◌, ℕ, ◌≤◌, Bool, false, List, length, None, slice_index_or}
 use Rattle.grid_core.specs.declared.sides.Side.{Side}
 use Rattle.grid_core.specs.declared.sides.Side.TheVariants.{Rows, Columns}
 use Rattle.grid_core.specs.Nonogram.{Nonogram, line_on}
 use Rattle.line_core.specs.Pairs.{Table, IsTableOf, neutral_if, no_table}
 use Rattle.place_sets.specs.Masks.{Has}
+use Rattle.solve_core.specs.steps.ColourMasks.{ColourMasks, mask_if, no_colours}
 
 -- a table for each row, and one for each column
 pub record LineTables : Type 0 where
@@ -31,3 +32,16 @@ pub record AreEmpty (tables : List Table) : Type 0 where
 -- none has a line before the first is written
 abbrev pub AreForgotten : Bool → LineTables → Type 0
 AreForgotten written tables = written ≡ false → AreEmpty tables.rows × AreEmpty tables.columns
+
+-- For the lines that cross those of some tables, sets of these tables: each that has a line has the cell of the
+-- crossing line among its neutral ones. Sets of `width` places have a place for each crossing line.
+pub record AreNeutralOf (width : ℕ) (tables : List Table) (sets : List ColourMasks) : Type 0 where
+  pub few : length sets ≤ width
+  pub neutral : (j k : ℕ) (filled : Bool) → (slice_index_or tables k no_table).line ≢ None →
+      Has (mask_if filled (slice_index_or sets j no_colours)) k → Has (neutral_if filled (slice_index_or tables k no_table)) j
+
+-- what holds of tables and of the sets of neutral rows and columns, given whether a table was written
+pub record HasSets (width : ℕ) (written : Bool) (tables : LineTables) (neutral_rows neutral_columns : List ColourMasks) : Type 0 where
+  pub forgotten : AreForgotten written tables
+  pub rows_are : AreNeutralOf width tables.rows neutral_rows
+  pub columns_are : AreNeutralOf width tables.columns neutral_columns

@@ -6,6 +6,7 @@ use Rattle.grid_core.specs.Lines.{IsUnknownCell}
 use Rattle.grid_core.specs.Nonogram.{Nonogram, lines_of}
 use Rattle.place_sets.specs.Masks.{Has}
 use Rattle.solve_core.specs.Trials.{is_refuted}
+use Rattle.solve_core.specs.steps.Trails.{CanSettle}
 use Rattle.solve_core.specs.steps.ColourMasks.{ColourMasks, mask_of, no_colours}
 
 -- a colour is noted at column x of row y
@@ -16,9 +17,9 @@ IsNoted rows x y colour = Has (mask_of colour (slice_index_or rows y no_colours)
 abbrev pub AreBothNoted : List ColourMasks → ℕ → ℕ → Type 0
 AreBothNoted rows x y = IsNoted rows x y Filled × IsNoted rows x y Blank
 
--- each colour noted at a cell isn't refuted
+-- each colour noted at an unknown cell isn't refuted
 pub record AreOpenings (p : Nonogram) (rows : List ColourMasks) (cells : List Cell) : Type 0 where
-  pub each : (k : ℕ) (colour : Cell) → k < length cells → IsNoted rows (k % p.width) (k / p.width) colour →
+  pub each : (k : ℕ) (colour : Cell) → CanSettle cells k colour → IsNoted rows (k % p.width) (k / p.width) colour →
       is_refuted (lines_of p) cells k colour ≡ false
 
 -- both colours are noted at each unknown cell from a place on, and before another one, if there is one

@@ -4,6 +4,7 @@ use Rattle.solve_core.proofs.ClosureLaws.{length-with_cells}
 use Rattle.solve_core.proofs.GridSteps.{seen}
 use Rattle.solve_core.proofs.LearnedLines.{Learns, change_in, neutral_settled, stay_fresh}
 use Rattle.solve_core.proofs.LineSteps.{written-fewer, written-read}
+use Rattle.solve_core.proofs.NeutralCells.{fresh_has_table}
 use Rattle.solve_core.proofs.SideLines.{below_places, crossing_twice, distinct_places}
 use Rattle.solve_core.proofs.closures.learn_line.Goals as goal
 
@@ -40,6 +41,9 @@ unchanged p old new certain side i k m positive l size w e changes lk n =
 
 pub open_changes-open-requires-clause-changes : goal.open_changes-open-requires-clause-changes
 open_changes-open-requires-clause-changes g c = λ k h. search (rules, (c.changes-changes.ensures.changes.to k h).0, length-deduced)
+
+pub open_changes-open-requires-clause-fresh : goal.open_changes-open-requires-clause-fresh
+open_changes-open-requires-clause-fresh g c = rw c.deduce.ensures.tables (fresh_has_table _ _ _ _ c.requires.fresh _)
 
 pub returns : goal.returns
 returns g c =

@@ -22,6 +22,6 @@ pub returns-clause-memory : goal.returns-clause-memory
 returns-clause-memory g c = record {
   fits = c.requires.memory.fits;
   right = kept_right c.args.puzzle.now _ _ _ (rw (← c.self.view_is) at c.requires.memory.right)
-      (rw (c.copy.ensures, ← c.clue_of_line-clue.ensures) (c.copy_answer-2.ensures ∙ c.deduce-answer.ensures.answer)) c.keep.ensures.kept;
+      (rw (c.copy.ensures, ← c.clue_of_line-clue-2.ensures) (c.copy_answer-2.ensures ∙ c.deduce-answer.ensures.answer)) c.keep.ensures.kept;
   tables_are = rw (← c.self.view_is) at c.requires.memory.tables_are;
 }

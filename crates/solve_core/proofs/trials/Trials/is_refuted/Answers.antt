@@ -1,18 +1,11 @@
--- `Trials::is_refuted`: a cell of the grid has a place in sets of its width.
-use Rattle.solve_core.proofs.Names.{◌∙◌, sym, subst, arith, HasRoomFor, Tried}
+-- `Trials::is_refuted`: a cell of the grid has a place in sets of its width, and neutral cells are open.
+use Rattle.solve_core.proofs.Names.{◌≡◌, ◌∙◌, ◌<◌, ◌%◌, ◌/◌, ℕ, sym, subst, arith, HasRoomFor, Nonogram, Tried, rules}
 use Rattle.solve_core.proofs.GridSteps.{place_split}
+use Rattle.solve_core.proofs.NeutralCells.{neutral_open}
 use Rattle.solve_core.proofs.trials.Trials.is_refuted.Goals as goal
 
 pub is_open-requires-clause-column : goal.is_open-requires-clause-column
 is_open-requires-clause-column g c =
-    let p = c.args.puzzle.now in
-    let fits = (subst (λ (t : Tried). HasRoomFor p t) (sym c.self.view_is) c.requires.room).fits in
-    let wide = c.from-width.ensures ∙ c.width.ensures.width in
-    let split = place_split p c.args.board.now.cells c.args.place c.width.ensures.puzzle c.requires.size.2 c.requires.cell.within in
-    omega (arith, rw (← wide) at split.0, fits.rows_short)
-
-pub open-requires-clause-column : goal.open-requires-clause-column
-open-requires-clause-column g c =
     let p = c.args.puzzle.now in
     let fits = (subst (λ (t : Tried). HasRoomFor p t) (sym c.self.view_is) c.requires.room).fits in
     let wide = c.from-width.ensures ∙ c.width.ensures.width in

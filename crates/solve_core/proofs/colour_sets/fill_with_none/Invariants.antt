@@ -1,0 +1,6 @@
+-- What the loop of `fill_with_none` keeps: no place is in the sets so far, and there is room for all.
+use Rattle.solve_core.proofs.Names.{◌≡◌, ◌≤◌, replicate, vec_capacity, no_colours}
+use Rattle.solve_core.proofs.colour_sets.fill_with_none.Given as goal
+
+abbrev pub invariant-loop : goal.invariant-loop
+invariant-loop g l = record { items : l.sets.items ≡ replicate l.counter no_colours; room : l.count ≤ vec_capacity l.sets }
