@@ -80,17 +80,15 @@ pub table_marked : (width i place : ℕ) (old : List Table) (written read d : Ta
     → AreNeutralOf width (set old place written) after
 table_marked width i place old written read d before after are e inside is count marked = record {
   few = rw count are.few;
-  neutral = λ j k filled some has. elim (cases_lt j (length before)) [
-    | inl within ↦ elim ((marked j filled within).to k has) [
-      | inl other ↦
-          let same : get_or (set old place written) k no_table ≡ get_or old k no_table =
-          get_or-set_other old place k written no_table (rw e other.1) in
-          rw same (are.neutral j k filled (rw same at some) other.0)
-      | inr here ↦
-          let same : get_or (set old place written) k no_table ≡ read = grind (arith, get_or-set_same) in
-          rw same (eqb-true _ _ here.1)
-    ]
-    | inr past ↦
-        let long : length after ≤ j = omega arith in absurd (none_marked filled k (rw (get_or-eq_default after no_marks long) at has))
-  ];
+  neutral = λ j k filled some has. grind (
+    arith,
+    cases_lt,
+    get_or-eq_default,
+    get_or-set_other,
+    get_or-set_same,
+    eqb-true,
+    none_marked,
+    marked,
+    are.neutral,
+  );
 }
