@@ -1,11 +1,12 @@
 -- Tables of lines as they are made, forgotten and written.
-use Rattle.solve_core.proofs.Names.{ap, bit_at-zero, eqb-true, inl, inr, ◌≡◌, ◌≢◌, ℕ, zero, suc, refl, arith, ◌<◌, ◌≤◌, Bool, true, false, List, length, [], ◌∷◌, ◌++◌, None, get_or, get_or-set_other, get_or-set_same, set, Has, IsMarked, IsMaskOf, has}
+use Rattle.solve_core.proofs.Names.{bit_at-zero, eqb-true, inl, inr, ◌≡◌, ◌≢◌, ℕ, zero, suc, refl, arith, ◌<◌, ◌≤◌, Bool, true, false, List, length, [], ◌∷◌, ◌++◌, None, get_or, get_or-set_other, get_or-set_same, set, Has, IsMarked, IsMaskOf, has}
 use Rattle.std.proofs.lemmas.Bool.{cases_eq, cases_lt}
 use Rattle.std.proofs.Math.ListN.{get_or-eq_default}
-use Rattle.grid_core.specs.Nonogram.{Nonogram, line_on}
+use Rattle.grid_core.specs.Nonogram.{Nonogram, crossing, line_on}
 use Rattle.grid_core.specs.declared.sides.Side.{Side}
 use Rattle.grid_core.specs.declared.sides.Side.TheVariants.{Rows, Columns}
 use Rattle.line_core.proofs.Pairing.{empty_table}
+use Rattle.solve_core.proofs.SideLines.{by_side}
 use Rattle.line_core.specs.Pairs.{IsTableOf, Table, neutral_if, no_table}
 use Rattle.solve_core.specs.steps.ColourMasks.{ColourMasks, mask_if, no_colours}
 use Rattle.solve_core.specs.steps.LinePairs.{AreEmpty, AreNeutralOf, AreTablesOf, LineTables, table_on}
@@ -33,38 +34,33 @@ pub empty_tables : (p : Nonogram) (rows columns : List Table) → AreEmpty rows 
     → AreTablesOf p (record { rows = rows; columns = columns })
 empty_tables p rows columns r c = grind (arith, table_on, empty_table)
 
--- the table of a row is made
-pub row_written : (p : Nonogram) (old new : LineTables) (i : ℕ) → AreTablesOf p old → IsTableOf (line_on Rows p i).clue (table_on Rows i new)
-    → ((k : ℕ) → k ≢ i → get_or new.rows k no_table ≡ get_or old.rows k no_table) → new.columns ≡ old.columns → AreTablesOf p new
-row_written p old new i tables table others same = record {
-  each = elim [
-    | Rows ↦ λ k. elim (cases_eq k i) [ inl e ↦ rw e table | inr n ↦ rw (others k n) (tables.each Rows k) ]
-    | Columns ↦ λ k. rw same (tables.each Columns k)
-  ];
+-- the table of a line is made, and the others stay
+pub line_written : (p : Nonogram) (side : Side) (i : ℕ) (old new : LineTables) → AreTablesOf p old
+    → IsTableOf (line_on side p i).clue (table_on side i new)
+    → ((s : Side) (k : ℕ) → (s ≡ side → k ≢ i) → table_on s k new ≡ table_on s k old) → AreTablesOf p new
+line_written p side i old new tables table others = record {
+  each = by_side (λ s. (k : ℕ) → IsTableOf (line_on s p k).clue (table_on s k new)) side
+      (λ k. elim (cases_eq k i) [ inl e ↦ rw e table | inr n ↦ rw (others side k (λ e. n)) (tables.each side k) ])
+      (λ k. rw (others (crossing side) k (λ e. absurd (not_across side e))) (tables.each (crossing side) k));
 }
-
--- the table of a column is made
-pub column_written : (p : Nonogram) (old new : LineTables) (i : ℕ) → AreTablesOf p old
-    → IsTableOf (line_on Columns p i).clue (table_on Columns i new)
-    → ((k : ℕ) → k ≢ i → get_or new.columns k no_table ≡ get_or old.columns k no_table) → new.rows ≡ old.rows → AreTablesOf p new
-column_written p old new i tables table others same = record {
-  each = elim [
-    | Rows ↦ λ k. rw same (tables.each Rows k)
-    | Columns ↦ λ k. elim (cases_eq k i) [ inl e ↦ rw e table | inr n ↦ rw (others k n) (tables.each Columns k) ]
-  ];
-}
+  where
+    not_across : (side : Side) → crossing side ≢ side
+    not_across Rows e = cc
+    not_across Columns e = cc
 
 -- the other tables stay if that of a row is made
-pub row_others : (old new : LineTables) (i : ℕ) → ((k : ℕ) → k ≢ i → get_or new.rows k no_table ≡ get_or old.rows k no_table)
-    → new.columns ≡ old.columns → (s : Side) (k : ℕ) → (s ≡ Rows → k ≢ i) → table_on s k new ≡ table_on s k old
-row_others old new i others same Rows k n = others k (n refl)
-row_others old new i others same Columns k n = ap (λ (tables : List Table). get_or tables k no_table) same
+pub row_others : (i : ℕ) (old new columns : List Table) → ((k : ℕ) → k ≢ i → get_or new k no_table ≡ get_or old k no_table)
+    → (s : Side) (k : ℕ) → (s ≡ Rows → k ≢ i)
+    → table_on s k (record { rows = new; columns = columns }) ≡ table_on s k (record { rows = old; columns = columns })
+row_others i old new columns others Rows k n = others k (n refl)
+row_others i old new columns others Columns k n = refl
 
 -- or that of a column
-pub column_others : (old new : LineTables) (i : ℕ) → ((k : ℕ) → k ≢ i → get_or new.columns k no_table ≡ get_or old.columns k no_table)
-    → new.rows ≡ old.rows → (s : Side) (k : ℕ) → (s ≡ Columns → k ≢ i) → table_on s k new ≡ table_on s k old
-column_others old new i others same Rows k n = ap (λ (tables : List Table). get_or tables k no_table) same
-column_others old new i others same Columns k n = others k (n refl)
+pub column_others : (i : ℕ) (old new rows : List Table) → ((k : ℕ) → k ≢ i → get_or new k no_table ≡ get_or old k no_table)
+    → (s : Side) (k : ℕ) → (s ≡ Columns → k ≢ i)
+    → table_on s k (record { rows = rows; columns = new }) ≡ table_on s k (record { rows = rows; columns = old })
+column_others i old new rows others Rows k n = refl
+column_others i old new rows others Columns k n = others k (n refl)
 
 -- sets beside tables without a line can be any
 pub empty_sets : (width : ℕ) (tables : List Table) (sets : List ColourMasks) → AreEmpty tables → length sets ≤ width → AreNeutralOf width tables sets
@@ -76,24 +72,23 @@ none_marked true k has = absurd (omega (arith, has, bit_at-zero k))
 none_marked false k has = absurd (omega (arith, has, bit_at-zero k))
 
 -- a table that is written is marked at its neutral cells, and no other is
-pub table_marked : (width i place : ℕ) (old : List Table) (written d : Table) (before after : List ColourMasks) (own : ColourMasks)
-    → AreNeutralOf width old before → place ≡ i → place < length old
-    → ((filled : Bool) → mask_if filled own ≡ neutral_if filled (get_or (set old place written) place d)) → length after ≡ length before
+pub table_marked : (width i place : ℕ) (old : List Table) (written read d : Table) (before after : List ColourMasks)
+    → AreNeutralOf width old before → place ≡ i → place < length old → read ≡ get_or (set old place written) place d
+    → length after ≡ length before
     → ((j : ℕ) (filled : Bool) → j < length before → IsMaskOf (IsMarked (Has (mask_if filled (get_or before j no_colours))) i
-    (has (mask_if filled own) j)) (mask_if filled (get_or after j no_colours))) → AreNeutralOf width (set old place written) after
-table_marked width i place old written d before after own are e inside own_is count marked = record {
+    (has (neutral_if filled read) j)) (mask_if filled (get_or after j no_colours)))
+    → AreNeutralOf width (set old place written) after
+table_marked width i place old written read d before after are e inside is count marked = record {
   few = rw count are.few;
-  neutral = λ j k filled some has. elim (cases_lt j (length before)) [
-    | inl within ↦ elim ((marked j filled within).to k has) [
-      | inl other ↦
-          let same : get_or (set old place written) k no_table ≡ get_or old k no_table =
-          get_or-set_other old place k written no_table (rw e other.1) in
-          rw same (are.neutral j k filled (rw same at some) other.0)
-      | inr here ↦
-          let same : get_or (set old place written) k no_table ≡ get_or (set old place written) place d = grind (arith, get_or-set_same) in
-          rw (same, ← own_is filled) (eqb-true _ _ here.1)
-    ]
-    | inr past ↦
-        let long : length after ≤ j = omega arith in absurd (none_marked filled k (rw (get_or-eq_default after no_colours long) at has))
-  ];
+  neutral = λ j k filled some has. grind (
+    arith,
+    cases_lt,
+    get_or-eq_default,
+    get_or-set_other,
+    get_or-set_same,
+    eqb-true,
+    none_marked,
+    marked,
+    are.neutral,
+  );
 }

@@ -7,14 +7,13 @@ ghost use Rattle.place_sets.specs.Masks.{Has, has, IsMarked, IsMaskOf};
 ghost use Rattle.grid_core.specs.declared.cells.Cell.{Cell as CellValue};
 ghost use Rattle.grid_core.specs.declared.cells.Cell.TheVariants.{Unknown};
 ghost use Rattle.grid_core.specs.declared.sides.Side.{Side as SideValue};
-ghost use Rattle.solve_core.specs.Closure.{closure};
+ghost use Rattle.solve_core.specs.Closure.{closure, if_alive};
 ghost use Rattle.solve_core.specs.steps.Closers.{AreFresh, IsIdle, IsMemoryOf, IsNeutralCell};
 ghost use Rattle.solve_core.specs.steps.ColourMasks.{mask_if};
 ghost use Rattle.solve_core.specs.steps.Deductions.{AreRight};
 ghost use Rattle.solve_core.specs.steps.LineMarks.{marks_on, IsMarkedOn, StayFresh};
 ghost use Rattle.solve_core.specs.steps.LinePairs.{IsNeutralAt, table_on};
 ghost use Rattle.solve_core.specs.steps.Marks.{HasMarks, IsLearned, MarksChanges, HasWork, LeavesWork, Progresses, IsAtRest};
-ghost use Rattle.solve_core.specs.Closure.{if_alive};
 ghost use Rattle.solve_core.specs.steps.Trails.{CanSettle, IsTrailed, cleared};
 ghost use Rattle.solve_core.specs.steps.Boards.{fresh_board, IsBoardOf};
 ghost use Rattle.solve_core.specs.steps.Widths.{FitsIn};
@@ -93,9 +92,8 @@ fn open_changes<W: LineSet>(
         *fresh = Marks::none();
         return changes;
     }
-    deductions
-        .pairs()
-        .open_changes(side, i, new.filled(), changes, fresh)
+    let pairs = deductions.pairs();
+    pairs.open_changes(side, i, new.filled(), changes, fresh)
 }
 
 /// Writes what is certain of line i of a side, and marks the lines that cross it at the cells that it learned, if
@@ -477,8 +475,7 @@ impl<W: LineSet> Closer<W> {
         requires rest { IsAtRest puzzle.now self.old board.now.cells }
         requires fresh { AreFresh puzzle.now self.old.fresh self.old.kept.tables board.now.cells }
         requires size { IsBoardOf puzzle.now board.now }
-        requires x { x < puzzle.now.width }
-        requires y { y < puzzle.now.height }
+        requires cell { (x < puzzle.now.width) × (y < puzzle.now.height) }
         ensures rest { IsAtRest puzzle.now self.new board.now.cells }
         ensures fresh { AreFresh puzzle.now self.new.fresh self.new.kept.tables board.now.cells }
         ensures neutral { (k : ℕ) (colour : CellValue) → Has (mask_if (is_filled colour) result) k →
@@ -492,8 +489,7 @@ impl<W: LineSet> Closer<W> {
         if !self.fresh.on(Side::Rows).contains(y) {
             return ColourSets::none();
         }
-        self.deductions
-            .pairs()
-            .neutral_in_row(y, self.fresh.on(Side::Columns))
+        let columns = self.fresh.on(Side::Columns);
+        self.deductions.pairs().neutral_in_row(y, columns)
     }
 }

@@ -22,6 +22,7 @@ mod places;
 mod reports;
 mod rooms;
 mod search;
+mod side_tables;
 mod solutions;
 mod solver;
 mod trails;

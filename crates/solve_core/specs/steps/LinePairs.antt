@@ -39,9 +39,3 @@ pub record AreNeutralOf (width : ℕ) (tables : List Table) (sets : List ColourM
   pub few : length sets ≤ width
   pub neutral : (j k : ℕ) (filled : Bool) → (slice_index_or tables k no_table).line ≢ None →
       Has (mask_if filled (slice_index_or sets j no_colours)) k → Has (neutral_if filled (slice_index_or tables k no_table)) j
-
--- what holds of tables and of the sets of neutral rows and columns, given whether a table was written
-pub record HasSets (width : ℕ) (written : Bool) (tables : LineTables) (neutral_rows neutral_columns : List ColourMasks) : Type 0 where
-  pub forgotten : AreForgotten written tables
-  pub rows_are : AreNeutralOf width tables.rows neutral_rows
-  pub columns_are : AreNeutralOf width tables.columns neutral_columns

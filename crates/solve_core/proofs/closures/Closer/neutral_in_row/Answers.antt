@@ -6,7 +6,7 @@ use Rattle.solve_core.proofs.closures.Closer.neutral_in_row.Goals as goal
 pub neutral_in_row-requires : goal.neutral_in_row-requires
 neutral_in_row-requires g c = λ k has.
     let fresh = rw (← c.self-2.view_is) at c.prepare_line-2.ensures.fresh in
-    rw c.pairs.ensures (fresh_has_table _ _ _ _ fresh Columns k (rw c.on-2.ensures at has))
+    rw c.pairs.ensures (fresh_has_table _ _ _ _ fresh Columns k (rw c.on-columns.ensures at has))
 
 pub returns-clause-neutral : goal.returns-clause-neutral
 returns-clause-neutral g c = λ k colour has.
@@ -14,4 +14,4 @@ returns-clause-neutral g c = λ k colour has.
     let fresh = rw (← c.self-2.view_is) at c.prepare_line-2.ensures.fresh in
     let row : Has c.self-2.inside.fresh.rows c.args.y = search rules in
     let neutral = rw c.pairs.ensures at (c.neutral_in_row.ensures k (is_filled colour) has) in
-    neutral_cell _ _ _ colour rest fresh _ k (row, neutral.1) (rw c.on-2.ensures at neutral.0, neutral.2)
+    neutral_cell _ _ _ colour rest fresh _ k (row, neutral.1) (rw c.on-columns.ensures at neutral.0, neutral.2)

@@ -1,7 +1,7 @@
 -- What the loop of `forget_all` keeps: those that are passed have no line.
 use Rattle.solve_core.proofs.Names.{◌≡◌, ℕ, ◌<◌, None, length, get_or}
 use Rattle.line_core.specs.Pairs.{no_table}
-use Rattle.solve_core.proofs.line_pairs.forget_all.Given as goal
+use Rattle.solve_core.proofs.side_tables.forget_all.Given as goal
 
 abbrev pub invariant-loop-i : goal.invariant-loop-i
 invariant-loop-i g l = record {

@@ -1,7 +1,7 @@
 -- `forget_all`: all are passed, and behind them there is none.
 use Rattle.solve_core.proofs.Names.{arith}
 use Rattle.solve_core.proofs.TableSteps.{all_empty}
-use Rattle.solve_core.proofs.line_pairs.forget_all.Goals as goal
+use Rattle.solve_core.proofs.side_tables.forget_all.Goals as goal
 
 pub returns : goal.returns
 returns g c = all_empty c.loop-i.tables c.loop-i.i (omega (arith, c.loop-i.invariant.count, c.loop-i-test.false)) c.loop-i.invariant.passed

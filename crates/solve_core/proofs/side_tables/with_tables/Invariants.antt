@@ -1,6 +1,6 @@
 -- What the loop of `with_tables` keeps: no table has a line.
 use Rattle.solve_core.specs.steps.LinePairs.{AreEmpty}
-use Rattle.solve_core.proofs.line_pairs.with_tables.Given as goal
+use Rattle.solve_core.proofs.side_tables.with_tables.Given as goal
 
 abbrev pub invariant-loop : goal.invariant-loop
 invariant-loop g l = AreEmpty l.tables.items
