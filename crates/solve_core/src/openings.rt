@@ -31,8 +31,8 @@ fn fill_with_none<W: LineSet>(rows: &mut Vec<ColourSets<W>>, count: usize)
     }
 }
 
-/// For each row of a grid the cells at which filled is noted as open, and those at which blank is, in room that is
-/// made once.
+/// For each row of a grid the cells at which filled is noted as open, and those at which blank is, in room that
+/// is made once.
 #[derive(Drop)]
 pub struct Openings<W: LineSet> {
     rows: Vec<ColourSets<W>>,
@@ -103,8 +103,8 @@ impl<W: LineSet> Openings<W> {
         self.rows[y].add(x, colour);
     }
 
-    /// Notes the known cells of some rows of a closed grid that is alive. In a grid that knows no more their colours
-    /// aren't refuted.
+    /// Notes the known cells of some rows of a closed grid that is alive. In a grid that knows no more their
+    /// colours aren't refuted.
     pub fn add(&mut self, lines: &GridLines<W>, rows: W)
         requires rows { (y : ℕ) → Has (W.number rows) y → y < lines.now.height }
         requires height { lines.now.height ≡ length self.old }
@@ -121,8 +121,8 @@ impl<W: LineSet> Openings<W> {
         }
     }
 
-    /// The place of the first unknown cell from a place on in row order of which not both colours are noted, and of
-    /// whose neighbours at least `least`, 0 to 4, are known or outside the grid, if there is one.
+    /// The place of the first unknown cell from a place on in row order of which not both colours are noted, and
+    /// of whose neighbours at least `least`, 0 to 4, are known or outside the grid, if there is one.
     pub fn first_untried(&self, lines: &GridLines<W>, from: usize, least: usize) -> Option<usize>
         requires height { lines.now.height ≡ length self.now }
         requires from { from ≤ length lines.now.cells }

@@ -53,8 +53,8 @@ impl Trial {
     }
 }
 
-/// Tries a colour at an unknown cell, on a copy, unless it is known to be open there, or tables show that nothing else
-/// is certain with it. If the copy closes alive, all of its colours are open.
+/// Tries a colour at an unknown cell, on a copy, unless it is known to be open there, or tables show that nothing
+/// else is certain with it. If the copy closes alive, all of its colours are open.
 fn try_colour<W: LineSet>(
     closer: &mut Closer<W>,
     openings: &mut Openings<W>,

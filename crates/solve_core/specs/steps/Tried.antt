@@ -10,7 +10,8 @@ use Rattle.solve_core.specs.steps.Widths.{FitsIn}
 use Rattle.solve_core.specs.steps.ColourMasks.{ColourMasks}
 use Rattle.solve_core.specs.steps.Openings.{AreOpenings}
 
--- what closing keeps, a board for the trials of each colour, and the openings of each row, in sets of `width` places
+-- what closing keeps, a board for the trials of each colour, and the openings of each row, in sets of `width`
+-- places
 pub record Tried : Type 0 where
   pub width : ℕ
   pub closer : Closing
@@ -32,8 +33,8 @@ pub record HasTrialRoom (p : Nonogram) (filled blank : BoardSpace) (openings : L
   pub blank_fits : HasBoardRoom p.width p.height blank
   pub rows_fit : length openings ≡ p.height
 
--- no line has more to give, fresh lines have tables of their cells, and the openings aren't refuted: what a trial of
--- these cells starts from
+-- no line has more to give, fresh lines have tables of their cells, and the openings aren't refuted: what a trial
+-- of these cells starts from
 pub record IsReady (p : Nonogram) (t : Tried) (cells : List Cell) : Type 0 where
   pub rest : IsAtRest p t.closer cells
   pub fresh : AreFresh p t.closer.fresh t.closer.kept.tables cells

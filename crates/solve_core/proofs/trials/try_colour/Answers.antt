@@ -1,4 +1,4 @@
--- `try_colour`: a copy that closes alive is line-closed and knows all that the board does, so its colours are open.
+-- `try_colour`: a copy that closes alive is line-closed and knows all that the board does: its colours are open.
 use Rattle.solve_core.proofs.Names.{set, sym, lines_of}
 use Rattle.solve_core.proofs.ClosureLaws.{closure-IsLeastClosed}
 use Rattle.solve_core.proofs.TrialSteps.{settled-extends}
