@@ -25,8 +25,8 @@ opened p rows old row more y cells before ly is only free =
     ])
 
 -- with the known cells of a row of a closed grid
-pub all_open : (p : Nonogram) (rows : List ColourMasks) (old row : ColourMasks) (line : List Cell) (g : TrailedGrid) (y : ℕ) (cells : List Cell)
-    → 0 < p.width → AreOpenings p rows cells → y < length rows → old ≡ get_or rows y old → g.width ≡ p.width →
+pub all_open : (p : Nonogram) (rows : List ColourMasks) (old row : ColourMasks) (line : List Cell) (g : TrailedGrid) (y : ℕ)
+    (cells : List Cell) → 0 < p.width → AreOpenings p rows cells → y < length rows → old ≡ get_or rows y old → g.width ≡ p.width →
     round (lines_of p) g.cells ≡ Some g.cells → Extends cells g.cells → line ≡ cells_along g Rows y →
     ((c : Cell) (i : ℕ) → i < length line → Has (mask_of c row) i → Has (mask_of c old) i ⊎ (get_or line i Unknown ≡ c)) →
     AreOpenings p (set rows y row) cells
@@ -41,8 +41,8 @@ all_open p rows old row line g y cells some before ly is wide closed more along 
           (sym (get_or-along g.cells (y * w) 1 w (k % w) k (omega (arith, some)) place) ∙ rw is_row at new)))
     ])
 
--- The unknown cells up to a place of row y are tried if those before a column of the row are, and none from there on up
--- to the place is near and untried.
+-- the unknown cells up to a place of row y are tried if those before a column of the row are, and none from there
+-- on up to the place is near and untried
 pub tried_before : (rows : List ColourMasks) (cells : List Cell) (w y column end from near tried untried : ℕ) → end ≤ w →
     ((x : ℕ) → x < w → IsUnknownCell cells (y * w + x) → Has near x) → IsMaskOf (λ x. AreBothNoted rows x y) tried →
     IsMaskOf (λ x. Has near x × (has tried x ≡ false)) untried → ((x : ℕ) → column ≤ x → x < end → Has untried x → ⊥) →

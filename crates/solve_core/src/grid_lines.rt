@@ -202,7 +202,8 @@ impl<W: LineSet> GridLines<W> {
         self.rows.len() * self.columns.len()
     }
 
-    /// The unknown cells of row y of whose neighbours at least `least`, 0 to 4, are known or outside the grid.
+    /// The unknown cells of row y of whose neighbours at least `least`, 0 to 4, are known or outside the
+    /// grid.
     pub fn near_cells(&self, y: usize, least: usize) -> W
         requires row { y < self.now.height }
         requires least { least ≤ 4 }

@@ -128,8 +128,8 @@ pub fn most_in_row<W: PlaceSet>(
     first_in_most(row.unknown_cells(), &beside, &across, least)
 }
 
-/// Those of a row's unknown cells of whose neighbours at least `least`, 0 to 4, are known or outside the grid. Above
-/// and below are the cells of which the neighbour there is.
+/// Those of a row's unknown cells of whose neighbours at least `least`, 0 to 4, are known or outside the grid.
+/// Above and below are the cells of which the neighbour there is.
 pub fn near_known<W: PlaceSet>(row: &LineOf<W>, above: W, below: W, least: usize) -> W
     requires { least ≤ 4 }
     ensures unknown { (x : ℕ) → Has (W.number result) x → IsUnknownCell row.now x }

@@ -5,7 +5,8 @@ use Rattle.solve_core.proofs.GridLineSteps.{passed}
 use Rattle.solve_core.proofs.SearchLaws.{unknown_is}
 use Rattle.solve_core.proofs.grid_lines.GridLines.first_unknown.Goals as goal
 
--- the cells up to a place of row y are known if those before a column of the row are, and none from there on is unknown
+-- the cells up to a place of row y are known if those before a column of the row are, and none from there on is
+-- unknown
 known_before : (cells : List Cell) (w y column end from near : ℕ) → y * w + end ≤ length cells → end ≤ w →
     ((x : ℕ) → x < w → IsUnknownCell cells (y * w + x) → Has near x) → ((x : ℕ) → column ≤ x → x < end → Has near x → ⊥) →
     ((k : ℕ) → from ≤ k → k < y * w + column → is_unknown (get_or cells k Unknown) ≡ false) →

@@ -1,4 +1,4 @@
--- `Openings::first_untried`: of a row's cells passed none is near and untried, so if all unknown ones are near, they are tried.
+-- `Openings::first_untried`: no cell passed is near and untried, so if all unknown ones are near, they are tried.
 use Rattle.solve_core.proofs.Names.{◌≡◌, ◌+◌, ◌*◌, arith}
 use Rattle.solve_core.proofs.OpeningLaws.{tried_before}
 use Rattle.solve_core.proofs.openings.Openings.first_untried.Goals as goal
@@ -6,8 +6,9 @@ use Rattle.solve_core.proofs.openings.Openings.first_untried.Goals as goal
 pub returns-in-Some-clause-passed : goal.returns-in-Some-clause-passed
 returns-in-Some-clause-passed g c = λ zero.
     let found = c.in-Some.ensures in
+    let at = c.near_cells.ensures.unknown _ (c.difference-untried.ensures.to _ found.2).0 in
     rw (c.from.ensures, c.width-width.ensures.width) (tried_before c.args.self.now c.args.lines.now.cells c.args.lines.now.width c.loop-y.y
-    c.loop-y.column c.in-Some.x c.args.from _ _ _ (let x = (c.near_cells.ensures.unknown _ (c.difference-untried.ensures.to _ found.2).0).0 in omega (arith, x))
+    c.loop-y.column c.in-Some.x c.args.from _ _ _ (omega (arith, at.0))
     (c.near_cells.ensures.each zero) c.tried.ensures c.difference-untried.ensures found.3
     (rw c.width-width.ensures.width at (c.loop-y.invariant.passed zero)))
 
