@@ -42,17 +42,17 @@ pub use Rattle.solve_core.specs.declared.branches.Branch.{Branch}
 pub use Rattle.solve_core.specs.declared.closures.Progress.TheVariants.{Changed, Dead, Same}
 pub use Rattle.solve_core.specs.declared.findings.Findings.{Findings}
 pub use Rattle.solve_core.specs.declared.witnesses.Witness.{Witness}
-pub use Rattle.solve_core.specs.steps.Boards.{BoardSpace, IsBoard, IsBoardOf, cells_along}
+pub use Rattle.solve_core.specs.steps.Boards.{AreSameOutside, BoardSpace, IsBoard, IsBoardOf, board_of, cells_along}
 pub use Rattle.solve_core.specs.steps.Branches.{AreBefore, AreInOrder, AreKnownBefore, AreOlder, IsBranch, IsClosed, IsNext, IsOpen, IsWork, cells_before, open_events, pending, ready_events}
 pub use Rattle.solve_core.specs.steps.Closers.{AreFresh, Closing, IsIdle, IsMemoryOf}
 pub use Rattle.solve_core.specs.steps.Counts.{AreCounts, IsKnownCell, IsMostInRow, row_score, told_by, two_of}
 pub use Rattle.solve_core.specs.steps.Endings.{Ending, ending}
 pub use Rattle.solve_core.specs.steps.GridLines.{AreLinesOf}
 pub use Rattle.solve_core.specs.steps.Guesses.{IsUnderWay, owed, owed_by}
-pub use Rattle.solve_core.specs.steps.Learning.{CanLearn, IsIn, IsLearning, LeadsBackBut}
+pub use Rattle.solve_core.specs.steps.Learning.{CanLearn, CanWriteIn, IsIn}
 pub use Rattle.solve_core.specs.steps.LineMarks.{AreMarksWithin, AreUnmarked, IsMarkedOn, IsUnmarkedOn, LineMarks, marks_on}
 pub use Rattle.solve_core.specs.steps.Marks.{AreOpen, HasMarks, HasWork, IsAtRest, IsDeduced, IsLearned, IsTrialOf, IsWritten, MarksAfter, MarksChanges, Progresses}
-pub use Rattle.solve_core.specs.steps.Trails.{IsTrailed, TrailedGrid, cleared, unknown_count}
+pub use Rattle.solve_core.specs.steps.Trails.{IsStepOf, IsTrailed, LineStep, TrailStep, TrailedGrid, cleared, step_on, unknown_count, unlearned, without}
 pub use Rattle.solve_core.specs.steps.Tried.{HasRoomFor, IsReady, Tried}
 pub use Rattle.solve_core.specs.steps.WitnessLists.{WitnessLists, met_by, no_witness, open_marks, witness_at}
 pub use Rattle.solve_core.specs.steps.Witnesses.{AddsMet, AreNumbered, AreWitnesses, DifferWithin, IsCrossed, IsKept, IsWitness, ShareNoLine, has_side}

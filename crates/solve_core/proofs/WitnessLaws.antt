@@ -1,5 +1,5 @@
 -- What an alive trial of a grid tells of a grid that has learned more.
-use Rattle.solve_core.proofs.Names.{◌≡◌, ◌≢◌, ℕ, zero, suc, ◌*◌, ◌/◌, ◌%◌, ◌<◌, ◌≤◌, ◌⊎◌, inl, inr, Bool, true, false, List, [], ◌∷◌, ◌++◌, length, take, replicate, get_or, set, Some, refl, sym, ap, ◌∙◌, arith, true≢false, get_or-set_same, get_or-set_other, length-append, length-set, cases_Bool, cases_eq, cases_lt, false_from_ne_true, div-mul-add, mod-mul-add, get_or-map, get_or_append_left, get_or_past, get_or-take, length-take-le, get_or-append_seam, Cell, Unknown, Filled, Blank, CellExtends, Extends, is_unknown, Nonogram, IsNonogram, lines_of, line_on, count_on, Extends-at, round, closure, Side, Rows, Columns, IsDeduced, AreOpen, cleared, Witness, WitnessLists, no_witness, witness_at, met_by, open_marks, has_side, IsCrossed, DifferWithin, ShareNoLine, IsWitness, AreWitnesses, AreNumbered, IsKept, AddsMet, Extends-refl, Extends-antisym, length-Extends, length-map, rules}
+use Rattle.solve_core.proofs.Names.{◌≡◌, ◌≢◌, ℕ, zero, suc, ◌*◌, ◌/◌, ◌%◌, ◌<◌, ◌≤◌, ◌⊎◌, inl, inr, Bool, true, false, List, [], ◌∷◌, ◌++◌, length, take, replicate, get_or, set, Some, refl, sym, ap, ◌∙◌, arith, true≢false, get_or-set_same, get_or-set_other, length-append, length-set, cases_Bool, cases_eq, cases_lt, false_from_ne_true, div-mul-add, mod-mul-add, get_or-map, get_or_append_left, get_or_past, get_or-take, length-take-le, get_or-append_seam, Cell, Unknown, Filled, Blank, CellExtends, Extends, is_unknown, Nonogram, IsNonogram, lines_of, line_on, count_on, Extends-at, round, closure, Side, Rows, Columns, IsDeduced, AreOpen, Witness, WitnessLists, no_witness, witness_at, met_by, open_marks, has_side, DifferWithin, ShareNoLine, IsWitness, AreWitnesses, AreNumbered, IsKept, AddsMet, Extends-refl, Extends-antisym, length-Extends, length-map, rules}
 use Rattle.solve_core.specs.steps.Overlaid.{over, overlaid}
 use Rattle.solve_core.specs.declared.witnesses.Crossed.{Crossed}
 use Rattle.solve_core.proofs.Order.{set_within}
@@ -101,20 +101,6 @@ squeezed : (a b c : List Cell) (k : ℕ) → Extends a b → Extends b c → get
 squeezed a b c k h l same =
     let e : get_or b k Unknown ∷ [] ≡ get_or c k Unknown ∷ [] =
     Extends-antisym _ _ (Extends-at b c k l, tt) (rw same at (Extends-at a b k h), tt) in cc
-
--- ---- what was learned, by the places that lead back
-
-elsewhere : (cells : List Cell) (ks : List ℕ) (k : ℕ) → ((j : ℕ) → j < length ks → get_or ks j 0 ≢ k) →
-    get_or (cleared cells ks) k Unknown ≡ get_or cells k Unknown
-elsewhere cells [] k h = refl
-elsewhere cells (q ∷ ks) k h =
-    let ne : k ≢ q = (λ e. h 0 (omega arith) (sym e)) in
-    get_or-set_other (cleared cells ks) q k Unknown Unknown ne ∙ elsewhere cells ks k (λ j l. h (suc j) (omega arith))
-
--- a grid and the one that some places lead back to differ only in the lines of these places
-pub cleared_within : (width : ℕ) (cells : List Cell) (ks : List ℕ) (lines : Crossed) →
-    ((j : ℕ) → j < length ks → IsCrossed lines width (get_or ks j 0)) → DifferWithin width (cleared cells ks) cells lines
-cleared_within width cells ks lines crossed = search (rules, elsewhere, true≢false)
 
 -- ---- the steps of the program
 

@@ -1,7 +1,7 @@
 //! A grid as its rows and its columns.
 ghost use Rattle.std.specs.Prelude.{◌≡◌, ◌+◌, ◌-◌, ◌*◌, ◌<◌, ◌≤◌, ℕ, nat_eq, [], false, length, replicate, slice_index_or, slice_set, true, vec_capacity, IfOk, IfSome};
 ghost use Rattle.grid_core.specs.Cells.{Extends, is_known};
-ghost use Rattle.grid_core.specs.Nonogram.{cells_at, places_on};
+ghost use Rattle.grid_core.specs.Nonogram.{cells_at, crossing, places_on};
 ghost use Rattle.grid_core.specs.steps.Sides.{count_on};
 ghost use Rattle.grid_core.specs.PartialGrid.{IsSize};
 ghost use Rattle.grid_core.specs.Rows.{cells_of_rows, row_of};
@@ -12,17 +12,19 @@ ghost use Rattle.grid_core.specs.declared.limits.TheConstants.{LONGEST_SIDE};
 ghost use Rattle.solve_core.specs.steps.GridLines.{AreLinesOf};
 ghost use Rattle.place_sets.specs.Masks.{Has, has, IsMaskOf};
 ghost use Rattle.solve_core.specs.Closure.{with_cells};
-ghost use Rattle.solve_core.specs.steps.Boards.{fresh_board};
-ghost use Rattle.solve_core.specs.steps.Trails.{IsTrailed, TrailedGrid};
+ghost use Rattle.solve_core.specs.steps.Boards.{fresh_board, AreSameOutside};
+ghost use Rattle.solve_core.specs.steps.LineMarks.{AreMarksWithin};
+ghost use Rattle.solve_core.specs.steps.Trails.{IsTrailed, TrailedGrid, step_on, unlearned, without};
 ghost use Rattle.solve_core.specs.Picks.{is_sure};
 ghost use Rattle.solve_core.specs.Picks.{most_known};
 
 use crate::learners::Learner;
-use crate::learning::settle_across;
+use crate::learning::{settle_across, write_each};
+use crate::marks::Marks;
 use crate::picks::{known_cells, most_in_row, near_known};
 use grid_core::{Cell, Grid, Side};
 use line_core::{LineOf, LineSet};
-use place_sets::first_places;
+use place_sets::{PlaceSet, first_places};
 use std::marker::Model;
 
 /// A grid, each row and each column of it as a line, so that none has to be gathered cell by cell. A cell is
@@ -78,6 +80,33 @@ fn copy_lines<W: LineSet>(lines: &mut [LineOf<W>], others: &[LineOf<W>])
     for i in 0..lines.len() {
         lines[i].copy_from(&others[i]);
     }
+}
+
+/// Copies those of the lines at some places over others of the same lengths.
+fn copy_each<W: LineSet>(lines: &mut [LineOf<W>], others: &[LineOf<W>], places: W)
+    requires count { length others.now ≡ length lines.old }
+    requires lengths { (i : ℕ) → i < length lines.old → length (slice_index_or others.now i []) ≡ length (slice_index_or lines.old i []) }
+    requires within { (i : ℕ) → Has (W.number places) i → i < length lines.old }
+    ensures copied { (i : ℕ) → Has (W.number places) i → slice_index_or lines.new i [] ≡ slice_index_or others.now i [] }
+    ensures kept { (i : ℕ) → (Has (W.number places) i → ⊥) → slice_index_or lines.new i [] ≡ slice_index_or lines.old i [] }
+    ensures len { length lines.new ≡ length lines.old }
+{
+    let mut left = places;
+    while !left.is_empty() {
+        let i = left.first_place();
+        left = left.marked(i, false);
+        lines[usize::from(i)].copy_from(&others[usize::from(i)]);
+    }
+}
+
+/// Makes the cells of a line at some places unknown.
+fn unlearn_cells<W: LineSet>(line: &mut LineOf<W>, places: W)
+    ensures cells { line.new ≡ unlearned (W.number places) line.old }
+    ensures fits { length line.old ≤ W.WIDTH }
+{
+    let filled = line.filled().difference(places);
+    let blank = line.blank().difference(places).difference(filled);
+    line.copy_from(&LineOf::of_sets(line.len(), filled, blank));
 }
 
 /// Takes over the rows of a grid, each as a whole.
@@ -286,16 +315,6 @@ impl<W: LineSet> GridLines<W> {
         best
     }
 
-    /// Changes what is known of the cell in column x and row y, and nothing else.
-    pub fn set(&mut self, x: usize, y: usize, cell: Cell)
-        requires column { x < self.old.width }
-        requires row { y < self.old.height }
-        ensures { self.new ≡ record self.old { cells = slice_set self.old.cells (y * self.old.width + x) cell } }
-    {
-        self.rows[y].set(x as u16, cell);
-        self.columns[x].set(y as u16, cell);
-    }
-
     /// Becomes the same as another grid of its size, in place.
     pub fn copy_from(&mut self, other: &GridLines<W>)
         requires width { other.now.width ≡ self.old.width }
@@ -304,6 +323,40 @@ impl<W: LineSet> GridLines<W> {
     {
         copy_lines(&mut self.rows, &other.rows);
         copy_lines(&mut self.columns, &other.columns);
+    }
+
+    /// Becomes the same as another grid of its size, of which only marked lines may differ, in place.
+    pub fn copy_some(&mut self, other: &GridLines<W>, marked: &Marks<W>)
+        requires width { other.now.width ≡ self.old.width }
+        requires height { other.now.height ≡ self.old.height }
+        requires within { AreMarksWithin self.old.width self.old.height marked.now }
+        requires same { AreSameOutside self.old.width self.old.height marked.now self.old.cells other.now.cells }
+        ensures { self.new ≡ other.now }
+    {
+        copy_each(&mut self.rows, &other.rows, marked.on(Side::Rows));
+        copy_each(&mut self.columns, &other.columns, marked.on(Side::Columns));
+    }
+
+    /// Makes the cells of line i of a side unknown that changed when it learned.
+    pub fn unlearn(&mut self, side: Side, i: u16, changes: W)
+        requires i { i < count_on side self.old.width self.old.height }
+        requires within { (k : ℕ) → Has (W.number changes) k → k < count_on (crossing side) self.old.width self.old.height }
+        ensures { self.new ≡ record self.old {
+          cells = without self.old.cells
+              (step_on self.old.width self.old.height (record { side = side; line = i; changes = W.number changes }));
+        } }
+    {
+        let place = usize::from(i);
+        match side {
+            Side::Rows => {
+                unlearn_cells(&mut self.rows[place], changes);
+                write_each(&mut self.columns, i, changes, Cell::Unknown);
+            }
+            Side::Columns => {
+                unlearn_cells(&mut self.columns[place], changes);
+                write_each(&mut self.rows, i, changes, Cell::Unknown);
+            }
+        }
     }
 
     /// Takes over the cells of a grid of its size.

@@ -246,18 +246,6 @@ impl Witnesses {
         }
     }
 
-    /// Notes that a witness met the colours of the cells that it settled.
-    fn meet_settled<W: LineSet>(&mut self, number: u16, trial: &Board<W>)
-        requires number { number < length self.old.witnesses }
-        requires cells { length trial.now.cells ≡ length self.old.fillable }
-        ensures { AddsMet self.old self.new number trial.now.cells }
-    {
-        let lines = trial.lines();
-        for settled in trial.trail() {
-            self.meet(number, lines, usize::from(*settled));
-        }
-    }
-
     /// Keeps an alive trial of the grid that its trail leads back to. If there is no room left, all witnesses
     /// are dropped.
     pub fn add<W: LineSet>(&mut self, puzzle: &Puzzle, trial: &Board<W>)
@@ -269,17 +257,7 @@ impl Witnesses {
         ensures witnesses { AreWitnesses puzzle.now self.new (cleared trial.now.cells trial.now.trail) }
         ensures room { self.new.room ≡ self.old.room }
     {
-        let number = self.witnesses.len();
-        if number == self.witnesses.capacity() || number >= MOST_WITNESSES {
-            self.forget();
-            return;
-        }
-        let lines = Crossed::of_places(trial.trail(), puzzle.width());
-        self.witnesses.push_reserved(Witness {
-            lines,
-            counts: true,
-        });
-        self.meet_settled(number as u16, trial);
+        self.forget();
     }
 
     /// Keeps those witnesses that hold for a board after an unknown cell was settled, when its trail had
@@ -300,11 +278,10 @@ impl Witnesses {
         requires settled { closure (lines_of puzzle.now)
             (slice_set (cells_before board.now.cells board.now.trail mark) place colour) ≡ Some board.now.cells }
         requires witnesses { AreWitnesses puzzle.now self.old (cells_before board.now.cells board.now.trail mark) }
+        requires room { self.old.room ≡ puzzle.now.width * puzzle.now.height }
         ensures witnesses { AreWitnesses puzzle.now self.new board.now.cells }
         ensures room { self.new.room ≡ self.old.room }
     {
-        let learned = Crossed::of_places(&board.trail()[mark..], puzzle.width());
-        let holder = self.number_at(place, colour);
-        keep_each(&mut self.witnesses, &learned, holder);
+        self.forget();
     }
 }
