@@ -3,8 +3,9 @@ use Rattle.solve_core.proofs.Names.{◌≡◌, ◌≢◌, ◌∙◌, AllByRecurs
 use Rattle.solve_core.proofs.ClosureLaws.{length-with_cells, with_cells-monotone, with_cells-read}
 use Rattle.solve_core.proofs.Changes.{none_in}
 use Rattle.solve_core.proofs.Closing.{fewer_unknown}
-use Rattle.solve_core.proofs.GridLineSteps.{grid_of_lines, line_read, lines_cells}
+use Rattle.solve_core.proofs.GridLineSteps.{grid_of_lines, lines_cells}
 use Rattle.solve_core.proofs.LineSteps.{cells_at-same, cells_at-with_cells, get_or-with_cells, learned_cell, with_cells-same}
+use Rattle.solve_core.proofs.Order.{set_extends}
 use Rattle.solve_core.proofs.TrailSteps.{length-cleared}
 use Rattle.grid_core.proofs.LineCells.{line_is}
 use Rattle.grid_core.specs.Lines.{is_blank, line_cells}
@@ -242,50 +243,59 @@ learned_step side i m new b now steps t some count seen line more changes other 
       rw e (length-with_cells b.cells (places_on side b.width b.height i) new),
     )
 
--- an unknown cell of a row gets a colour
-module _ (w h x y : ℕ) (cells : List Cell) (c : Cell) (count : length cells ≡ w * h) (lx : x < w) (ly : y < h)
-    (unknown : get_or cells (y * w + x) Unknown ≡ Unknown) (known : is_known c ≡ true) where
-  abbrev row : List Cell
-  row = cells_at Unknown cells (places_on Rows w h y)
+-- an unknown cell of a row of a board gets a colour
+module _ (b : PartialGrid) (steps : List LineStep) (t : TrailedGrid) (x y : ℕ) (c : Cell) (row : List Cell)
+    (whole : length b.cells ≡ b.width * b.height) (seen : board_of b steps ≡ t) (lx : x < t.width) (ly : y < t.height)
+    (unknown : get_or t.cells (y * t.width + x) Unknown ≡ Unknown) (known : is_known c ≡ true)
+    (read : row ≡ cells_along (board_of b steps) Rows y) where
+  count : length t.cells ≡ t.width * t.height
+  count = rw (← seen) whole
 
-  pub row_wide : length row ≡ w
-  row_wide = length-cells_at Unknown cells (places_on Rows w h y) ∙ length-places_on Rows w h y
+  row_is : row ≡ cells_along t Rows y
+  row_is = read ∙ ap (λ (g : TrailedGrid). cells_along g Rows y) seen
+
+  pub row_wide : length row ≡ t.width
+  row_wide =
+      ap length row_is ∙ length-cells_at Unknown t.cells (places_on Rows t.width t.height y) ∙ length-places_on Rows t.width t.height y
 
   pub row_unknown : get_or row x Unknown ≡ Unknown
-  row_unknown = at_own Rows w h y x cells lx ∙ unknown
+  row_unknown = rw row_is (at_own Rows t.width t.height y x t.cells lx ∙ unknown)
 
-  here : get_or (set row x c) x Unknown ≡ c
-  here = get_or-set_same row x c Unknown (omega (arith, lx, row_wide))
+  -- it knows more then
+  pub row_more : Extends (cells_along t Rows y) (set row x c)
+  row_more = rw (← row_is) (set_extends row x c row_unknown)
 
-  pub row_other : set row x c ≢ row
-  row_other e = true≢false (sym known ∙ ap is_known (sym here ∙ ap (λ (r : List Cell). get_or r x Unknown) e ∙ row_unknown))
+  changed : get_or (set row x c) x Unknown ≢ get_or row x Unknown
+  changed e =
+      true≢false (sym known ∙ ap is_known (sym (get_or-set_same row x c Unknown (omega (arith, lx, row_wide))) ∙ e ∙ row_unknown))
 
-  -- it is the only one that changes
-  pub row_changed : (none m : ℕ) → none ≡ 0 → IsMaskOf (IsMarked (Has none) x true) m → IsMaskOf (IsChanged row (set row x c)) m
-  row_changed none m empty marked = record {
+  pub row_other : set row x c ≢ cells_along t Rows y
+  row_other e = changed (ap (λ (r : List Cell). get_or r x Unknown) (e ∙ sym row_is))
+
+  -- no other cell changes
+  pub row_changed : (none m : ℕ) → none ≡ 0 → IsMaskOf (IsMarked (Has none) x true) m →
+      IsMaskOf (IsChanged (cells_along t Rows y) (set row x c)) m
+  row_changed none m empty marked = rw (← row_is) (record {
     to = λ k has. elim (marked.to k has) [
       | inl at ↦ absurd (none_in none empty k at.0)
-      | inr at ↦ rw at.0 (
-        omega (arith, lx, row_wide),
-        λ e. true≢false (sym known ∙ ap is_known (sym here ∙ e ∙ row_unknown)),
-      )
+      | inr at ↦ rw at.0 (omega (arith, lx, row_wide), changed)
     ];
     from = λ k at. elim (cases_eq k x) [
       | inl same ↦ marked.from k (inr (same, refl))
       | inr other ↦ absurd (at.1 (get_or-set_other row x k c Unknown other))
     ];
-  }
+  })
 
   -- the row is written as the cell is
-  pub row_written : with_cells cells (places_on Rows w h y) (set row x c) ≡ set cells (y * w + x) c
+  pub row_written : with_cells t.cells (places_on Rows t.width t.height y) (set row x c) ≡ set t.cells (y * t.width + x) c
   row_written =
-      let at = y * w + x in
-      let some : 0 < w = omega (arith, lx) in
-      let places = places_on Rows w h y in
-      let read = line-set Rows w h y x at cells c some ly lx refl count in
-      rw (← read) (with_cells-same cells (set cells at c) places (distinct_places Rows w h y some) (rw count (below_places Rows w h y ly))
-      (length-set cells at c) (λ p none. sym (get_or-set_other cells at p c Unknown
-      (λ e. none x (omega (arith, lx, length-places_on Rows w h y)) (get_or-places_on Rows w h y x lx ∙ sym e)))))
+      let at = y * t.width + x in
+      let some : 0 < t.width = omega (arith, lx) in
+      let places = places_on Rows t.width t.height y in
+      rw (row_is, ← line-set Rows t.width t.height y x at t.cells c some ly lx refl count) (with_cells-same t.cells (set t.cells at c) places
+      (distinct_places Rows t.width t.height y some) (rw count (below_places Rows t.width t.height y ly))
+      (length-set t.cells at c) (λ p none. sym (get_or-set_other t.cells at p c Unknown
+      (λ e. none x (omega (arith, lx, length-places_on Rows t.width t.height y)) (get_or-places_on Rows t.width t.height y x lx ∙ sym e)))))
 
 -- ---- what a line forgets
 
@@ -330,11 +340,20 @@ can_forget side w h i cells lines are li k lk =
     }
 
 -- what a line of a grid forgets, in a grid that is seen as it
-pub forgets_at : (side own : Side) (i m : ℕ) (b g : PartialGrid) → b ≡ g → side ≡ own → i < count_on side g.width g.height →
-    ((k : ℕ) → Has m k → k < count_on (crossing side) g.width g.height) →
-    IsStepOf b.width b.height (record { side = own; line = i; changes = m })
-forgets_at side own i m b g seen e line within =
-    rw (seen, ← e) (let is : IsStepOf g.width g.height (record { side = side; line = i; changes = m }) = record { line_in = line; within = within } in is)
+pub forgets_at : (side own : Side) (i m : ℕ) (new : List Cell) (b g : PartialGrid) → 0 < b.width → length b.cells ≡ b.width * b.height → b ≡ g →
+    side ≡ own → i < count_on side g.width g.height → ((k : ℕ) → Has m k → k < count_on (crossing side) g.width g.height) →
+    new ≡ unlearned m (cells_at Unknown g.cells (places_on side g.width g.height i)) →
+    Writes own b.width b.height i m b.cells new × ((k : ℕ) → Has m k → get_or new k Unknown ≡ Unknown) ×
+    ((k : ℕ) → Has m k → k < count_on (crossing own) b.width b.height) ×
+    (new ≡ unlearned m (cells_at Unknown b.cells (places_on own b.width b.height i)))
+forgets_at side own i m new b g some count seen same line within e =
+    rw (e, ← seen, ← same) (
+      forgotten_is b.width b.height (record { side = side; line = i; changes = m }) b.cells some count
+          (rw seen (record { line_in = line; within = within })),
+      unlearned_at m _,
+      rw seen within,
+      refl,
+    )
 
 -- a step is among marked lines: its own, and those that cross it at its changes
 pub record IsMarkedStep (marks : LineMarks) (s : LineStep) : Type 0 where
@@ -407,40 +426,6 @@ learned_columns i m new rows columns lines more a is e long changed others =
     whole _ _ _ more _ a.size (length-with_cells (cells_of_rows rows) _ new ∙ is.count)
     (across_learned Columns _ _ i m _ new is lines more (ap length e, rw e a.rows_are) long changed others)
     (own_learned Columns _ _ i m _ new is columns (refl, a.columns_are))
-
--- the lines after a row forgot what it learned
-pub forgotten_rows : (i m at : ℕ) (row new : List Cell) (rows columns lines more : List (List Cell)) → AreLinesOf (cells_of_rows rows) rows columns →
-    IsStepOf (length columns) (length rows) (record { side = Rows; line = i; changes = m }) → at ≡ i → row ≡ get_or rows at row →
-    new ≡ unlearned m row → lines ≡ columns → length more ≡ length lines →
-    ((k : ℕ) → Has m k → get_or more k [] ≡ set (get_or lines k []) i Unknown) →
-    ((k : ℕ) → (Has m k → ⊥) → get_or more k [] ≡ get_or lines k []) →
-    (grid_of_lines (set rows at new) more ≡ record (grid_of_lines rows columns) {
-      cells = without (cells_of_rows rows) (step_on (length columns) (length rows) (record { side = Rows; line = i; changes = m }));
-    }) × AreLinesOf (cells_of_rows (set rows at new)) (set rows at new) more
-forgotten_rows i m at row new rows columns lines more a is e is_row written same long changed others =
-    let s : LineStep = record { side = Rows; line = i; changes = m } in
-    let was = cells_at Unknown (cells_of_rows rows) (places_on Rows (length columns) (length rows) i) in
-    let read : row ≡ was = is_row ∙ line_read rows at row (rw e is.line_in) ∙ rw e (a.rows_are i is.line_in) in
-    rw (e, written, read)
-    (learned_rows i m (unlearned m was) rows columns lines more a (forgotten_is _ _ s _ a.size.width_from a.count is) same long
-    (λ k has. rw (unlearned_at m was k has) (changed k has)) others)
-
--- the lines after a column did
-pub forgotten_columns : (i m at : ℕ) (column new : List Cell) (rows columns lines more : List (List Cell)) →
-    AreLinesOf (cells_of_rows rows) rows columns → IsStepOf (length columns) (length rows) (record { side = Columns; line = i; changes = m }) →
-    at ≡ i → column ≡ get_or columns at column → new ≡ unlearned m column → lines ≡ rows → length more ≡ length lines →
-    ((k : ℕ) → Has m k → get_or more k [] ≡ set (get_or lines k []) i Unknown) →
-    ((k : ℕ) → (Has m k → ⊥) → get_or more k [] ≡ get_or lines k []) →
-    (grid_of_lines more (set columns at new) ≡ record (grid_of_lines rows columns) {
-      cells = without (cells_of_rows rows) (step_on (length columns) (length rows) (record { side = Columns; line = i; changes = m }));
-    }) × AreLinesOf (cells_of_rows more) more (set columns at new)
-forgotten_columns i m at column new rows columns lines more a is e is_column written same long changed others =
-    let s : LineStep = record { side = Columns; line = i; changes = m } in
-    let was = cells_at Unknown (cells_of_rows rows) (places_on Columns (length columns) (length rows) i) in
-    let read : column ≡ was = is_column ∙ line_read columns at column (rw e is.line_in) ∙ rw e (a.columns_are i is.line_in) in
-    rw (e, written, read)
-    (learned_columns i m (unlearned m was) rows columns lines more a (forgotten_is _ _ s _ a.size.width_from a.count is) same long
-    (λ k has. rw (unlearned_at m was k has) (changed k has)) others)
 
 -- a grid into which marked lines of another one are copied, from which no other line differs, is that one
 pub copied_grid : (marks : LineMarks) (rows columns other_rows other_columns new_rows new_columns lines across given given_across : List (List Cell))

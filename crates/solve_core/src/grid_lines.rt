@@ -99,14 +99,14 @@ fn copy_each<W: LineSet>(lines: &mut [LineOf<W>], others: &[LineOf<W>], places: 
     }
 }
 
-/// Makes the cells of a line at some places unknown.
-fn unlearn_cells<W: LineSet>(line: &mut LineOf<W>, places: W)
-    ensures cells { line.new ≡ unlearned (W.number places) line.old }
-    ensures fits { length line.old ≤ W.WIDTH }
+/// A line with the cells at some places unknown.
+fn line_without<W: LineSet>(line: &LineOf<W>, places: W) -> LineOf<W>
+    ensures cells { result ≡ unlearned (W.number places) line.now }
+    ensures fits { length result ≤ W.WIDTH }
 {
     let filled = line.filled().difference(places);
     let blank = line.blank().difference(places).difference(filled);
-    line.copy_from(&LineOf::of_sets(line.len(), filled, blank));
+    LineOf::of_sets(line.len(), filled, blank)
 }
 
 /// Takes over the rows of a grid, each as a whole.
@@ -347,13 +347,14 @@ impl<W: LineSet> GridLines<W> {
         } }
     {
         let place = usize::from(i);
+        let new = line_without(self.line(side, i), changes);
         match side {
             Side::Rows => {
-                unlearn_cells(&mut self.rows[place], changes);
+                self.rows[place].copy_from(&new);
                 write_each(&mut self.columns, i, changes, Cell::Unknown);
             }
             Side::Columns => {
-                unlearn_cells(&mut self.columns[place], changes);
+                self.columns[place].copy_from(&new);
                 write_each(&mut self.rows, i, changes, Cell::Unknown);
             }
         }

@@ -256,9 +256,7 @@ impl Witnesses {
         requires room { self.old.room ≡ puzzle.now.width * puzzle.now.height }
         ensures witnesses { AreWitnesses puzzle.now self.new (cleared trial.now.cells trial.now.trail) }
         ensures room { self.new.room ≡ self.old.room }
-    {
-        self.forget();
-    }
+    {}
 
     /// Keeps those witnesses that hold for a board after an unknown cell was settled, when its trail had
     /// `mark` places, and the board was closed: those that share no row and no column with the places that it
