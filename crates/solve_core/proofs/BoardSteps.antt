@@ -1,82 +1,89 @@
--- What settling a cell and going back do to a board.
-use Rattle.solve_core.proofs.Names.{◌≡◌, ℕ, ◌+◌, ◌*◌, ◌<◌, ◌≤◌, true, List, [], ◌∷◌, ◌++◌, length, get_or, set, sym, ap, ◌∙◌, arith, length-append, length-set, replicate, length-replicate, Cell, Unknown, is_known, LONGEST_SIDE, Side, crossing, count_on, place_on, PartialGrid, IsSize, IsBoard, IsTrailed, TrailedGrid, rules}
-use Rattle.solve_core.proofs.SideLines.{cell_within}
+-- What learning and going back do to a board.
+use Rattle.solve_core.proofs.Names.{◌≡◌, refl, IsTrailed, board_of, cells_before, ℕ, ◌+◌, ◌-◌, ◌*◌, ◌<◌, ◌≤◌, inl, inr, List, [], ◌∷◌, ◌++◌, length, map, take, drop, sym, ap, ◌∙◌, arith, length-append, length-map, replicate, length-replicate, drop-append-le, drop-length, cases_lt, Cell, Unknown, PartialGrid, IsSize, IsBoard, LineStep, TrailStep, IsStepOf, step_on, without, cleared, unknown_count, rules}
+use Rattle.std.proofs.lemmas.List.{map-append}
+use Rattle.std.proofs.Math.Seq.{drop-append_seam, take-append_seam}
 use Rattle.solve_core.proofs.Closing.{unknown_count-le}
-use Rattle.solve_core.proofs.TrailSteps.{count-settled, length-cleared, all_append}
-use Rattle.solve_core.proofs.BranchLaws.{unknown_count-cleared_one, all_split}
-
--- a grid with a trail
-abbrev pub trailed : PartialGrid → List ℕ → TrailedGrid
-trailed g trail = record { width = g.width; height = g.height; cells = g.cells; trail = trail }
+use Rattle.solve_core.proofs.TrailSteps.{cleared-append, length-without, all_append, trailed-one}
+use Rattle.solve_core.proofs.BranchLaws.{all_split}
 
 -- a board with other cells, and nothing to go back to
-pub board-fresh : (g : PartialGrid) (old : TrailedGrid) (trail : List ℕ) (room left : ℕ) → IsBoard old room → g.width ≡ old.width →
-    g.height ≡ old.height → length g.cells ≡ length old.cells
-    → trail ≡ [] → left ≡ room → IsBoard (trailed g trail) left
-board-fresh g old trail room left b w h long t s = search (rules, unknown_count-le)
+pub board-fresh : (most : ℕ) (g old : PartialGrid) (steps none : List LineStep) (room left : ℕ) → IsBoard most old steps room →
+    g.width ≡ old.width → g.height ≡ old.height → length g.cells ≡ length old.cells → none ≡ [] → left ≡ room → IsBoard most g none left
+board-fresh most g old steps none room left b w h long t s = search (rules, unknown_count-le)
 
--- a board in which one more cell is settled
-pub board-settled : (g : PartialGrid) (old : TrailedGrid) (more : List ℕ) (room left k : ℕ) (c : Cell) → IsBoard old room →
-    k < length old.cells → get_or old.cells k Unknown ≡ Unknown → is_known c ≡ true
-    → g ≡ record { width = old.width; height = old.height; cells = set old.cells k c } → more ≡ old.trail ++ k ∷ [] → left ≡ room →
-    IsBoard (trailed g more) left
-board-settled g old more room left k c b h u n e m s =
-    let long : length (set old.cells k c) ≡ length old.cells = length-set old.cells k c in
-    rw e
+-- the cells before a step but the last one are the same without the last one
+before-last : (f : LineStep → TrailStep) (cells : List Cell) (steps : List LineStep) (s : LineStep) (mark : ℕ) → mark ≤ length steps →
+    cleared cells (drop mark (map f (steps ++ s ∷ []))) ≡ cleared (without cells (f s)) (drop mark (map f steps))
+before-last f cells steps s mark l = search (rules, map-append, drop-append-le, length-map, cleared-append)
+
+-- there is room for a step for each unknown cell
+pub board-room : (most : ℕ) (g : PartialGrid) (steps : List LineStep) (room : ℕ) → IsBoard most g steps room →
+    length steps + unknown_count g.cells ≤ length g.cells
+board-room most g steps room b =
+    let f = step_on g.width g.height in
+    let none : drop (length steps) (map f steps) ≡ [] = rw (← length-map steps f) (drop-length (map f steps)) in
+    rw none at (b.settled (length steps) (omega arith))
+
+-- a board with one step more
+pub board-learned : (most : ℕ) (g old : PartialGrid) (steps more : List LineStep) (s : LineStep) (room left : ℕ) → IsBoard most old steps room →
+    g.width ≡ old.width → g.height ≡ old.height → length g.cells ≡ length old.cells → more ≡ steps ++ s ∷ [] →
+    IsStepOf old.width old.height s → without g.cells (step_on old.width old.height s) ≡ old.cells →
+    unknown_count g.cells < unknown_count old.cells → left ≡ room → IsBoard most g more left
+board-learned most g old steps more s room left b w h long m is back fewer e =
+    let f = step_on old.width old.height in
+    let full = board-room most old steps room b in
+    rw (w, h, m)
     (record {
       size = b.size;
+      fits = b.fits;
       count = long ∙ b.count;
-      grid = record {
-        inside = rw (m, long) (all_append (λ j. j < length old.cells) old.trail (k ∷ []) b.grid.inside (h, tt));
-        settled = rw m (omega (arith, long, length-append old.trail (k ∷ []), count-settled old.cells k c h u n, b.grid.settled));
-      };
+      steps_are = all_append (IsStepOf old.width old.height) steps (s ∷ []) b.steps_are (is, tt);
+      settled = λ mark l. elim (cases_lt (length steps) mark) [
+        | inl last ↦
+            let end : mark ≡ length (map f (steps ++ s ∷ [])) =
+            omega (arith, last, l, length-map (steps ++ s ∷ []) f, length-append steps (s ∷ [])) in
+            rw (end, drop-length) (omega (arith, length-map (steps ++ s ∷ []) f, length-append steps (s ∷ []), full, fewer, long))
+        | inr before ↦ rw (before-last f g.cells steps s mark before, back, long) (b.settled mark before)
+      ];
       room_is = omega (arith, long, b.room_is);
     })
 
--- a board that learned cells of a line
-pub board-learned : (g : PartialGrid) (old : TrailedGrid) (more : List ℕ) (room left : ℕ) → IsBoard old room → g.width ≡ old.width →
-    g.height ≡ old.height → IsTrailed old (trailed g more) → left ≡ room → IsBoard (trailed g more) left
-board-learned g old more room left b w h t s =
-    let long : length g.cells ≡ length old.cells = sym (length-cleared g.cells t.added) ∙ ap length t.undo in
-    record {
-      size = rw (w, h) b.size;
-      count = long ∙ b.count ∙ (λ i. sym w i * sym h i);
-      grid = record {
-        inside = rw (t.kept, long) (all_append (λ j. j < length old.cells) old.trail t.added b.grid.inside (rw long at t.within));
-        settled = omega (arith, long, ap length t.kept, length-append old.trail t.added, t.count, b.grid.settled);
-      };
-      room_is = omega (arith, long, b.room_is);
-    }
+-- its trail leads back to the board as it was
+pub board-trailed : (g old : PartialGrid) (steps more : List LineStep) (s : LineStep) → g.width ≡ old.width → g.height ≡ old.height →
+    more ≡ steps ++ s ∷ [] → without g.cells (step_on old.width old.height s) ≡ old.cells → unknown_count g.cells < unknown_count old.cells →
+    IsTrailed (board_of old steps) (board_of g more)
+board-trailed g old steps more s w h m back fewer =
+    trailed-one (board_of old steps) (board_of g more) (step_on old.width old.height s) w h
+    (rw (w, h, m) (map-append (step_on old.width old.height) steps (s ∷ []))) back fewer
 
--- the trail leads back from the cells that a line has learned
-pub trail-learned : (g : PartialGrid) (old : TrailedGrid) (cells : List Cell) (more : List ℕ) →
-    IsTrailed old (record old { cells = cells; trail = more }) → g.cells ≡ cells → g.width ≡ old.width → g.height ≡ old.height →
-    IsTrailed old (trailed g more)
-trail-learned g old cells more t same w h = search (rules)
+-- what is left of the trail, and of the cells, without its last step
+pub board-before : (old : PartialGrid) (steps less : List LineStep) (s : LineStep) → steps ≡ less ++ s ∷ [] →
+    let g = board_of old steps in let last = length g.trail - 1 in
+    (map (step_on old.width old.height) less ≡ take last g.trail) × (without old.cells (step_on old.width old.height s) ≡ cells_before g.cells g.trail last)
+board-before old steps less s t =
+    let f = step_on old.width old.height in
+    let long : length (map f less ++ f s ∷ []) - 1 ≡ length (map f less) = omega (arith, length-append (map f less) (f s ∷ [])) in
+    rw (t, map-append, long) (sym (take-append_seam (map f less) (f s ∷ [])), rw (drop-append_seam) refl)
 
--- a board in which the last settled cell is unknown again
-pub board-undone : (g : PartialGrid) (old : TrailedGrid) (less : List ℕ) (room left k : ℕ) → IsBoard old room → old.trail ≡ less ++ k ∷ []
-    → g ≡ record { width = old.width; height = old.height; cells = set old.cells k Unknown } → left ≡ room → IsBoard (trailed g less) left
-board-undone g old less room left k b t e s =
-    let long : length (set old.cells k Unknown) ≡ length old.cells = length-set old.cells k Unknown in
+-- a board without its last step
+pub board-undone : (most : ℕ) (g old : PartialGrid) (steps less : List LineStep) (s : LineStep) (room left : ℕ) → IsBoard most old steps room →
+    steps ≡ less ++ s ∷ [] → g ≡ record old { cells = without old.cells (step_on old.width old.height s) } → left ≡ room →
+    IsBoard most g less left
+board-undone most g old steps less s room left b t e l =
+    let f = step_on old.width old.height in
+    let long = length-without old.cells (f s) in
+    let more : length steps ≡ length less + 1 = ap length t ∙ length-append less (s ∷ []) in
     rw e
     (record {
       size = b.size;
+      fits = b.fits;
       count = long ∙ b.count;
-      grid = record {
-        inside = rw long (all_split (λ j. j < length old.cells) less k (rw t at b.grid.inside)).1;
-        settled = omega (arith, long, ap length t, length-append less (k ∷ []), unknown_count-cleared_one old.cells k, b.grid.settled);
-      };
+      steps_are = (all_split (IsStepOf old.width old.height) less s (rw t at b.steps_are)).1;
+      settled = λ mark k. rw (long, ← before-last f old.cells less s mark k, ← t) (b.settled mark (omega arith));
       room_is = omega (arith, long, b.room_is);
     })
 
 -- a board of which nothing is known
-pub board-unknown : (w h room : ℕ) (g : PartialGrid) (trail : List ℕ) → IsSize w h →
-    g ≡ record { width = w; height = h; cells = replicate (w * h) Unknown } → trail ≡ [] → w * h + LONGEST_SIDE ≤ room
-    → IsBoard (trailed g trail) room
-board-unknown w h room g trail size e t fits = search (rules, length-replicate, unknown_count-le)
-
--- a cell of a line is one of the board's
-pub place-within : (g : TrailedGrid) (room : ℕ) (side : Side) (i k : ℕ) → IsBoard g room → i < count_on side g.width g.height →
-    k < count_on (crossing side) g.width g.height → place_on side g.width i k < length g.cells
-place-within g room side i k b li lk = omega (arith, cell_within side g.width g.height i k li lk, b.count)
+pub board-unknown : (most w h room : ℕ) (g : PartialGrid) (steps : List LineStep) → IsSize w h → (w ≤ most) × (h ≤ most) →
+    g ≡ record { width = w; height = h; cells = replicate (w * h) Unknown } → steps ≡ [] → w * h ≤ room → IsBoard most g steps room
+board-unknown most w h room g steps size fits e t l = search (rules, length-replicate, unknown_count-le)

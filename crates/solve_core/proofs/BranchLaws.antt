@@ -1,14 +1,6 @@
 -- The branches of a search: what settled cells, a filled guess and a blank one make of them.
-use Rattle.solve_core.proofs.Names.{◌≡◌, ℕ, zero, suc, ◌+◌, ◌<◌, ◌≤◌, List, [], ◌∷◌, ◌++◌, length, set, take, drop, refl, sym, ap, ◌∙◌, arith, length-append, append-nil, append_assoc, Option, Some, AllByRecursion, drop-length, drop-append-le, drop-append_seam, take-append_seam, length-take-le, take-append-drop, Cell, Unknown, Filled, Blank, GridLine, Branch, Guess, events, TrailedGrid, unknown_count, cleared, IsTrailed, cells_before, IsNext, IsBranch, AreInOrder, AreBefore, IsWork, pending, open_events, ready_events, rules}
+use Rattle.solve_core.proofs.Names.{◌≡◌, ℕ, zero, suc, ◌+◌, ◌<◌, ◌≤◌, List, [], ◌∷◌, ◌++◌, length, set, take, drop, refl, sym, ap, ◌∙◌, arith, length-append, append-nil, append_assoc, Option, Some, AllByRecursion, drop-length, drop-append-le, drop-append_seam, take-append_seam, length-take-le, take-append-drop, Cell, Filled, Blank, GridLine, Branch, Guess, events, TrailStep, TrailedGrid, cleared, IsTrailed, cells_before, IsNext, IsBranch, AreInOrder, AreBefore, IsWork, pending, open_events, ready_events, rules}
 use Rattle.solve_core.proofs.TrailSteps.{cleared-append, all_append}
-
--- each place that is cleared leaves at most one more unknown
-pub unknown_count-cleared_one : (cells : List Cell) (k : ℕ) → unknown_count (set cells k Unknown) ≤ unknown_count cells + 1
-unknown_count-cleared_one [] k = omega arith
-unknown_count-cleared_one (Unknown ∷ cells) zero = omega arith
-unknown_count-cleared_one (Unknown ∷ cells) (suc k) = omega (arith, unknown_count-cleared_one cells k)
-unknown_count-cleared_one (_ ∷ cells) zero = omega arith
-unknown_count-cleared_one (_ ∷ cells) (suc k) = unknown_count-cleared_one cells k
 
 drop_take : {X : Type 0} (m n : ℕ) (xs : List X) → m ≤ n → drop m (take n xs) ++ drop n xs ≡ drop m xs
 drop_take zero n xs h = take-append-drop n xs
@@ -17,13 +9,13 @@ drop_take (suc m) (suc n) [] h = refl
 drop_take (suc m) (suc n) (x ∷ xs) h = drop_take m n xs (omega arith)
 
 -- going back to a mark leaves what was before each earlier one
-pub before_back : (cells : List Cell) (trail : List ℕ) (earlier mark : ℕ) → earlier ≤ mark
+pub before_back : (cells : List Cell) (trail : List TrailStep) (earlier mark : ℕ) → earlier ≤ mark
     → cells_before (cells_before cells trail mark) (take mark trail) earlier ≡ cells_before cells trail earlier
 before_back cells trail earlier mark h =
     sym (cleared-append cells (drop earlier (take mark trail)) (drop mark trail)) ∙ ap (cleared cells) (drop_take earlier mark trail h)
 
 -- if the mark is the whole length of the trail, nothing is undone
-before-now : (cells : List Cell) (trail : List ℕ) → cells_before cells trail (length trail) ≡ cells
+before-now : (cells : List Cell) (trail : List TrailStep) → cells_before cells trail (length trail) ≡ cells
 before-now cells trail = ap (cleared cells) (drop-length trail)
 
 -- going back over all that was settled since gives the board as it was
@@ -54,20 +46,20 @@ order-more : (branches : List Branch) (last : Branch) → AreInOrder branches �
 order-more [] last h k = (tt, tt)
 order-more (b ∷ branches) last h k = search (rules, all_append, (order-more branches last h.1 k.1))
 
--- branches in order are no more than the places before which they were made
+-- branches in order are no more than the steps before which they were made
 order-count : (limit first : ℕ) (branches : List Branch) → AreInOrder branches → AreBefore limit branches →
     AllByRecursion (λ (b : Branch). first < b.mark) branches → first < limit → first + length branches < limit
 order-count limit first [] h k m l = omega arith
 order-count limit first (b ∷ branches) h k m l = omega (arith, m.0, order-count limit b.mark branches h.1 k.1 h.0 k.0)
 
--- branches in order are no more than `limit`, if each was made before the trail had `limit` places
+-- branches in order are no more than `limit`, if each was made before the trail had `limit` steps
 pub branch-count : (limit : ℕ) (branches : List Branch) → AreInOrder branches → AreBefore limit branches → length branches ≤ limit
 branch-count limit [] h k = omega arith
 branch-count limit (b ∷ branches) h k = omega (arith, order-count limit b.mark branches h.1 k.1 h.0 k.0)
 
 module _ (pick : List Cell → Option ℕ) (lines : List GridLine) where
   -- the branches mean the same for other cells and another trail, if the cells before each are the same
-  module _ (cells now : List Cell) (trail after : List ℕ) (limit : ℕ)
+  module _ (cells now : List Cell) (trail after : List TrailStep) (limit : ℕ)
       (same : (mark : ℕ) → mark < limit → cells_before now after mark ≡ cells_before cells trail mark) where
     pending-same : (branches : List Branch) → AreBefore limit branches →
         pending pick lines now after branches ≡ pending pick lines cells trail branches
@@ -90,13 +82,13 @@ module _ (pick : List Cell → Option ℕ) (lines : List GridLine) where
       pending pick lines new.cells new.trail branches ≡ pending pick lines old.cells old.trail branches
   trailed-pending old new branches t w = search (rules, pending-same, drop-append-le, cleared-append)
 
-  pending-last : (cells : List Cell) (trail : List ℕ) (branches : List Branch) (b : Branch) →
+  pending-last : (cells : List Cell) (trail : List TrailStep) (branches : List Branch) (b : Branch) →
       pending pick lines cells trail (branches ++ (b ∷ [])) ≡ Guess ∷
       (events pick lines (set (cells_before cells trail b.mark) b.place Blank) ++ pending pick lines cells trail branches)
   pending-last cells trail [] b = rw append-nil refl
   pending-last cells trail (x ∷ branches) b = rw (pending-last cells trail branches b, append_assoc) refl
 
-  module _ (cells : List Cell) (trail : List ℕ) (branches made : List Branch) (b : Branch) (e : made ≡ branches ++ (b ∷ []))
+  module _ (cells : List Cell) (trail : List TrailStep) (branches made : List Branch) (b : Branch) (e : made ≡ branches ++ (b ∷ []))
       (m : b.mark ≡ length trail) where
     -- a filled guess: its branch is kept
     pub fork-work : IsWork pick lines cells trail branches → AreBefore (length trail) branches → IsNext pick lines cells b.place →
@@ -108,7 +100,7 @@ module _ (pick : List Cell → Option ℕ) (lines : List GridLine) where
         ready_events pick lines cells (Some (b.place, Filled)) (pending pick lines cells trail made)
     fork-events = rw (e, pending-last cells trail branches b, m, before-now cells trail) refl
 
-  module _ (cells now : List Cell) (trail after : List ℕ) (all rest : List Branch) (b : Branch) (e : all ≡ rest ++ (b ∷ []))
+  module _ (cells now : List Cell) (trail after : List TrailStep) (all rest : List Branch) (b : Branch) (e : all ≡ rest ++ (b ∷ []))
       (f : now ≡ cells_before cells trail b.mark) (g : after ≡ take b.mark trail) (w : IsWork pick lines cells trail all) where
     -- what the last branch leaves
     last : AreBefore b.mark rest × AreInOrder rest

@@ -1,7 +1,7 @@
 -- A grid as its rows and its columns: its cells, and what changing one of them does.
-use Rattle.solve_core.proofs.Names.{◌≡◌, ℕ, ◌+◌, ◌-◌, ◌*◌, ◌/◌, ◌%◌, ◌<◌, ◌≤◌, List, [], ◌∷◌, length, get_or, set, refl, sym, ap, ◌∙◌, arith, length-set, get_or-set_same, get_or-set_other, replicate, ext_get_or, get_or_default, get_or-replicate, length-replicate, div_below, Cell, Unknown, PartialGrid, IsSize, Side, Rows, Columns, places_from, cells_at, crossing, places_on, count_on, place_on, length-places_from, get_or-places_from, length-cells_at, get_or-cells_at, IsUnknownCell, AreLinesOf, cells_of_rows, row_of, get_or-row_of, get_or-rows, length-row_of, length-rows, cases_eq, cases_lt, inl, inr, subst, rules}
-use Rattle.solve_core.proofs.SideLines.{along, line-set, same_place, row_within}
-use Rattle.solve_core.proofs.LineSteps.{cells_at-same, get_or-replicated}
+use Rattle.solve_core.proofs.Names.{◌≡◌, ℕ, ◌+◌, ◌-◌, ◌*◌, ◌/◌, ◌%◌, ◌<◌, ◌≤◌, List, [], ◌∷◌, length, get_or, refl, sym, ap, ◌∙◌, arith, replicate, ext_get_or, get_or_default, get_or-replicate, length-replicate, div_below, Cell, Unknown, PartialGrid, IsSize, places_from, cells_at, length-places_from, get_or-places_from, length-cells_at, get_or-cells_at, IsUnknownCell, AreLinesOf, cells_of_rows, row_of, get_or-row_of, get_or-rows, length-row_of, length-rows, cases_lt, inl, inr, subst, rules}
+use Rattle.solve_core.proofs.SideLines.{row_within}
+use Rattle.solve_core.proofs.LineSteps.{get_or-replicated}
 
 pub length-along : (cells : List Cell) (first step n : ℕ) → length (cells_at Unknown cells (places_from first step n)) ≡ n
 length-along cells first step n = length-cells_at Unknown cells (places_from first step n) ∙ length-places_from first step n
@@ -9,14 +9,6 @@ length-along cells first step n = length-cells_at Unknown cells (places_from fir
 pub get_or-along : (cells : List Cell) (first step n i k : ℕ) → i < n → first + i * step ≡ k →
     get_or (cells_at Unknown cells (places_from first step n)) i Unknown ≡ get_or cells k Unknown
 get_or-along cells first step n i k h e = search (rules, get_or-cells_at, length-places_from, get_or-places_from)
-
--- the lines of a side after cell k of line i was written
-line-written : (side : Side) (w h i k j at : ℕ) (cells line : List Cell) (lines : List (List Cell)) (c : Cell) → 0 < w →
-    length lines ≡ count_on side w h → i < length lines → k < count_on (crossing side) w h → at ≡ place_on side w i k →
-    length cells ≡ w * h → ((m : ℕ) → m < length lines → get_or lines m [] ≡ cells_at Unknown cells (places_on side w h m)) →
-    line ≡ set (get_or lines i []) k c → j < length lines → get_or (set lines i line) j [] ≡ cells_at Unknown (set cells at c) (places_on side w h j)
-line-written side w h i k j at cells line lines c positive count li lk e l are is lj =
-    grind (arith, cases_eq, get_or-set_same, line-set, get_or-set_other, cells_at-same, along, same_place)
 
 -- the column and the row of a place
 pub place_in : (cells : List Cell) (rows columns : List (List Cell)) (k : ℕ) → AreLinesOf cells rows columns → k < length cells
@@ -66,44 +58,6 @@ lines-long rows columns x y a lx ly = search (rules, length-along)
 -- the grid that rows and columns are
 abbrev pub grid_of_lines : List (List Cell) → List (List Cell) → PartialGrid
 grid_of_lines rows columns = record { width = length columns; height = length rows; cells = cells_of_rows rows }
-
--- a row that was taken out has the cell
-pub row-at : (rows columns : List (List Cell)) (row : List Cell) (x y : ℕ) → AreLinesOf (cells_of_rows rows) rows columns →
-    x < length columns → y < length rows → row ≡ get_or rows y row → x < length row
-row-at rows columns row x y a lx ly is = rw (is ∙ line_read rows y row ly) (omega (arith, lx, (lines-long rows columns x y a lx ly).0))
-
--- and so has a column
-pub column-at : (rows columns : List (List Cell)) (column : List Cell) (x y : ℕ) → AreLinesOf (cells_of_rows rows) rows columns →
-    x < length columns → y < length rows → column ≡ get_or columns x column → y < length column
-column-at rows columns column x y a lx ly is =
-    rw (is ∙ line_read columns x column lx) (omega (arith, ly, (lines-long rows columns x y a lx ly).1))
-
--- the lines of a grid after a cell was written in its row and its column, which were taken out
-pub cell-changed : (rows columns : List (List Cell)) (row new_row column new_column : List Cell) (x y : ℕ) (c : Cell) →
-    AreLinesOf (cells_of_rows rows) rows columns → x < length columns → y < length rows →
-    row ≡ get_or rows y row → new_row ≡ set row x c → column ≡ get_or columns x column → new_column ≡ set column y c →
-    AreLinesOf (cells_of_rows (set rows y new_row)) (set rows y new_row) (set columns x new_column)
-    × (grid_of_lines (set rows y new_row) (set columns x new_column)
-    ≡ record (grid_of_lines rows columns) { cells = set (cells_of_rows rows) (y * length columns + x) c })
-cell-changed rows columns row new_row column new_column x y c a lx ly is_row er is_column ec =
-    let w = length columns in
-    let h = length rows in
-    let k : ℕ = y * w + x in
-    let some : 0 < w = omega (arith, lx) in
-    let cells = cells_of_rows rows in
-    let lw : length (set columns x new_column) ≡ w = length-set columns x new_column in
-    let lh : length (set rows y new_row) ≡ h = length-set rows y new_row in
-    let after : AreLinesOf (set cells k c) (set rows y new_row) (set columns x new_column) = record {
-      size = rw (lw, lh) a.size;
-      count = rw (lw, lh) (length-set cells k c ∙ a.count);
-      rows_are = λ j below. rw lw (line-written Rows w h y x j k cells new_row rows c some refl ly lx refl a.count a.rows_are
-          (er ∙ ap (λ (line : List Cell). set line x c) (is_row ∙ line_read rows y row ly)) (omega (arith, below, lh)));
-      columns_are = λ j below. rw (lw, lh) (line-written Columns w h x y j k cells new_column columns c some refl lx ly refl a.count
-          a.columns_are (ec ∙ ap (λ (line : List Cell). set line y c) (is_column ∙ line_read columns x column lx))
-          (omega (arith, below, lw)));
-    } in
-    let same = lines_cells (set cells k c) (set rows y new_row) (set columns x new_column) after in
-    (rw same after, λ i. record { width = lw i; height = lh i; cells = same i })
 
 -- of no place of them anything is known
 read-unknown : (n : ℕ) (places : List ℕ) → cells_at Unknown (replicate n Unknown) places ≡ replicate (length places) Unknown

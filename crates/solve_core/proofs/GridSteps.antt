@@ -163,10 +163,6 @@ place_split p cells k is size l = search (rules, div_below)
 pub rest_closed : (p : Nonogram) (c : Closing) (cells : List Cell) → IsAtRest p c cells → round (lines_of p) cells ≡ Some cells
 rest_closed p c cells r = (closure-IsLeastClosed (lines_of p) cells).closed cells (unmarked_closed p c.marks cells r.marks r.idle.unmarked)
 
--- a place is its row times the width, plus its column, if the width is positive
-pub place_again : (k width other : ℕ) → width ≡ other → 0 < other → k / width * other + k % width ≡ k
-place_again k width other e h = rw e (omega arith)
-
 -- a closed grid is at rest if no line is marked
 pub closed_rest : (p : Nonogram) (c : Closing) (cells : List Cell) → IsNonogram p → length cells ≡ p.width * p.height →
     round (lines_of p) cells ≡ Some cells → IsIdle p c → IsAtRest p c cells

@@ -1,13 +1,20 @@
--- The lines of a grid after one of them was written whole, and each that crosses it where it changes.
-use Rattle.solve_core.proofs.Names.{◌≡◌, ◌≢◌, ◌∙◌, AreFresh, Blank, Filled, LineMarks, Nonogram, Some, colour, deduced, is_filled, is_known, subst, true, refl, ℕ, ◌*◌, ◌<◌, ◌≤◌, inl, inr, List, [], length, get_or, set, sym, ap, arith, length-set, get_or-set_same, get_or-set_other, cases_eq, set-get_or, Cell, Unknown, Side, Rows, Columns, Extends, IsChanged, cells_at, crossing, places_on, IsSize, PartialGrid, cells_of_rows, count_on, place_on, same_cells, get_or-cells_at, length-cells_at, length-places_on, get_or-places_on, Extends-at, Has, IsMaskOf, with_cells, AreLinesOf, CanLearn, IsLearning, TrailedGrid, length-Extends, ext_get_or, rules}
-use Rattle.solve_core.proofs.ClosureLaws.{length-with_cells}
+-- The lines of a grid after one of them was written whole, and each that crosses it where it changes: learned, or forgotten again.
+use Rattle.solve_core.proofs.Names.{◌≡◌, ◌≢◌, ◌∙◌, AreFresh, Blank, Filled, LineMarks, Nonogram, Some, bit_at, colour, cond, deduced, eq-eqb, has, is_filled, is_known, ne_eqb, subst, true, false, true≢false, refl, ℕ, ◌+◌, ◌*◌, ◌<◌, inl, inr, List, [], length, get_or, set, sym, ap, arith, length-set, get_or-set_same, get_or-set_other, cases_eq, cases_lt, get_or_past, set-get_or, zero-add, Cell, Unknown, Side, Rows, Columns, Extends, IsChanged, IsMarked, cells_at, crossing, places_on, IsSize, PartialGrid, cells_of_rows, count_on, place_on, same_cells, get_or-cells_at, length-cells_at, length-places_on, get_or-places_on, Extends-at, Extends-refl, Has, IsMaskOf, with_cells, AreLinesOf, board_of, cells_along, TrailedGrid, CanLearn, CanWriteIn, LineStep, IsStepOf, step_on, unlearned, without, unknown_count, length-Extends, ext_get_or, rules}
+use Rattle.solve_core.proofs.ClosureLaws.{length-with_cells, with_cells-monotone, with_cells-read}
+use Rattle.solve_core.proofs.Changes.{none_in}
+use Rattle.solve_core.proofs.Closing.{fewer_unknown}
 use Rattle.solve_core.proofs.GridLineSteps.{grid_of_lines, lines_cells}
-use Rattle.solve_core.proofs.LineSteps.{cells_at-same, cells_at-with_cells, get_or-with_cells, learned_cell}
+use Rattle.solve_core.proofs.LineSteps.{cells_at-same, cells_at-with_cells, get_or-with_cells, learned_cell, with_cells-same}
+use Rattle.solve_core.proofs.Order.{set_extends}
+use Rattle.grid_core.proofs.LineCells.{line_is}
+use Rattle.grid_core.specs.Lines.{is_blank, line_cells}
+use Rattle.std.proofs.lemmas.Bool.Decides.{nat_tests}
 use Rattle.line_core.specs.Pairs.{AreNeutral}
+use Rattle.solve_core.specs.steps.Boards.{grid_of_board}
 use Rattle.solve_core.specs.steps.LineMarks.{StayFresh}
 use Rattle.solve_core.specs.steps.LinePairs.{LineTables}
-use Rattle.solve_core.proofs.SideLines.{across, along, by_side, below_places, cell_within, column_within, row_within, crossing_twice, distinct_places, same_place}
-use Rattle.std.proofs.Math.Nat.{mul-le-mul_left}
+use Rattle.solve_core.proofs.SideLines.{across, along, by_side, below_places, crossing_twice, distinct_places, line-set, same_place}
+use Rattle.std.proofs.lemmas.List.FromFn.{get_or-map-range_with_len, length-map-range_with_len}
 
 -- line i of a side gets these cells, of which some change
 pub record Learns (side : Side) (w h i m : ℕ) (cells new : List Cell) : Type 0 where
@@ -24,15 +31,13 @@ pub learns_at : (side own : Side) (i m : ℕ) (new : List Cell) (b g : PartialGr
     IsMaskOf (IsChanged (cells_at Unknown g.cells (places_on side g.width g.height i)) new) m → Learns own b.width b.height i m b.cells new
 learns_at side own i m new b g some count seen e line more changes = search (rules)
 
--- what a row learns, in a grid with a trail
-pub row_learning : (b : TrailedGrid) (first w h i m : ℕ) (cells new : List Cell) → Learns Rows w h i m cells new → b.cells ≡ cells →
-    first ≡ i * w → IsLearning b first 1 w m new
-row_learning b first w h i m cells new is same e = search (rules, row_within)
-
--- and what a column does
-pub column_learning : (b : TrailedGrid) (first step w h i m : ℕ) (cells new : List Cell) → Learns Columns w h i m cells new → b.cells ≡ cells →
-    first ≡ i → step ≡ w → IsLearning b first step h m new
-column_learning b first step w h i m cells new is same e s = search (rules, column_within)
+-- line i of a side gets these cells, which at other places than some are as they were
+pub record Writes (side : Side) (w h i m : ℕ) (cells new : List Cell) : Type 0 where
+  pub some : 0 < w
+  pub line : i < count_on side w h
+  pub count : length cells ≡ w * h
+  pub long : length new ≡ count_on (crossing side) w h
+  pub others : (k : ℕ) → k < count_on (crossing side) w h → (Has m k → ⊥) → get_or new k Unknown ≡ get_or cells (place_on side w i k) Unknown
 
 -- the lines of a side have the cells of a grid
 abbrev pub AreOn : Side → ℕ → ℕ → List Cell → List (List Cell) → Type 0
@@ -53,44 +58,52 @@ at_across : (side : Side) (w h k t : ℕ) (cells : List Cell) → k < count_on (
     (get_or (cells_at Unknown cells (places_on (crossing side) w h k)) t Unknown ≡ get_or cells (place_on side w t k) Unknown)
 at_across side w h k t cells lk lt = search (rules, length-places_on, crossing_twice, length-cells_at, get_or-cells_at, across)
 
+-- a line with cells made unknown is as long
+pub length-unlearned : (m : ℕ) (line : List Cell) → length (unlearned m line) ≡ length line
+length-unlearned m line = length-map-range_with_len (λ (k : ℕ). cond (has m k) Unknown (get_or line k Unknown)) 0 (length line)
+
+-- and its cells are the others
+pub get_or-unlearned : (m : ℕ) (line : List Cell) (k : ℕ) → k < length line →
+    get_or (unlearned m line) k Unknown ≡ cond (has m k) Unknown (get_or line k Unknown)
+get_or-unlearned m line k l =
+    get_or-map-range_with_len (λ (j : ℕ). cond (has m j) Unknown (get_or line j Unknown)) 0 (length line) k k Unknown l (zero-add k)
+
+-- those at the places are unknown
+pub unlearned_at : (m : ℕ) (line : List Cell) (k : ℕ) → Has m k → get_or (unlearned m line) k Unknown ≡ Unknown
+unlearned_at m line k has = elim (cases_lt k (length line)) [
+  | inl l ↦ get_or-unlearned m line k l ∙ rw (eq-eqb (bit_at m k) 1 has) refl
+  | inr past ↦ get_or_past (unlearned m line) k Unknown (omega (arith, past, length-unlearned m line))
+]
+
 -- a known cell has the colour that it has
 pub coloured_as : (c : Cell) → is_known c ≡ true → colour (is_filled c) ≡ c
 coloured_as Filled known = refl
 coloured_as Blank known = refl
 coloured_as Unknown known = cc
 
-module _ (side : Side) (w h i m : ℕ) (cells new : List Cell) (is : Learns side w h i m cells new) where
+module _ (side : Side) (w h i m : ℕ) (cells new : List Cell) (is : Writes side w h i m cells new) where
   -- the cells of the line are the new ones
-  own_read : cells_at Unknown (after side w h i cells new) (places_on side w h i) ≡ new
-  own_read = search (rules, cells_at-with_cells, distinct_places, below_places, length-Extends, length-cells_at)
+  pub own_read : cells_at Unknown (after side w h i cells new) (places_on side w h i) ≡ new
+  own_read = search (rules, cells_at-with_cells, distinct_places, below_places, length-places_on)
+
+  -- another line of its side stays
+  pub own_kept : (k : ℕ) → k < count_on side w h → k ≢ i →
+      cells_at Unknown (after side w h i cells new) (places_on side w h k) ≡ cells_at Unknown cells (places_on side w h k)
+  own_kept k lk ne = grind (arith, cells_at-same, along, get_or-with_cells, same_place)
 
   -- the lines of its side
   own_learned : (own : List (List Cell)) → AreOn side w h cells own → AreOn side w h (after side w h i cells new) (set own i new)
-  own_learned own are =
-      grind (arith, length-set, cases_eq, get_or-set_same, own_read, get_or-set_other, cells_at-same, along, get_or-with_cells, same_place)
-
-  -- where a cell of the line changes
-  pub change_in : (k : ℕ) → Has m k → k < count_on (crossing side) w h
-  change_in k has =
-      let at = is.changes.to k has in (along side w h i k (omega (arith, at.0, length-cells_at Unknown cells (places_on side w h i)))).0
-
-  -- what changes can be written into the lines that cross
-  pub can_learn : (lines : List (List Cell)) → AreOn (crossing side) w h cells lines → (k : ℕ) → Has m k → CanLearn lines i new k
-  can_learn lines are k has =
-      let old = cells_at Unknown cells (places_on side w h i) in
-      let at = is.changes.to k has in
-      let here = change_in k has in
-      let line : k < length lines = omega (arith, here, are.0) in
-      let learned = learned_cell (get_or old k Unknown) (get_or new k Unknown) (Extends-at old new k is.more) at.1 in
-      let read = at_across side w h k i cells here is.line in
-      record {
-        ready = search (rules, at_own);
-        cell = omega (arith, at.0, length-Extends old new is.more);
-        known = learned.1;
-      }
+  own_learned own are = (
+    length-set own i new ∙ are.0,
+    λ k l. elim (cases_eq k i) [
+      | inl same ↦ rw same (get_or-set_same own i new [] (omega (arith, is.line, are.0)) ∙ sym own_read)
+      | inr other ↦ get_or-set_other own i k new [] other ∙ are.1 k (omega (arith, l, length-set own i new)) ∙
+          sym (own_kept k (omega (arith, l, length-set own i new, are.0)) other)
+    ],
+  )
 
   -- a line that crosses gets the cell of the new line
-  pub crossed : (k : ℕ) → k < count_on (crossing side) w h → cells_at Unknown (after side w h i cells new) (places_on (crossing side) w h k) ≡
+  crossed : (k : ℕ) → k < count_on (crossing side) w h → cells_at Unknown (after side w h i cells new) (places_on (crossing side) w h k) ≡
       set (cells_at Unknown cells (places_on (crossing side) w h k)) i (get_or new k Unknown)
   crossed k lk =
       let now = after side w h i cells new in
@@ -105,47 +118,243 @@ module _ (side : Side) (w h i m : ℕ) (cells new : List Cell) (is : Learns side
         | inr other ↦ search (rules, get_or-with_cells, along, same_place, at_across, get_or-set_other)
       ])
 
-  -- another line of its side stays
-  own_kept : (k : ℕ) → k < count_on side w h → k ≢ i →
-      cells_at Unknown (after side w h i cells new) (places_on side w h k) ≡ cells_at Unknown cells (places_on side w h k)
-  own_kept k lk ne = grind (arith, cells_at-same, along, get_or-with_cells, same_place)
-
-  -- and so does a line that crosses where nothing changes
-  across_kept : (k : ℕ) → k < count_on (crossing side) w h → (Has m k → ⊥) →
+  -- and so does a line that crosses at a place that isn't among those
+  pub across_kept : (k : ℕ) → k < count_on (crossing side) w h → (Has m k → ⊥) →
       cells_at Unknown (after side w h i cells new) (places_on (crossing side) w h k) ≡ cells_at Unknown cells (places_on (crossing side) w h k)
   across_kept k lk none =
-      let old = cells_at Unknown cells (places_on side w h i) in
-      let kept = same_cells (get_or old k Unknown) (get_or new k Unknown) (λ d. none (is.changes.from k (
-        omega (arith, lk, length-cells_at Unknown cells (places_on side w h i), length-places_on side w h i),
-        d,
-      ))) in
       crossed k lk ∙
-      rw (kept ∙ at_own side w h i k cells lk ∙ sym (at_across side w h k i cells lk is.line).1) (set-get_or _ i Unknown)
-
-  -- a line that crosses at a neutral cell knows all that is certain of it
-  pub neutral_settled : (clue : List ℕ) (k n : ℕ) → Has m k →
-      AreNeutral clue (cells_at Unknown cells (places_on (crossing side) w h k)) (is_filled (get_or new k Unknown)) n → Has n i →
-      let line = cells_at Unknown (after side w h i cells new) (places_on (crossing side) w h k) in deduced line clue ≡ Some line
-  neutral_settled clue k n has neutral own =
-      let old = cells_at Unknown cells (places_on side w h i) in
-      let here = change_in k has in
-      let learned = learned_cell (get_or old k Unknown) (get_or new k Unknown) (Extends-at old new k is.more) (is.changes.to k has).1 in
-      let at = at_across side w h k i cells here is.line in
-      let line = cells_at Unknown cells (places_on (crossing side) w h k) in
-      rw (crossed k here) (subst (λ (c : Cell). deduced (set line i c) clue ≡ Some (set line i c))
-      (coloured_as (get_or new k Unknown) learned.1) (neutral.nothing_else i at.0 (at.1 ∙ sym (at_own side w h i k cells here) ∙ learned.0) own))
-
-  -- lines that stay fresh have tables of their cells
-  pub stay_fresh : (p : Nonogram) (fresh later : LineMarks) (tables : LineTables) → p.width ≡ w → p.height ≡ h →
-      AreFresh p fresh tables cells → StayFresh side i (Has m) fresh later → AreFresh p later tables (after side w h i cells new)
-  stay_fresh p fresh later tables wide high f stay =
-      grind (arith, by_side, p.width, p.height, f.inside, stay.own, stay.across, f.table_is, own_kept, across_kept)
+      rw (is.others k lk none ∙ sym (at_across side w h k i cells lk is.line).1) (set-get_or _ i Unknown)
 
   -- the lines that cross
   across_learned : (lines more : List (List Cell)) → AreOn (crossing side) w h cells lines → length more ≡ length lines →
       ((k : ℕ) → Has m k → get_or more k [] ≡ set (get_or lines k []) i (get_or new k Unknown)) →
       ((k : ℕ) → (Has m k → ⊥) → get_or more k [] ≡ get_or lines k []) → AreOn (crossing side) w h (after side w h i cells new) more
   across_learned lines more are long changed others = search (rules, cases_eq, crossed, across_kept)
+
+-- ---- what a line learns
+
+module _ (side : Side) (w h i m : ℕ) (cells new : List Cell) (is : Learns side w h i m cells new) where
+  abbrev old : List Cell
+  old = cells_at Unknown cells (places_on side w h i)
+
+  -- it is written
+  pub learned_is : Writes side w h i m cells new
+  learned_is = record {
+    some = is.some;
+    line = is.line;
+    count = is.count;
+    long = sym (length-Extends old new is.more) ∙ length-cells_at Unknown cells (places_on side w h i) ∙ length-places_on side w h i;
+    others = λ k lk none.
+        same_cells (get_or old k Unknown) (get_or new k Unknown) (λ d. none (is.changes.from k (
+          omega (arith, lk, length-cells_at Unknown cells (places_on side w h i), length-places_on side w h i),
+          d,
+        ))) ∙ at_own side w h i k cells lk;
+  }
+
+  -- where a cell of the line changes
+  pub change_in : (k : ℕ) → Has m k → k < count_on (crossing side) w h
+  change_in k has =
+      let at = is.changes.to k has in (along side w h i k (omega (arith, at.0, length-cells_at Unknown cells (places_on side w h i)))).0
+
+  -- a cell that changes was unknown, and is known
+  learned_at : (k : ℕ) → Has m k → (get_or old k Unknown ≡ Unknown) × (is_known (get_or new k Unknown) ≡ true)
+  learned_at k has = learned_cell (get_or old k Unknown) (get_or new k Unknown) (Extends-at old new k is.more) (is.changes.to k has).1
+
+  -- what changes can be written into the lines that cross
+  pub can_learn : (lines : List (List Cell)) → AreOn (crossing side) w h cells lines → (k : ℕ) → Has m k → CanLearn lines i new k
+  can_learn lines are k has =
+      let here = change_in k has in
+      let line : k < length lines = omega (arith, here, are.0) in
+      let learned = learned_at k has in
+      let read = at_across side w h k i cells here is.line in
+      record {
+        line = line;
+        within = rw (are.1 k line) read.0;
+        unknown = rw (are.1 k line) (read.1 ∙ sym (at_own side w h i k cells here) ∙ learned.0);
+        cell = omega (arith, here, learned_is.long);
+        known = learned.1;
+      }
+
+  -- a line that crosses at a neutral cell knows all that is certain of it
+  pub neutral_settled : (clue : List ℕ) (k n : ℕ) → Has m k →
+      AreNeutral clue (cells_at Unknown cells (places_on (crossing side) w h k)) (is_filled (get_or new k Unknown)) n → Has n i →
+      let line = cells_at Unknown (after side w h i cells new) (places_on (crossing side) w h k) in deduced line clue ≡ Some line
+  neutral_settled clue k n has neutral own =
+      let here = change_in k has in
+      let learned = learned_at k has in
+      let at = at_across side w h k i cells here is.line in
+      let line = cells_at Unknown cells (places_on (crossing side) w h k) in
+      rw (crossed side w h i m cells new learned_is k here) (subst (λ (c : Cell). deduced (set line i c) clue ≡ Some (set line i c))
+      (coloured_as (get_or new k Unknown) learned.1) (neutral.nothing_else i at.0 (at.1 ∙ sym (at_own side w h i k cells here) ∙ learned.0) own))
+
+  -- lines that stay fresh have tables of their cells
+  pub stay_fresh : (p : Nonogram) (fresh later : LineMarks) (tables : LineTables) → p.width ≡ w → p.height ≡ h →
+      AreFresh p fresh tables cells → StayFresh side i (Has m) fresh later → AreFresh p later tables (after side w h i cells new)
+  stay_fresh p fresh later tables wide high f stay =
+      let own = own_kept side w h i m cells new learned_is in
+      let others = across_kept side w h i m cells new learned_is in
+      grind (arith, by_side, p.width, p.height, f.inside, stay.own, stay.across, f.table_is, own, others)
+
+  -- taken back, it leaves the cells as they were
+  pub learned_back : without (after side w h i cells new) (step_on w h (record { side = side; line = i; changes = m })) ≡ cells
+  learned_back =
+      let now = after side w h i cells new in
+      let places = places_on side w h i in
+      let line : unlearned m new ≡ old = ext_get_or Unknown (unlearned m new) old
+      (length-unlearned m new ∙ sym (length-Extends old new is.more)) (λ k l.
+      let here : k < length new = rw (length-unlearned m new) at l in
+      get_or-unlearned m new k here ∙ elim (cases_eq (bit_at m k) 1) [
+        | inl has ↦ rw (eq-eqb (bit_at m k) 1 has) (sym (learned_at k has).0)
+        | inr none ↦ rw (ne_eqb (bit_at m k) 1 none)
+            (learned_is.others k (omega (arith, here, learned_is.long)) none ∙
+            sym (at_own side w h i k cells (omega (arith, here, learned_is.long))))
+      ]) in
+      rw (own_read side w h i m cells new learned_is, line)
+      (with_cells-same now cells places (distinct_places side w h i is.some)
+      (rw (length-with_cells cells places new, is.count) (below_places side w h i is.line)) (sym (length-with_cells cells places new))
+      (λ q none. get_or-with_cells cells places new q (λ k l e. absurd (none k l e))))
+
+  -- fewer cells are unknown
+  pub learned_fewer : new ≢ old → unknown_count (after side w h i cells new) < unknown_count cells
+  learned_fewer other =
+      let now = after side w h i cells new in
+      let more : Extends cells now = rw (with_cells-read Unknown cells (places_on side w h i)) at
+      (with_cells-monotone cells cells (places_on side w h i) old new (Extends-refl cells) is.more) in
+      elim (fewer_unknown cells now more) [
+        | inl same ↦ absurd (other (sym (own_read side w h i m cells new learned_is) ∙
+            ap (λ (g : List Cell). cells_at Unknown g (places_on side w h i)) same))
+        | inr fewer ↦ fewer
+      ]
+
+-- what a line learned in a board is a step of it
+pub learned_step : (side : Side) (i m : ℕ) (new : List Cell) (b now : PartialGrid) (steps : List LineStep) (t : TrailedGrid) → 0 < b.width →
+    length b.cells ≡ b.width * b.height → board_of b steps ≡ t → i < count_on side t.width t.height → Extends (cells_along t side i) new →
+    IsMaskOf (IsChanged (cells_along t side i) new) m → new ≢ cells_along t side i →
+    now.cells ≡ with_cells b.cells (places_on side b.width b.height i) new →
+    let s : LineStep = record { side = side; line = i; changes = m } in
+    IsStepOf b.width b.height s × (without now.cells (step_on b.width b.height s) ≡ b.cells) ×
+    (unknown_count now.cells < unknown_count b.cells) × (length now.cells ≡ length b.cells)
+learned_step side i m new b now steps t some count seen line more changes other e =
+    let is = learns_at side side i m new b (grid_of_board t) some count (λ j. grid_of_board (seen j)) refl line more changes in (
+      record { line_in = is.line; within = change_in _ _ _ _ _ _ _ is },
+      rw e (learned_back _ _ _ _ _ _ _ is),
+      rw e (learned_fewer _ _ _ _ _ _ _ is (λ same. other (same ∙ ap (λ (g : TrailedGrid). cells_along g side i) seen))),
+      rw e (length-with_cells b.cells (places_on side b.width b.height i) new),
+    )
+
+-- an unknown cell of a row of a board gets a colour
+module _ (b : PartialGrid) (steps : List LineStep) (t : TrailedGrid) (x y : ℕ) (c : Cell) (row : List Cell)
+    (whole : length b.cells ≡ b.width * b.height) (seen : board_of b steps ≡ t) (lx : x < t.width) (ly : y < t.height)
+    (unknown : get_or t.cells (y * t.width + x) Unknown ≡ Unknown) (known : is_known c ≡ true)
+    (read : row ≡ cells_along (board_of b steps) Rows y) where
+  count : length t.cells ≡ t.width * t.height
+  count = rw (← seen) whole
+
+  row_is : row ≡ cells_along t Rows y
+  row_is = read ∙ ap (λ (g : TrailedGrid). cells_along g Rows y) seen
+
+  pub row_wide : length row ≡ t.width
+  row_wide =
+      ap length row_is ∙ length-cells_at Unknown t.cells (places_on Rows t.width t.height y) ∙ length-places_on Rows t.width t.height y
+
+  pub row_unknown : get_or row x Unknown ≡ Unknown
+  row_unknown = rw row_is (at_own Rows t.width t.height y x t.cells lx ∙ unknown)
+
+  -- it knows more then
+  pub row_more : Extends (cells_along t Rows y) (set row x c)
+  row_more = rw (← row_is) (set_extends row x c row_unknown)
+
+  changed : get_or (set row x c) x Unknown ≢ get_or row x Unknown
+  changed e =
+      true≢false (sym known ∙ ap is_known (sym (get_or-set_same row x c Unknown (omega (arith, lx, row_wide))) ∙ e ∙ row_unknown))
+
+  pub row_other : set row x c ≢ cells_along t Rows y
+  row_other e = changed (ap (λ (r : List Cell). get_or r x Unknown) (e ∙ sym row_is))
+
+  -- no other cell changes
+  pub row_changed : (none m : ℕ) → none ≡ 0 → IsMaskOf (IsMarked (Has none) x true) m →
+      IsMaskOf (IsChanged (cells_along t Rows y) (set row x c)) m
+  row_changed none m empty marked = rw (← row_is) (record {
+    to = λ k has. elim (marked.to k has) [
+      | inl at ↦ absurd (none_in none empty k at.0)
+      | inr at ↦ rw at.0 (omega (arith, lx, row_wide), changed)
+    ];
+    from = λ k at. elim (cases_eq k x) [
+      | inl same ↦ marked.from k (inr (same, refl))
+      | inr other ↦ absurd (at.1 (get_or-set_other row x k c Unknown other))
+    ];
+  })
+
+  -- the row is written as the cell is
+  pub row_written : with_cells t.cells (places_on Rows t.width t.height y) (set row x c) ≡ set t.cells (y * t.width + x) c
+  row_written =
+      let at = y * t.width + x in
+      let some : 0 < t.width = omega (arith, lx) in
+      let places = places_on Rows t.width t.height y in
+      rw (row_is, ← line-set Rows t.width t.height y x at t.cells c some ly lx refl count) (with_cells-same t.cells (set t.cells at c) places
+      (distinct_places Rows t.width t.height y some) (rw count (below_places Rows t.width t.height y ly))
+      (length-set t.cells at c) (λ p none. sym (get_or-set_other t.cells at p c Unknown
+      (λ e. none x (omega (arith, lx, length-places_on Rows t.width t.height y)) (get_or-places_on Rows t.width t.height y x lx ∙ sym e)))))
+
+-- ---- what a line forgets
+
+-- a step of a line is taken back by writing the line
+pub forgotten_is : (w h : ℕ) (s : LineStep) (cells : List Cell) → 0 < w → length cells ≡ w * h → IsStepOf w h s →
+    Writes s.side w h s.line s.changes cells (unlearned s.changes (cells_at Unknown cells (places_on s.side w h s.line)))
+forgotten_is w h s cells some count is =
+    let line = cells_at Unknown cells (places_on s.side w h s.line) in
+    let long = length-cells_at Unknown cells (places_on s.side w h s.line) ∙ length-places_on s.side w h s.line in
+    record {
+      some = some;
+      line = is.line_in;
+      count = count;
+      long = length-unlearned s.changes line ∙ long;
+      others = λ k lk none.
+          get_or-unlearned s.changes line k (omega (arith, lk, long)) ∙
+          rw (ne_eqb (bit_at s.changes k) 1 none) (at_own s.side w h s.line k cells lk);
+    }
+
+-- the cells of a line without some places, by sets of its filled and of its blank cells
+pub forgotten_cells : (len m f b free clear blank : ℕ) (line : List Cell) → len ≡ length line →
+    ((i : ℕ) → i < length line → has f i ≡ is_filled (get_or line i Unknown)) → ((i : ℕ) → i < length line → has b i ≡ is_blank (get_or line i Unknown)) →
+    IsMaskOf (λ i. Has f i × (has m i ≡ false)) free → IsMaskOf (λ i. Has b i × (has m i ≡ false)) clear →
+    IsMaskOf (λ i. Has clear i × (has free i ≡ false)) blank → line_cells len free blank ≡ unlearned m line
+forgotten_cells len m f b free clear blank line e filled blanks without_filled without_blank apart =
+    line_is len free blank (unlearned m line) (length-unlearned m line ∙ sym e) (λ i l.
+    let here : i < length line = omega (arith, l, e) in
+    let told = filled i here in
+    let told_blank = blanks i here in
+    rw (get_or-unlearned m line i here)
+    (grind (arith, nat_tests, told, told_blank, without_filled.to i, without_filled.from i, without_blank.to i, without_blank.from i, apart.to i, apart.from i)))
+
+-- a cell that is made unknown can be written into a line that crosses
+pub can_forget : (side : Side) (w h i : ℕ) (cells : List Cell) (lines : List (List Cell)) → AreOn (crossing side) w h cells lines →
+    i < count_on side w h → (k : ℕ) → k < count_on (crossing side) w h → CanWriteIn lines i Unknown k
+can_forget side w h i cells lines are li k lk =
+    let line : k < length lines = omega (arith, lk, are.0) in
+    record {
+      line = line;
+      within = rw (are.1 k line) (at_across side w h k i cells lk li).0;
+      unknown = λ e. absurd (true≢false (sym e));
+    }
+
+-- what a line of a grid forgets, in a grid that is seen as it
+pub forgets_at : (side own : Side) (i m : ℕ) (new : List Cell) (b g : PartialGrid) → 0 < b.width → length b.cells ≡ b.width * b.height → b ≡ g →
+    side ≡ own → i < count_on side g.width g.height → ((k : ℕ) → Has m k → k < count_on (crossing side) g.width g.height) →
+    new ≡ unlearned m (cells_at Unknown g.cells (places_on side g.width g.height i)) →
+    Writes own b.width b.height i m b.cells new × ((k : ℕ) → Has m k → get_or new k Unknown ≡ Unknown) ×
+    ((k : ℕ) → Has m k → k < count_on (crossing own) b.width b.height) ×
+    (new ≡ unlearned m (cells_at Unknown b.cells (places_on own b.width b.height i)))
+forgets_at side own i m new b g some count seen same line within e =
+    rw (e, ← seen, ← same) (
+      forgotten_is b.width b.height (record { side = side; line = i; changes = m }) b.cells some count
+          (rw seen (record { line_in = line; within = within })),
+      unlearned_at m _,
+      rw seen within,
+      refl,
+    )
+
+-- ---- the lines of a grid
 
 -- rows and columns that have the cells of a grid are its lines
 whole : (w h : ℕ) (cells : List Cell) (rows columns : List (List Cell)) → IsSize w h → length cells ≡ w * h → AreOn Rows w h cells rows →
@@ -155,7 +364,7 @@ whole w h cells rows columns size count high wide = search (rules, lines_cells)
 
 -- the lines after a row was written
 pub learned_rows : (i m : ℕ) (new : List Cell) (rows columns lines more : List (List Cell)) → AreLinesOf (cells_of_rows rows) rows columns →
-    Learns Rows (length columns) (length rows) i m (cells_of_rows rows) new → lines ≡ columns → length more ≡ length lines →
+    Writes Rows (length columns) (length rows) i m (cells_of_rows rows) new → lines ≡ columns → length more ≡ length lines →
     ((k : ℕ) → Has m k → get_or more k [] ≡ set (get_or lines k []) i (get_or new k Unknown)) →
     ((k : ℕ) → (Has m k → ⊥) → get_or more k [] ≡ get_or lines k []) →
     (grid_of_lines (set rows i new) more
@@ -168,7 +377,7 @@ learned_rows i m new rows columns lines more a is e long changed others =
 
 -- the lines after a column was written
 pub learned_columns : (i m : ℕ) (new : List Cell) (rows columns lines more : List (List Cell)) → AreLinesOf (cells_of_rows rows) rows columns →
-    Learns Columns (length columns) (length rows) i m (cells_of_rows rows) new → lines ≡ rows → length more ≡ length lines →
+    Writes Columns (length columns) (length rows) i m (cells_of_rows rows) new → lines ≡ rows → length more ≡ length lines →
     ((k : ℕ) → Has m k → get_or more k [] ≡ set (get_or lines k []) i (get_or new k Unknown)) →
     ((k : ℕ) → (Has m k → ⊥) → get_or more k [] ≡ get_or lines k []) →
     (grid_of_lines more (set columns i new)
@@ -178,8 +387,3 @@ learned_columns i m new rows columns lines more a is e long changed others =
     whole _ _ _ more _ a.size (length-with_cells (cells_of_rows rows) _ new ∙ is.count)
     (across_learned Columns _ _ i m _ new is lines more (ap length e, rw e a.rows_are) long changed others)
     (own_learned Columns _ _ i m _ new is columns (refl, a.columns_are))
-
--- the place of a change fits 16 bits
-pub place_fits : (side : Side) (w h i m : ℕ) (cells new : List Cell) → IsSize w h → Learns side w h i m cells new → (k : ℕ) → Has m k →
-    place_on side w i k ≤ 65535
-place_fits side w h i m cells new size is k has = search (rules, cell_within, change_in, mul-le-mul_left)

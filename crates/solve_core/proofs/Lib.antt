@@ -9,7 +9,6 @@ pub mod TrialLaws
 pub mod StepLaws
 pub mod LineSteps
 pub mod LearnedLines
-pub mod LearnedTrails
 pub mod SideLines
 pub mod GridSteps
 pub mod GridLineSteps

@@ -1,7 +1,8 @@
 -- Writing a line into a grid: which cells change, and what the closure is afterwards.
-use Rattle.solve_core.proofs.Names.{◌≡◌, ◌≢◌, ℕ, zero, suc, ◌+◌, ◌*◌, ◌<◌, true, List, [], ◌∷◌, length, get_or, set, Option, Some, None, option_map, refl, sym, ap, ◌∙◌, arith, length-set, get_or-set_same, replicate, AllByRecursion, Cell, Unknown, CellExtends, Extends, is_known, GridLine, places_from, cells_at, deduced, length-places_from, get_or-places_from, length-cells_at, get_or-cells_at, with_cells, deduce_line, round, closure, IsDeduced, IsWritten, unknown_count, AtMost, Extends-refl, Extends-trans, Extends-antisym, length-Extends, deduced-above, deduced-settled, IsLeastClosed, rules}
+use Rattle.solve_core.proofs.Names.{◌≡◌, ◌≢◌, ℕ, zero, suc, ◌+◌, ◌*◌, ◌<◌, true, List, [], ◌∷◌, length, get_or, set, Option, Some, None, option_map, refl, sym, ap, ◌∙◌, ext_get_or, inl, inr, arith, length-set, get_or-set_same, replicate, AllByRecursion, Cell, Unknown, CellExtends, Extends, is_known, GridLine, places_from, cells_at, deduced, length-places_from, get_or-places_from, length-cells_at, get_or-cells_at, with_cells, deduce_line, round, closure, IsDeduced, IsWritten, unknown_count, AtMost, Extends-refl, Extends-trans, Extends-antisym, length-Extends, deduced-above, deduced-settled, IsLeastClosed, rules}
+use Rattle.solve_core.proofs.Changes.{is_among}
 use Rattle.solve_core.proofs.Closing.{fewer_unknown}
-use Rattle.solve_core.proofs.ClosureLaws.{IsLeastClosed-unique, closure-IsLeastClosed, with_cells-monotone, with_cells-read}
+use Rattle.solve_core.proofs.ClosureLaws.{IsLeastClosed-unique, closure-IsLeastClosed, length-with_cells, with_cells-monotone, with_cells-read}
 use Rattle.solve_core.proofs.StepLaws.{IsOneOf, closed_line, step_within}
 
 set_elsewhere : (g : List Cell) (p : ℕ) (c : Cell) (k : ℕ) → (p ≡ k → c ≡ get_or g k Unknown) →
@@ -44,6 +45,20 @@ cells_at-with_cells g [] [] a b e = refl
 cells_at-with_cells g (p ∷ ps) (c ∷ d) a b e =
     search (rules, get_or-with_cells, get_or-set_same, length-set, (cells_at-with_cells (set g p c) ps d a.1 (rw length-set b.1)))
 cells_at-with_cells g _ _ a b e = absurd (omega arith)
+
+-- a grid into which those cells are written by which another one differs is that one
+pub with_cells-same : (g z : List Cell) (places : List ℕ) → AreDistinct places → AreBelow (length g) places → length z ≡ length g →
+    ((p : ℕ) → ((k : ℕ) → k < length places → get_or places k 0 ≢ p) → get_or g p Unknown ≡ get_or z p Unknown) →
+    with_cells g places (cells_at Unknown z places) ≡ z
+with_cells-same g z places a b e others =
+    let line = cells_at Unknown z places in
+    let now = with_cells g places line in
+    let read = cells_at-with_cells g places line a b (length-cells_at Unknown z places) in
+    ext_get_or Unknown now z (length-with_cells g places line ∙ sym e) (λ p l. elim (is_among places p) [
+      | inl there ↦ rw (← there.2) (sym (get_or-cells_at Unknown now places there.0 there.1) ∙
+          ap (λ (r : List Cell). get_or r there.0 Unknown) read ∙ get_or-cells_at Unknown z places there.0 there.1)
+      | inr none ↦ get_or-with_cells g places line p (λ k h s. absurd (none k h s)) ∙ others p none
+    ])
 
 -- places that are a step apart are distinct, if the step is positive
 pub distinct_from : (first step n : ℕ) → 0 < step → AreDistinct (places_from first step n)

@@ -3,7 +3,7 @@ pub use Rattle.std.proofs.Common.{Bool, IfNone, IfSome, List, None, Option, Some
 pub use Rattle.std.proofs.Math.ListN.{get_or-eq_default, get_or-map, length-map}
 pub use Rattle.std.proofs.Math.Seq.{drop-append_seam, drop-length, take-append_seam}
 pub use Rattle.std.proofs.lemmas.Bool.{and_parts, cases_Bool, cases_eq, cases_lt, eq-eqb, eqb-false, eqb-true, false_from_ne_true, le-leb, le-ltb, leb-true, lt-leb, lt-ltb, ne_eqb, or_cases}
-pub use Rattle.std.proofs.lemmas.List.{drop-append-le, ext_get_or, get_or-replicate, get_or_default, length-replicate, length-take, length-take-le, set-get_or, set-set, take-append-drop, take-take, with_items_is}
+pub use Rattle.std.proofs.lemmas.List.{drop-append-le, ext_get_or, get_or-replicate, get_or_default, get_or_past, length-replicate, length-take, length-take-le, set-get_or, set-set, take-append-drop, take-take, with_items_is}
 pub use Rattle.std.proofs.lemmas.List.Elements.{All-contains, All-from_recursion, All-more, recursion_from_All}
 pub use Rattle.std.proofs.lemmas.List.Quantifiers.{position-Some}
 pub use Rattle.std.proofs.lemmas.List.Sums.{AllPass-from_list_all, count_by_more_no, count_by_more_yes, fails_before_first, sum_by-cons}
@@ -41,7 +41,7 @@ pub use Rattle.solve_core.specs.Verdicts.{Holds, IsFinal}
 pub use Rattle.solve_core.specs.declared.branches.Branch.{Branch}
 pub use Rattle.solve_core.specs.declared.closures.Progress.TheVariants.{Changed, Dead, Same}
 pub use Rattle.solve_core.specs.declared.findings.Findings.{Findings}
-pub use Rattle.solve_core.specs.steps.Boards.{BoardSpace, IsBoard, IsBoardOf, cells_along}
+pub use Rattle.solve_core.specs.steps.Boards.{BoardSpace, IsBoard, IsBoardOf, board_of, cells_along}
 pub use Rattle.solve_core.specs.steps.Branches.{AreBefore, AreInOrder, AreKnownBefore, AreOlder, IsBranch, IsClosed, IsNext, IsOpen, IsWork, cells_before, open_events, pending, ready_events}
 pub use Rattle.solve_core.specs.steps.Closers.{AreFresh, Closing, IsIdle, IsMemoryOf}
 pub use Rattle.solve_core.specs.steps.ColourMasks.{ColourMasks, mask_if, mask_of, no_colours}
@@ -49,9 +49,9 @@ pub use Rattle.solve_core.specs.steps.Counts.{AreCounts, IsKnownCell, IsMostInRo
 pub use Rattle.solve_core.specs.steps.Endings.{Ending, ending}
 pub use Rattle.solve_core.specs.steps.GridLines.{AreLinesOf}
 pub use Rattle.solve_core.specs.steps.Guesses.{IsUnderWay, owed, owed_by}
-pub use Rattle.solve_core.specs.steps.Learning.{CanLearn, IsIn, IsLearning, LeadsBackBut}
+pub use Rattle.solve_core.specs.steps.Learning.{CanLearn, CanWriteIn, IsIn}
 pub use Rattle.solve_core.specs.steps.LineMarks.{AreMarksWithin, AreUnmarked, IsMarkedOn, IsUnmarkedOn, LineMarks, marks_on}
 pub use Rattle.solve_core.specs.steps.Marks.{HasMarks, HasWork, IsAtRest, IsDeduced, IsLearned, IsWritten, MarksAfter, MarksChanges, Progresses}
 pub use Rattle.solve_core.specs.steps.Openings.{AreBothNoted, AreOpenings}
-pub use Rattle.solve_core.specs.steps.Trails.{IsTrailed, TrailedGrid, cleared, unknown_count}
+pub use Rattle.solve_core.specs.steps.Trails.{IsStepOf, IsTrailed, LineStep, TrailStep, TrailedGrid, cleared, step_on, unknown_count, unlearned, without}
 pub use Rattle.solve_core.specs.steps.Tried.{HasRoomFor, IsReady, Tried}

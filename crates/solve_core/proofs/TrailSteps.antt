@@ -1,38 +1,62 @@
--- How the trail of settled cells grows.
-use Rattle.solve_core.proofs.Names.{◌≡◌, ℕ, zero, suc, ◌+◌, ◌<◌, true, List, [], ◌∷◌, ◌++◌, length, get_or, set, refl, sym, ap, ◌∙◌, arith, length-append, length-set, append-nil, append_assoc, true≢false, AllByRecursion, Cell, Unknown, Filled, Blank, is_known, TrailedGrid, unknown_count, cleared, IsTrailed, set-set, set-get_or, rules}
+-- How a trail grows, and what taking its steps back leaves.
+use Rattle.solve_core.proofs.Names.{◌≡◌, drop, ℕ, zero, suc, ◌+◌, ◌<◌, true, List, [], ◌∷◌, ◌++◌, length, get_or, set, refl, sym, ap, ◌∙◌, arith, length-append, append-nil, append_assoc, true≢false, AllByRecursion, Cell, Unknown, Filled, Blank, is_known, cells_at, TrailStep, TrailedGrid, unlearned, without, unknown_count, cleared, IsTrailed, rules}
+use Rattle.solve_core.proofs.ClosureLaws.{length-with_cells}
 
--- clearing the places of two lists clears those of the second one first
-pub cleared-append : (cells : List Cell) (ks js : List ℕ) → cleared cells (ks ++ js) ≡ cleared (cleared cells js) ks
-cleared-append cells [] js = refl
-cleared-append cells (k ∷ ks) js = ap (λ (cs : List Cell). set cs k Unknown) (cleared-append cells ks js)
+-- taking two lists of steps back takes those of the second one back first
+pub cleared-append : (cells : List Cell) (steps more : List TrailStep) → cleared cells (steps ++ more) ≡ cleared (cleared cells more) steps
+cleared-append cells [] more = refl
+cleared-append cells (s ∷ steps) more = ap (λ (cs : List Cell). without cs s) (cleared-append cells steps more)
 
--- clearing places leaves as many cells
-pub length-cleared : (cells : List Cell) (ks : List ℕ) → length (cleared cells ks) ≡ length cells
+-- taking a step back leaves as many cells
+pub length-without : (cells : List Cell) (s : TrailStep) → length (without cells s) ≡ length cells
+length-without cells s = length-with_cells cells s.places (unlearned s.changes (cells_at Unknown cells s.places))
+
+-- and so does taking several back
+pub length-cleared : (cells : List Cell) (steps : List TrailStep) → length (cleared cells steps) ≡ length cells
 length-cleared cells [] = refl
-length-cleared cells (k ∷ ks) = length-set (cleared cells ks) k Unknown ∙ length-cleared cells ks
+length-cleared cells (s ∷ steps) = length-without (cleared cells steps) s ∙ length-cleared cells steps
+
+-- what holds of all items of a list holds of each
+pub all_at : {X : Type 0} (P : X → Type 0) (xs : List X) (k : ℕ) (d : X) → AllByRecursion P xs → k < length xs → P (get_or xs k d)
+all_at P [] k d h l = absurd (omega arith)
+all_at P (x ∷ xs) zero d h l = h.0
+all_at P (x ∷ xs) (suc k) d h l = all_at P xs k d h.1 (omega arith)
+
+-- and of all behind the first ones
+pub all_drop : {X : Type 0} (P : X → Type 0) (n : ℕ) (xs : List X) → AllByRecursion P xs → AllByRecursion P (drop n xs)
+all_drop P zero xs h = h
+all_drop P (suc n) [] h = tt
+all_drop P (suc n) (x ∷ xs) h = all_drop P n xs h.1
 
 -- what holds of all items of two lists holds of all items of the joined list
 pub all_append : {X : Type 0} (P : X → Type 0) (xs ys : List X) → AllByRecursion P xs → AllByRecursion P ys → AllByRecursion P (xs ++ ys)
 all_append P [] ys h k = k
 all_append P (x ∷ xs) ys h k = (h.0, all_append P xs ys h.1 k)
 
--- nothing was settled
+-- nothing was learned
 pub trailed-refl : (g : TrailedGrid) → IsTrailed g g
 trailed-refl g = search (rules, append-nil)
 
--- first some cells were settled, and then others
+-- first some was learned, and then more
 pub trailed_trans : (a b c : TrailedGrid) → IsTrailed a b → IsTrailed b c → IsTrailed a c
-trailed_trans a b c x y =
-    let size : length c.cells ≡ length b.cells = sym (length-cleared c.cells y.added) ∙ ap length y.undo in
-    record {
-      added = x.added ++ y.added;
-      width = y.width ∙ x.width;
-      height = y.height ∙ x.height;
-      kept = y.kept ∙ ap (λ (places : List ℕ). places ++ y.added) x.kept ∙ append_assoc a.trail x.added y.added;
-      undo = cleared-append c.cells x.added y.added ∙ ap (λ (r : List Cell). cleared r x.added) y.undo ∙ x.undo;
-      within = all_append (λ k. k < length c.cells) x.added y.added (rw size x.within) y.within;
-      count = omega (arith, length-append x.added y.added, x.count, y.count);
-    }
+trailed_trans a b c x y = record {
+  added = x.added ++ y.added;
+  width = y.width ∙ x.width;
+  height = y.height ∙ x.height;
+  kept = y.kept ∙ ap (λ (steps : List TrailStep). steps ++ y.added) x.kept ∙ append_assoc a.trail x.added y.added;
+  undo = cleared-append c.cells x.added y.added ∙ ap (λ (r : List Cell). cleared r x.added) y.undo ∙ x.undo;
+  count = omega (arith, length-append x.added y.added, x.count, y.count);
+}
+
+longer : (steps : List TrailStep) (old new : TrailedGrid) → new.trail ≡ old.trail ++ steps → cleared new.cells steps ≡ old.cells →
+    unknown_count new.cells < unknown_count old.cells → length old.trail < length new.trail
+longer [] old new kept undo fewer = absurd (omega (arith, ap unknown_count undo))
+longer (s ∷ steps) old new kept undo fewer = omega (arith, ap length kept, length-append old.trail (s ∷ steps))
+
+-- if fewer cells are unknown, the trail is longer
+pub trailed-longer : (old new : TrailedGrid) → IsTrailed old new → unknown_count new.cells < unknown_count old.cells →
+    length old.trail < length new.trail
+trailed-longer old new t fewer = longer t.added old new t.kept t.undo fewer
 
 -- settling an unknown cell leaves one unknown cell fewer
 pub count-settled : (g : List Cell) (k : ℕ) (c : Cell) → k < length g → get_or g k Unknown ≡ Unknown → is_known c ≡ true →
@@ -45,7 +69,7 @@ count-settled (Unknown ∷ g) (suc k) c h e n = let rest = count-settled g k c (
 count-settled (Filled ∷ g) (suc k) c h e n = count-settled g k c (omega arith) e n
 count-settled (Blank ∷ g) (suc k) c h e n = count-settled g k c (omega arith) e n
 
--- one cell was settled
-pub trailed-one : (g after : TrailedGrid) (k : ℕ) (c : Cell) → k < length g.cells → get_or g.cells k Unknown ≡ Unknown → is_known c ≡ true
-    → after.width ≡ g.width → after.height ≡ g.height → after.cells ≡ set g.cells k c → after.trail ≡ g.trail ++ k ∷ [] → IsTrailed g after
-trailed-one g after k c h e n w t a b = search (rules, set-set, set-get_or, length-set, count-settled)
+-- a line learned something
+pub trailed-one : (g after : TrailedGrid) (s : TrailStep) → after.width ≡ g.width → after.height ≡ g.height → after.trail ≡ g.trail ++ s ∷ [] →
+    without after.cells s ≡ g.cells → unknown_count after.cells < unknown_count g.cells → IsTrailed g after
+trailed-one g after s w h kept undo fewer = record { added = s ∷ []; width = w; height = h; kept = kept; undo = undo; count = omega arith }

@@ -1,7 +1,8 @@
 //! A grid as its rows and its columns, with the way back.
-ghost use Rattle.std.specs.Prelude.{◌≡◌, ◌+◌, ◌-◌, ◌*◌, ◌<◌, ◌≤◌, [], length, take, slice_index_or, slice_set, true, IfOk, IsTrue};
+ghost use Rattle.std.specs.Prelude.{◌≡◌, ℕ, ◌+◌, ◌-◌, ◌*◌, ◌<◌, ◌≤◌, [], length, map, take, slice_index_or, slice_set, true, IfOk, IsTrue};
 ghost use Rattle.grid_core.specs.Cells.{is_known};
 ghost use Rattle.grid_core.specs.Nonogram.{lines_of};
+ghost use Rattle.place_sets.specs.Masks.{Has};
 ghost use Rattle.solve_core.specs.Closure.{closure, if_alive};
 ghost use Rattle.grid_core.specs.PartialGrid.{IsSize};
 ghost use Rattle.grid_core.specs.declared.cells.Cell.TheVariants.{Unknown};
@@ -9,15 +10,16 @@ ghost use Rattle.solve_core.specs.steps.Boards.{fresh_board, grid_of_board, unkn
 ghost use Rattle.solve_core.specs.steps.Branches.{cells_before};
 ghost use Rattle.solve_core.specs.steps.Closers.{IsIdle, IsMemoryOf};
 ghost use Rattle.solve_core.specs.steps.Marks.{IsAtRest};
-ghost use Rattle.solve_core.specs.steps.Trails.{IsTrailed, IsTrailedGrid};
+ghost use Rattle.solve_core.specs.steps.Trails.{IsTrailed, unknown_count};
 
 use crate::closures::Closer;
 use crate::grid_lines::GridLines;
 use crate::learners::Learner;
 use crate::rooms::emptied;
-use crate::trails::push_changes;
-use grid_core::{Cell, Grid, LONGEST_SIDE, NoMemory, Puzzle, Side};
+use crate::trails::Step;
+use grid_core::{Cell, Grid, NoMemory, Puzzle, Side};
 use line_core::{LineOf, LineSet};
+use place_sets::PlaceSet;
 use std::alloc::Global;
 use std::marker::Model;
 
@@ -26,7 +28,7 @@ use std::marker::Model;
 pub struct BoardRoom<W: LineSet> {
     rows: Vec<LineOf<W>>,
     columns: Vec<LineOf<W>>,
-    trail: Vec<u16>,
+    trail: Vec<Step<W>>,
 }
 
 impl<W: LineSet> Model for BoardRoom<W> {
@@ -63,16 +65,16 @@ impl<W: LineSet> BoardRoom<W> {
         Ok(BoardRoom {
             rows: emptied(alloc, rows, usize::from(height))?,
             columns: emptied(alloc, columns, usize::from(width))?,
-            trail: emptied(alloc, trail, cells + usize::from(LONGEST_SIDE))?,
+            trail: emptied(alloc, trail, cells)?,
         })
     }
 }
 
-/// A grid as its rows and its columns. It keeps the places of the cells in the order in which they were
-/// settled, in room that is made once, and so leads back.
+/// A grid as its rows and its columns. It keeps what each line learned, in the order in which they did, in room
+/// that is made once, and so leads back.
 pub struct Board<W: LineSet> {
     lines: GridLines<W>,
-    trail: Vec<u16>,
+    trail: Vec<Step<W>>,
 }
 
 /// A call of its own, so that a proof takes it as one step.
@@ -84,19 +86,14 @@ impl<W: LineSet> Drop for Board<W> {
 
 impl<W: LineSet> Model for Board<W> {
     ghost use Rattle.std.specs.Prelude.{vec_capacity};
-    ghost use Rattle.solve_core.specs.steps.Boards.{IsBoard};
+    ghost use Rattle.solve_core.specs.steps.Boards.{board_of, IsBoard};
     ghost use Rattle.solve_core.specs.steps.Trails.{TrailedGrid};
 
     ghost Value = { TrailedGrid };
 
-    ghost view = { λ b. record { width = b.lines.width; height = b.lines.height; cells = b.lines.cells; trail = b.trail.items } };
+    ghost view = { λ b. board_of b.lines b.trail.items };
 
-    ghost invariant = { λ b. IsBoard (record {
-      width = b.lines.width;
-      height = b.lines.height;
-      cells = b.lines.cells;
-      trail = b.trail.items;
-    }) (vec_capacity b.trail) };
+    ghost invariant = { λ b. IsBoard W.WIDTH b.lines b.trail.items (vec_capacity b.trail) };
 }
 
 impl<W: LineSet> Board<W> {
@@ -140,17 +137,17 @@ impl<W: LineSet> Board<W> {
         &self.lines
     }
 
-    /// The places of the settled cells, the first one settled first.
-    pub fn trail(&self) -> &[u16]
-        ensures trail { result.now ≡ self.now.trail }
-        ensures grid { IsTrailedGrid self.now }
-        ensures few { length self.now.trail ≤ 65536 }
+    /// What lines learned, first what was learned first.
+    pub fn trail(&self) -> &[Step<W>]
+        ensures len { length result.now ≡ length self.now.trail }
+        ensures room { length self.now.trail + unknown_count self.now.cells ≤ length self.now.cells }
+        ensures few { length self.now.cells ≤ 65536 }
     {
         &self.trail
     }
 
     /// Settles the unknown cell in column x and row y.
-    pub fn settle(&mut self, x: usize, y: usize, cell: Cell)
+    pub fn settle(&mut self, x: u16, y: u16, cell: Cell)
         requires column { x < self.old.width }
         requires row { y < self.old.height }
         requires unknown { slice_index_or self.old.cells (y * self.old.width + x) Unknown ≡ Unknown }
@@ -158,12 +155,12 @@ impl<W: LineSet> Board<W> {
         ensures cells { self.new.cells ≡ slice_set self.old.cells (y * self.old.width + x) cell }
         ensures trail { IsTrailed self.old self.new }
     {
-        let place = y * self.lines.width() + x;
-        self.lines.set(x, y, cell);
-        self.trail.push_reserved(place as u16);
+        let mut row = self.lines.line(Side::Rows, y).copy();
+        row.settle(x, cell);
+        self.learn(Side::Rows, y, &row, W::empty().marked(x, true));
     }
 
-    /// Makes the cell unknown that was settled last.
+    /// Takes the last step back.
     fn undo(&mut self)
         requires { 0 < length self.old.trail }
         ensures { self.new ≡ record self.old {
@@ -171,21 +168,32 @@ impl<W: LineSet> Board<W> {
           trail = take (length self.old.trail - 1) self.old.trail;
         } }
     {
-        let Some(place) = self.trail.pop() else {
+        let Some(step) = self.trail.pop() else {
             return;
         };
-        let place = usize::from(place);
-        let width = self.lines.width();
-        self.lines.set(place % width, place / width, Cell::Unknown);
+        self.lines.unlearn(step.side, step.line, step.changes);
     }
 
-    /// Makes the cells unknown that were settled since the trail had `mark` places.
+    /// Takes the steps back that were made since the trail had `mark` of them.
     pub fn go_back(&mut self, mark: usize)
         ensures { self.new ≡ record self.old { cells = cells_before self.old.cells self.old.trail mark; trail = take mark self.old.trail } }
     {
         while self.trail().len() > mark {
             self.undo();
         }
+    }
+
+    /// The rows that steps touch which were made since the trail had `mark` of them: those that learned, and those that
+    /// a column crosses where it learned.
+    pub fn rows_since(&self, mark: usize) -> W
+        requires { mark ≤ length self.now.trail }
+        ensures { (y : ℕ) → Has (W.number result) y → y < self.now.height }
+    {
+        let mut rows = W::empty();
+        for step in &self.trail[mark..] {
+            rows = rows.union(step.rows());
+        }
+        rows
     }
 
     /// Closes it by all lines, with nothing to go back to. Returns whether it is alive.
@@ -226,11 +234,11 @@ impl<W: LineSet> Learner<W> for Board<W> {
     }
 
     fn learn(&mut self, side: Side, i: u16, new: &LineOf<W>, changes: W) {
-        let (place, width) = (usize::from(i), self.lines.width());
         self.lines.learn(side, i, new, changes);
-        match side {
-            Side::Rows => push_changes(&mut self.trail, place * width, 1, changes),
-            Side::Columns => push_changes(&mut self.trail, place, width, changes),
-        }
+        self.trail.push_reserved(Step {
+            side,
+            line: i,
+            changes,
+        });
     }
 }

@@ -10,12 +10,12 @@ use crate::boards::Board;
 use grid_core::Cell;
 use line_core::LineSet;
 
-/// A filled guess whose cell is still to be guessed blank: its place, and how many places the trail had.
+/// A filled guess whose cell is still to be guessed blank: its place, and how many steps the trail had.
 #[derive(Clone, Copy, Debug)]
 pub struct Branch {
     /// The place of the guessed cell.
     pub place: usize,
-    /// How many places the trail had before the guess.
+    /// How many steps the trail had before the guess.
     pub mark: usize,
 }
 

@@ -124,7 +124,7 @@ fn learn_line<W: LineSet, B: Learner<W>>(
 {
     let old = board.line(side, i);
     let Some(new) = deductions.deduce(puzzle, side, i, old) else {
-        dead_ends.note(side, i, W::empty());
+        dead_ends.note(side, i);
         return Progress::Dead;
     };
     let changes = old.changes(&new);
@@ -134,7 +134,6 @@ fn learn_line<W: LineSet, B: Learner<W>>(
     let open = open_changes(deductions, side, i, &new, changes, fresh, B::KEEPS);
     marks.add(side.crossing(), open);
     board.learn(side, i, &new, changes);
-    dead_ends.note(side, i, changes);
     Progress::Changed
 }
 
@@ -366,11 +365,11 @@ impl<W: LineSet> Closer<W> {
         ensures size { IsBoardOf puzzle.now board.new }
     {
         let width = usize::from(puzzle.width());
-        let (x, y) = (place % width, place / width);
-        self.marks.set(Side::Rows, y as u16, true);
-        self.marks.set(Side::Columns, x as u16, true);
-        self.fresh.set(Side::Rows, y as u16, false);
-        self.fresh.set(Side::Columns, x as u16, false);
+        let (x, y) = ((place % width) as u16, (place / width) as u16);
+        self.marks.set(Side::Rows, y, true);
+        self.marks.set(Side::Columns, x, true);
+        self.fresh.set(Side::Rows, y, false);
+        self.fresh.set(Side::Columns, x, false);
         board.settle(x, y, colour);
     }
 
@@ -421,13 +420,14 @@ impl<W: LineSet> Closer<W> {
         ensures trail { IsTrailed board.old board.new }
         ensures size { IsBoardOf puzzle.now board.new }
     {
+        let mark = board.trail().len();
         self.settle(puzzle, board, place, colour);
-        let hints = self.dead_ends.start(place, colour);
+        let hints = self.dead_ends.hints(place, colour);
         let alive = self.deduce_marked(puzzle, board, &hints) && self.propagate(puzzle, board);
-        self.dead_ends.stop();
         if !alive {
             self.marks = Marks::none();
-            self.dead_ends.remember(place, colour);
+            self.dead_ends
+                .remember(place, colour, &board.trail()[mark..]);
         }
         alive
     }

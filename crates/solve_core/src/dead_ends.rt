@@ -3,23 +3,13 @@ ghost use Rattle.std.specs.Prelude.{◌<◌};
 
 use crate::marks::Marks;
 use crate::rooms::emptied;
+use crate::trails::Step;
 use grid_core::{Cell, NoMemory, Side};
 use line_core::LineSet;
 use std::alloc::Global;
 
-/// How many steps of a guess are noted at most.
-const MOST_STEPS: usize = 1024;
-
 /// The most places that sets have in which dead ends are remembered.
 const MOST_PLACES: u16 = 128;
-
-/// What a line learned since a guess: the line as a set of one place, and the places of its cells that changed.
-#[derive(Drop)]
-struct Step<W: LineSet> {
-    side: Side,
-    line: W,
-    changes: W,
-}
 
 /// The lines by which the two guesses of a cell died when they last did.
 #[derive(Drop)]
@@ -32,9 +22,11 @@ struct DeadEnd<W: LineSet> {
 /// whatever they say, the closure is the same.
 #[derive(Drop)]
 pub struct DeadEnds<W: LineSet> {
-    noting: bool,
-    steps: Vec<Step<W>>,
+    /// The line that was dead last.
+    side: Side,
+    line: u16,
     ends: Vec<DeadEnd<W>>,
+    ghost inside: { line < W.WIDTH },
 }
 
 impl<W: LineSet> DeadEnds<W> {
@@ -44,28 +36,26 @@ impl<W: LineSet> DeadEnds<W> {
         others: Option<DeadEnds<W>>,
         cells: usize,
     ) -> Result<DeadEnds<W>, NoMemory> {
-        let (steps, ends) = match others {
+        let ends = match others {
             Some(
                 DeadEnds {
-                    noting: _,
-                    steps,
+                    side: _,
+                    line: _,
                     ends,
                 },
-            ) => (steps, ends),
-            None => (Vec::new(alloc), Vec::new(alloc)),
+            ) => ends,
+            None => Vec::new(alloc),
         };
         let room = if W::WIDTH <= MOST_PLACES { cells } else { 0 };
         Ok(DeadEnds {
-            noting: false,
-            steps: emptied(alloc, steps, room.min(MOST_STEPS))?,
+            side: Side::Rows,
+            line: 0,
             ends: emptied(alloc, ends, room)?,
         })
     }
 
-    /// The lines by which a guess died when it last did. What lines learn is noted from here on.
-    pub fn start(&mut self, place: usize, colour: Cell) -> Marks<W> {
-        self.steps.clear();
-        self.noting = true;
+    /// The lines by which a guess died when it last did.
+    pub fn hints(&self, place: usize, colour: Cell) -> Marks<W> {
         match self.ends.get(place) {
             None => Marks::none(),
             Some(end) => {
@@ -78,46 +68,36 @@ impl<W: LineSet> DeadEnds<W> {
         }
     }
 
-    /// Notes which cells of line i of a side changed, none if it is dead.
-    pub fn note(&mut self, side: Side, i: u16, changes: W)
+    /// Notes that line i of a side is dead.
+    pub fn note(&mut self, side: Side, i: u16)
         requires { i < W.WIDTH }
     {
-        if self.noting && self.steps.len() < self.steps.capacity() {
-            self.steps.push_reserved(Step {
-                side,
-                line: W::empty().marked(i, true),
-                changes,
-            });
-        }
+        self.side = side;
+        self.line = i;
     }
 
-    /// Notes nothing any more.
-    pub fn stop(&mut self) {
-        self.noting = false;
-    }
-
-    /// The line of the last step, which is dead, and back from there each line that changed where one of these
-    /// crosses it.
-    fn reasons(&self) -> Marks<W> {
+    /// The line that was dead last, and back from there each line that learned where one of these crosses it.
+    fn reasons(&self, steps: &[Step<W>]) -> Marks<W> {
         let mut reasons = Marks::none();
-        for step in self.steps.iter().rev() {
+        reasons.set(self.side, self.line, true);
+        for step in steps.iter().rev() {
             let crossed = step.changes.intersection(reasons.on(step.side.crossing()));
-            if reasons.is_empty() || !crossed.is_empty() {
-                reasons.add(step.side, step.line);
+            if !crossed.is_empty() {
+                reasons.set(step.side, step.line, true);
             }
         }
         reasons
     }
 
-    /// Remembers by which lines a guess died.
-    pub fn remember(&mut self, place: usize, colour: Cell) {
+    /// Remembers by which lines a guess died, by the steps since.
+    pub fn remember(&mut self, place: usize, colour: Cell, steps: &[Step<W>]) {
         while self.ends.len() <= place && self.ends.len() < self.ends.capacity() {
             self.ends.push_reserved(DeadEnd {
                 filled: Marks::none(),
                 blank: Marks::none(),
             });
         }
-        let reasons = self.reasons();
+        let reasons = self.reasons(steps);
         if let Some(end) = self.ends.get_mut(place) {
             if colour.is_filled() {
                 end.filled = reasons;

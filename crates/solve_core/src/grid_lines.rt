@@ -1,7 +1,7 @@
 //! A grid as its rows and its columns.
 ghost use Rattle.std.specs.Prelude.{◌≡◌, ◌+◌, ◌-◌, ◌*◌, ◌<◌, ◌≤◌, ℕ, nat_eq, [], false, length, replicate, slice_index_or, slice_set, true, vec_capacity, IfOk, IfSome};
 ghost use Rattle.grid_core.specs.Cells.{Extends, is_known};
-ghost use Rattle.grid_core.specs.Nonogram.{cells_at, places_on};
+ghost use Rattle.grid_core.specs.Nonogram.{cells_at, crossing, places_on};
 ghost use Rattle.grid_core.specs.steps.Sides.{count_on};
 ghost use Rattle.grid_core.specs.PartialGrid.{IsSize};
 ghost use Rattle.grid_core.specs.Rows.{cells_of_rows, row_of};
@@ -13,16 +13,17 @@ ghost use Rattle.solve_core.specs.steps.GridLines.{AreLinesOf};
 ghost use Rattle.place_sets.specs.Masks.{Has, has, IsMaskOf};
 ghost use Rattle.solve_core.specs.Closure.{with_cells};
 ghost use Rattle.solve_core.specs.steps.Boards.{fresh_board};
-ghost use Rattle.solve_core.specs.steps.Trails.{IsTrailed, TrailedGrid};
+ghost use Rattle.solve_core.specs.steps.Trails.{IsTrailed, TrailedGrid, step_on, unlearned, without};
 ghost use Rattle.solve_core.specs.Picks.{is_sure};
 ghost use Rattle.solve_core.specs.Picks.{most_known};
 
 use crate::learners::Learner;
-use crate::learning::settle_across;
+use crate::learning::{settle_across, write_each};
+use crate::marks::Marks;
 use crate::picks::{known_cells, most_in_row, near_known};
 use grid_core::{Cell, Grid, Side};
 use line_core::{LineOf, LineSet};
-use place_sets::{first_from, first_places};
+use place_sets::{PlaceSet, first_from, first_places};
 use std::marker::Model;
 
 /// A grid, each row and each column of it as a line, so that none has to be gathered cell by cell. A cell is
@@ -67,6 +68,16 @@ fn unknown_lines<W: LineSet>(list: Vec<LineOf<W>>, len: u16, count: u16) -> Vec<
         lines.push_reserved(LineOf::unknown(len));
     }
     lines
+}
+
+/// A line with the cells at some places unknown.
+fn line_without<W: LineSet>(line: &LineOf<W>, places: W) -> LineOf<W>
+    ensures cells { result ≡ unlearned (W.number places) line.now }
+    ensures fits { length result ≤ W.WIDTH }
+{
+    let filled = line.filled().difference(places);
+    let blank = line.blank().difference(places).difference(filled);
+    LineOf::of_sets(line.len(), filled, blank)
 }
 
 /// Takes over the rows of a grid, each as a whole.
@@ -259,14 +270,27 @@ impl<W: LineSet> GridLines<W> {
         best
     }
 
-    /// Changes what is known of the cell in column x and row y, and nothing else.
-    pub fn set(&mut self, x: usize, y: usize, cell: Cell)
-        requires column { x < self.old.width }
-        requires row { y < self.old.height }
-        ensures { self.new ≡ record self.old { cells = slice_set self.old.cells (y * self.old.width + x) cell } }
+    /// Makes the cells of line i of a side unknown that changed when it learned.
+    pub fn unlearn(&mut self, side: Side, i: u16, changes: W)
+        requires i { i < count_on side self.old.width self.old.height }
+        requires within { (k : ℕ) → Has (W.number changes) k → k < count_on (crossing side) self.old.width self.old.height }
+        ensures { self.new ≡ record self.old {
+          cells = without self.old.cells
+              (step_on self.old.width self.old.height (record { side = side; line = i; changes = W.number changes }));
+        } }
     {
-        self.rows[y].set(x as u16, cell);
-        self.columns[x].set(y as u16, cell);
+        let place = usize::from(i);
+        let new = line_without(self.line(side, i), changes);
+        match side {
+            Side::Rows => {
+                self.rows[place].copy_from(&new);
+                write_each(&mut self.columns, i, changes, Cell::Unknown);
+            }
+            Side::Columns => {
+                self.columns[place].copy_from(&new);
+                write_each(&mut self.rows, i, changes, Cell::Unknown);
+            }
+        }
     }
 
     /// Takes over the cells of a grid of its size.

@@ -1,5 +1,5 @@
 //! Grids whose lines learn.
-ghost use Rattle.std.specs.Prelude.{◌≡◌, ◌<◌, ◌≤◌, Bool, true, length};
+ghost use Rattle.std.specs.Prelude.{◌≡◌, ◌≢◌, ◌<◌, ◌≤◌, Bool, true, length};
 ghost use Rattle.grid_core.specs.Cells.{Extends};
 ghost use Rattle.grid_core.specs.Lines.{IsChanged};
 ghost use Rattle.grid_core.specs.Nonogram.{places_on};
@@ -35,6 +35,7 @@ pub trait Learner<W: LineSet> {
         requires fits { length new.now ≤ W.WIDTH }
         requires more { Extends (cells_along (board self.old) side i) new.now }
         requires changes { IsMaskOf (IsChanged (cells_along (board self.old) side i) new.now) (W.number changes) }
+        requires some { new.now ≢ cells_along (board self.old) side i }
         ensures cells { (board self.new).cells ≡ with_cells (board self.old).cells
             (places_on side (board self.old).width (board self.old).height i) new.now }
         ensures width { (board self.new).width ≡ (board self.old).width }

@@ -1,21 +1,34 @@
-//! What a line learned, written into the lines that cross it: by words of 64 places, and in one colour after the
-//! other, so that no cell is asked for its colour.
+//! What a line learned, or forgets, written into the lines that cross it: by words of 64 places, and in one colour
+//! after the other, so that no cell is asked for its colour.
 ghost use Rattle.std.specs.Prelude.{◌≡◌, ℕ, ◌<◌, ◌≤◌, [], length, slice_index_or, slice_set, true};
 ghost use Rattle.grid_core.specs.declared.cells.Cell.TheVariants.{Unknown};
 ghost use Rattle.grid_core.specs.Cells.{is_known};
 ghost use Rattle.place_sets.specs.Masks.{Has};
-ghost use Rattle.solve_core.specs.steps.Learning.{CanLearn, CanSettleIn, IsIn};
+ghost use Rattle.solve_core.specs.steps.Learning.{CanLearn, CanWriteIn, IsIn};
 
 use crate::words::{WORD, without_first, word_from};
 use grid_core::Cell;
 use line_core::{LineOf, LineSet};
 use place_sets::PlaceSet;
 
-/// Gives cell `i` of each line at those of the places that are among the 64 from `from` on a colour.
-fn settle_word<W: LineSet>(lines: &mut [LineOf<W>], i: u16, places: W, from: u16, colour: Cell)
+/// Gives an unknown cell of a line a colour, or makes a cell unknown.
+fn write_cell<W: LineSet>(line: &mut LineOf<W>, i: u16, colour: Cell)
+    requires i { i < length line.old }
+    requires unknown { is_known colour ≡ true → slice_index_or line.old i Unknown ≡ Unknown }
+    ensures { line.new ≡ slice_set line.old i colour }
+{
+    if colour.is_known() {
+        line.settle(i, colour);
+    } else {
+        line.set(i, colour);
+    }
+}
+
+/// Writes a colour, or that nothing is known, into cell `i` of each line at those of the places that are among the
+/// 64 from `from` on.
+fn write_word<W: LineSet>(lines: &mut [LineOf<W>], i: u16, places: W, from: u16, colour: Cell)
     requires from { from < W.WIDTH }
-    requires cells { (k : ℕ) → IsIn (W.number places) from k → CanSettleIn lines.old i k }
-    requires colour { is_known colour ≡ true }
+    requires cells { (k : ℕ) → IsIn (W.number places) from k → CanWriteIn lines.old i colour k }
     ensures changed { (k : ℕ) → IsIn (W.number places) from k →
         slice_index_or lines.new k [] ≡ slice_set (slice_index_or lines.old k []) i colour }
     ensures others { (k : ℕ) → (IsIn (W.number places) from k → ⊥) → slice_index_or lines.new k [] ≡ slice_index_or lines.old k [] }
@@ -25,15 +38,14 @@ fn settle_word<W: LineSet>(lines: &mut [LineOf<W>], i: u16, places: W, from: u16
     while !left.is_empty() {
         let k = left.first_place();
         left = without_first(left);
-        lines[usize::from(from + k)].settle(i, colour);
+        write_cell(&mut lines[usize::from(from + k)], i, colour);
     }
 }
 
-/// Gives cell `i` of each line at some places a colour.
-fn settle_each<W: LineSet>(lines: &mut [LineOf<W>], i: u16, places: W, colour: Cell)
+/// Writes a colour, or that nothing is known, into cell `i` of each line at some places.
+pub fn write_each<W: LineSet>(lines: &mut [LineOf<W>], i: u16, places: W, colour: Cell)
     requires within { (k : ℕ) → Has (W.number places) k → k < W.WIDTH }
-    requires cells { (k : ℕ) → Has (W.number places) k → CanSettleIn lines.old i k }
-    requires colour { is_known colour ≡ true }
+    requires cells { (k : ℕ) → Has (W.number places) k → CanWriteIn lines.old i colour k }
     ensures changed { (k : ℕ) → Has (W.number places) k →
         slice_index_or lines.new k [] ≡ slice_set (slice_index_or lines.old k []) i colour }
     ensures others { (k : ℕ) → (Has (W.number places) k → ⊥) → slice_index_or lines.new k [] ≡ slice_index_or lines.old k [] }
@@ -41,7 +53,7 @@ fn settle_each<W: LineSet>(lines: &mut [LineOf<W>], i: u16, places: W, colour: C
 {
     let mut from = 0;
     while from < W::WIDTH {
-        settle_word(lines, i, places, from, colour);
+        write_word(lines, i, places, from, colour);
         from += WORD;
     }
 }
@@ -57,6 +69,6 @@ pub fn settle_across<W: LineSet>(lines: &mut [LineOf<W>], i: u16, new: &LineOf<W
 {
     let filled = changes.intersection(new.filled());
     let blank = changes.difference(filled);
-    settle_each(lines, i, filled, Cell::Filled);
-    settle_each(lines, i, blank, Cell::Blank);
+    write_each(lines, i, filled, Cell::Filled);
+    write_each(lines, i, blank, Cell::Blank);
 }

@@ -17,7 +17,6 @@ use crate::closures::{Closer, Progress};
 use crate::openings::Openings;
 use grid_core::{Cell, NoMemory, Puzzle};
 use line_core::LineSet;
-use place_sets::first_places;
 use std::alloc::Global;
 use std::marker::Model;
 
@@ -121,8 +120,7 @@ impl<W: LineSet> Trials<W> {
         let mark = board.trail().len();
         let alive = self.closer.assign_on_trial(puzzle, board, place, colour);
         if alive {
-            self.openings
-                .add(board.lines(), first_places(puzzle.height()));
+            self.openings.add(board.lines(), board.rows_since(mark));
         }
         board.go_back(mark);
         !alive

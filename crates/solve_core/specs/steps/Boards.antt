@@ -1,12 +1,12 @@
 -- Boards: a grid with the way back.
-use Rattle.std.specs.Prelude.{◌≡◌, ℕ, ◌+◌, ◌*◌, ◌≤◌, List, [], length, replicate}
+use Rattle.std.specs.Prelude.{◌≡◌, ℕ, ◌+◌, ◌*◌, ◌≤◌, List, [], drop, length, map, replicate}
+use Rattle.std.specs.List.{AllByRecursion}
 use Rattle.grid_core.specs.declared.cells.Cell.{Cell}
 use Rattle.grid_core.specs.declared.cells.Cell.TheVariants.{Unknown}
-use Rattle.grid_core.specs.declared.limits.TheConstants.{LONGEST_SIDE}
 use Rattle.grid_core.specs.declared.sides.Side.{Side}
 use Rattle.grid_core.specs.Nonogram.{Nonogram, cells_at, places_on}
 use Rattle.grid_core.specs.PartialGrid.{PartialGrid, IsSize}
-use Rattle.solve_core.specs.steps.Trails.{TrailedGrid, IsTrailedGrid}
+use Rattle.solve_core.specs.steps.Trails.{LineStep, TrailedGrid, IsStepOf, cleared, step_on, unknown_count}
 
 -- a grid of which nothing is known
 abbrev pub unknown_board : ℕ → ℕ → TrailedGrid
@@ -20,24 +20,32 @@ fresh_board g = record { width = g.width; height = g.height; cells = g.cells; tr
 abbrev pub grid_of_board : TrailedGrid → PartialGrid
 grid_of_board g = record { width = g.width; height = g.height; cells = g.cells }
 
--- for how many rows, columns and places on a trail there is room
+-- a grid with what its lines learned
+abbrev pub board_of : PartialGrid → List LineStep → TrailedGrid
+board_of g steps = record { width = g.width; height = g.height; cells = g.cells; trail = map (step_on g.width g.height) steps }
+
+-- for how many rows, columns and steps of a trail there is room
 pub record BoardSpace : Type 0 where
   pub rows : ℕ
   pub columns : ℕ
   pub trail : ℕ
 
--- there is room for a board of this size, and on its trail for one more line
+-- there is room for a board of this size, and on its trail for a step for each cell
 pub record HasBoardRoom (width height : ℕ) (room : BoardSpace) : Type 0 where
   pub rows : height ≤ room.rows
   pub columns : width ≤ room.columns
-  pub trail : width * height + LONGEST_SIDE ≤ room.trail
+  pub trail : width * height ≤ room.trail
 
--- what each board keeps, with room for the trail and for one more line
-pub record IsBoard (g : TrailedGrid) (room : ℕ) : Type 0 where
+-- what each board keeps in sets of `most` places: its steps are of its lines, and before each of them there were as many
+-- unknown cells as there is room for steps
+pub record IsBoard (most : ℕ) (g : PartialGrid) (steps : List LineStep) (room : ℕ) : Type 0 where
   pub size : IsSize g.width g.height
+  pub fits : (g.width ≤ most) × (g.height ≤ most)
   pub count : length g.cells ≡ g.width * g.height
-  pub grid : IsTrailedGrid g
-  pub room_is : length g.cells + LONGEST_SIDE ≤ room
+  pub steps_are : AllByRecursion (IsStepOf g.width g.height) steps
+  pub settled : (mark : ℕ) → mark ≤ length steps →
+      mark + unknown_count (cleared g.cells (drop mark (map (step_on g.width g.height) steps))) ≤ length g.cells
+  pub room_is : length g.cells ≤ room
 
 -- the board has the puzzle's size
 abbrev pub IsBoardOf : Nonogram → TrailedGrid → Type 0

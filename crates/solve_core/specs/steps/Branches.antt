@@ -7,11 +7,11 @@ use Rattle.grid_core.specs.Cells.{is_unknown}
 use Rattle.grid_core.specs.Nonogram.{GridLine}
 use Rattle.solve_core.specs.declared.branches.Branch.{Branch}
 use Rattle.solve_core.specs.Closure.{round}
-use Rattle.solve_core.specs.steps.Trails.{cleared}
+use Rattle.solve_core.specs.steps.Trails.{TrailStep, cleared}
 use Rattle.solve_core.specs.Search.{Event, Guess, events}
 
--- the cells as they were when the trail had `mark` places
-abbrev pub cells_before : List Cell → List ℕ → ℕ → List Cell
+-- the cells as they were when the trail had `mark` steps
+abbrev pub cells_before : List Cell → List TrailStep → ℕ → List Cell
 cells_before cells trail mark = cleared cells (drop mark trail)
 
 -- no cell before a place is unknown
@@ -32,7 +32,7 @@ IsOpen pick lines cells None = Unit {0}
 IsOpen pick lines cells (Some k) = IsNext pick lines cells k
 
 -- the branch's guess was the next one of the cells as they were
-abbrev pub IsBranch : (List Cell → Option ℕ) → List GridLine → List Cell → List ℕ → Branch → Type 0
+abbrev pub IsBranch : (List Cell → Option ℕ) → List GridLine → List Cell → List TrailStep → Branch → Type 0
 IsBranch pick lines cells trail branch = IsNext pick lines (cells_before cells trail branch.mark) branch.place
 
 -- each branch was made later than those before it
@@ -40,24 +40,24 @@ abbrev pub AreInOrder : List Branch → Type 0
 AreInOrder [] = Unit {0}
 AreInOrder (branch ∷ branches) = AllByRecursion (λ (later : Branch). branch.mark < later.mark) branches × AreInOrder branches
 
--- each branch was made before the trail had `limit` places
+-- each branch was made before the trail had `limit` steps
 abbrev pub AreBefore : ℕ → List Branch → Type 0
 AreBefore limit branches = AllByRecursion (λ (branch : Branch). branch.mark < limit) branches
 
 -- The branches are in the order in which they were made, and each one's guess was the next one.
-pub record IsWork (pick : List Cell → Option ℕ) (lines : List GridLine) (cells : List Cell) (trail : List ℕ)
+pub record IsWork (pick : List Cell → Option ℕ) (lines : List GridLine) (cells : List Cell) (trail : List TrailStep)
     (branches : List Branch) : Type 0 where
   pub before : AreBefore (length trail + 1) branches
   pub order : AreInOrder branches
   pub made : AllByRecursion (IsBranch pick lines cells trail) branches
 
 -- if a cell is to be guessed, something was settled since each branch was made
-abbrev pub AreOlder : List ℕ → List Branch → Option ℕ → Type 0
+abbrev pub AreOlder : List TrailStep → List Branch → Option ℕ → Type 0
 AreOlder trail branches None = Unit {0}
 AreOlder trail branches (Some k) = AreBefore (length trail) branches
 
 -- what happens from the branches, the last one first: its cell is guessed blank, in the cells as they were
-abbrev pub pending : (List Cell → Option ℕ) → List GridLine → List Cell → List ℕ → List Branch → List Event
+abbrev pub pending : (List Cell → Option ℕ) → List GridLine → List Cell → List TrailStep → List Branch → List Event
 pending pick lines cells trail [] = []
 pending pick lines cells trail (branch ∷ branches) =
     pending pick lines cells trail branches ++

@@ -1,16 +1,41 @@
--- The trail of settled cells, which leads back.
-use Rattle.std.specs.Prelude.{◌≡◌, ℕ, suc, ◌+◌, ◌<◌, ◌≤◌, List, [], ◌∷◌, ◌++◌, length, true, slice_set, slice_index_or}
-use Rattle.std.specs.List.{AllByRecursion}
+-- The trail of a board: what lines learned, which leads back.
+use Rattle.std.specs.Prelude.{◌≡◌, ℕ, suc, ◌+◌, ◌<◌, ◌≤◌, List, [], ◌∷◌, ◌++◌, length, map, cond, true, slice_index_or}
+use Rattle.std.specs.List.{range_with_len}
 use Rattle.grid_core.specs.Cells.{is_known}
+use Rattle.grid_core.specs.Nonogram.{cells_at, crossing, places_on}
 use Rattle.grid_core.specs.declared.cells.Cell.{Cell}
 use Rattle.grid_core.specs.declared.cells.Cell.TheVariants.{Unknown, Filled, Blank}
+use Rattle.grid_core.specs.declared.sides.Side.{Side}
+use Rattle.grid_core.specs.steps.Sides.{count_on}
+use Rattle.place_sets.specs.Masks.{Has, has}
+use Rattle.solve_core.specs.Closure.{with_cells}
 
--- a grid, its cells row by row, and the places of cells in the order in which they were settled
+-- what a line learned: its side, its number, and the places along it that changed
+pub record LineStep : Type 0 where
+  pub side : Side
+  pub line : ℕ
+  pub changes : ℕ
+
+-- and the same in a grid: where the line's cells are, and which of them changed
+pub record TrailStep : Type 0 where
+  pub places : List ℕ
+  pub changes : ℕ
+
+-- a grid, its cells row by row, and what its lines learned, first what was learned first
 pub record TrailedGrid : Type 0 where
   pub width : ℕ
   pub height : ℕ
   pub cells : List Cell
-  pub trail : List ℕ
+  pub trail : List TrailStep
+
+-- a line's step in a grid of this size
+abbrev pub step_on : ℕ → ℕ → LineStep → TrailStep
+step_on width height step = record { places = places_on step.side width height step.line; changes = step.changes }
+
+-- the line and its changes are those of a grid of this size
+pub record IsStepOf (width height : ℕ) (step : LineStep) : Type 0 where
+  pub line_in : step.line < count_on step.side width height
+  pub within : (k : ℕ) → Has step.changes k → k < count_on (crossing step.side) width height
 
 -- how many cells are unknown
 abbrev pub unknown_count : List Cell → ℕ
@@ -25,23 +50,25 @@ pub record CanSettle (cells : List Cell) (place : ℕ) (colour : Cell) : Type 0 
   pub unknown : slice_index_or cells place Unknown ≡ Unknown
   pub known : is_known colour ≡ true
 
--- the cells with some places made unknown, the last one first
-abbrev pub cleared : List Cell → List ℕ → List Cell
+-- a line with the cells at the places of a set made unknown
+abbrev pub unlearned : ℕ → List Cell → List Cell
+unlearned places line = map (λ k. cond (has places k) Unknown (slice_index_or line k Unknown)) (range_with_len 0 (length line))
+
+-- the cells with a step taken back: those that changed are unknown
+abbrev pub without : List Cell → TrailStep → List Cell
+without cells step = with_cells cells step.places (unlearned step.changes (cells_at Unknown cells step.places))
+
+-- the cells with some steps taken back, the last one first
+abbrev pub cleared : List Cell → List TrailStep → List Cell
 cleared cells [] = cells
-cleared cells (k ∷ ks) = slice_set (cleared cells ks) k Unknown
+cleared cells (step ∷ steps) = without (cleared cells steps) step
 
--- the trail is of places of cells, and there are no more of them than known cells
-pub record IsTrailedGrid (g : TrailedGrid) : Type 0 where
-  pub inside : AllByRecursion (λ k. k < length g.cells) g.trail
-  pub settled : length g.trail + unknown_count g.cells ≤ length g.cells
-
--- The trail has gained the places of the cells that were unknown in the old grid and are known in the new
--- one: made unknown again, the last one first, they give the old grid.
+-- The trail has gained steps by which the old grid became the new one: taken back, the last one first, they give
+-- the old grid. Each of them settled a cell.
 pub record IsTrailed (old new : TrailedGrid) : Type 0 where
-  pub added : List ℕ
+  pub added : List TrailStep
   pub width : new.width ≡ old.width
   pub height : new.height ≡ old.height
   pub kept : new.trail ≡ old.trail ++ added
   pub undo : cleared new.cells added ≡ old.cells
-  pub within : AllByRecursion (λ k. k < length new.cells) added
-  pub count : length added + unknown_count new.cells ≡ unknown_count old.cells
+  pub count : length added + unknown_count new.cells ≤ unknown_count old.cells

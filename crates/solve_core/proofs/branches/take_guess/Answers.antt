@@ -1,5 +1,5 @@
 -- `take_guess`: a branch that is made, or gone back to, leaves what is still to happen as it was.
-use Rattle.solve_core.proofs.Names.{ap, arith, length, TrailedGrid, rules}
+use Rattle.solve_core.proofs.Names.{ap, TrailedGrid, rules}
 use Rattle.solve_core.proofs.BranchLaws.{fork-work, fork-events, back-work, back-events, back-ready}
 use Rattle.solve_core.proofs.TrailSteps.{length-cleared}
 use Rattle.solve_core.proofs.SearchSteps.{unknown_count-positive}
@@ -8,11 +8,11 @@ use Rattle.solve_core.proofs.branches.take_guess.Goals as goal
 pub returns-in-Some-clause-events : goal.returns-in-Some-clause-events
 returns-in-Some-clause-events g c = λ rule lines w. rw c.in-Some.is
     (fork-events rule lines c.args.board.now.cells c.args.board.now.trail c.args.branches.now.items c.push_reserved.new.self.items _
-    c.push_reserved.ensures.items (omega (arith, ap length c.trail-mark.ensures.trail)))
+    c.push_reserved.ensures.items c.trail-mark.ensures.len)
 
 pub returns-in-Some-clause-work : goal.returns-in-Some-clause-work
 returns-in-Some-clause-work g c = λ rule lines w older n.
-    fork-work rule lines _ _ _ _ _ c.push_reserved.ensures.items (omega (arith, ap length c.trail-mark.ensures.trail)) w
+    fork-work rule lines _ _ _ _ _ c.push_reserved.ensures.items c.trail-mark.ensures.len w
     (rw c.in-Some.is at older) (rw c.in-Some.is at n)
 
 pub returns-in-Some-pop-clause-events : goal.returns-in-Some-pop-clause-events

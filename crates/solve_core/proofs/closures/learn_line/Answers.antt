@@ -17,6 +17,12 @@ learn-requires-clause-fits g c = search (rules, length-deduced)
 pub learn-requires-clause-more : goal.learn-requires-clause-more
 learn-requires-clause-more g c = search (rules, deduced-above)
 
+pub learn-requires-clause-some : goal.learn-requires-clause-some
+learn-requires-clause-some g c = λ e.
+    let same = same_without_change c.line-old.result.now c.in-Some.new _
+    (length-deduced c.line-old.result.now c.in-Some.new _ (sym c.in-Some.is ∙ c.deduce.ensures.answer)) c.changes-changes.ensures.changes in
+    true≢false (sym (same.1 (c.line-old.ensures.cells ∙ sym e)) ∙ sym c.is_empty.ensures ∙ c.if-is_empty.false)
+
 pub returns-then-is_empty-clause-learned : goal.returns-then-is_empty-clause-learned
 returns-then-is_empty-clause-learned g c = search (rules, seen, same_without_change, length-deduced)
 

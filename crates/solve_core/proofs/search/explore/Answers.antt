@@ -1,8 +1,9 @@
 -- `explore`: if the guess ends dead, the branches' events are left; else its closed cells' come before them.
-use Rattle.solve_core.proofs.Names.{◌≡◌, ◌++◌, length, set, ap, ◌∙◌, arith, lines_of, guess_at, events, ending, owed_by, picked, None, Some, rules, length-append}
+use Rattle.solve_core.proofs.Names.{◌≡◌, ◌++◌, length, set, ap, ◌∙◌, arith, lines_of, guess_at, events, ending, owed_by, picked, None, Some, rules}
 use Rattle.solve_core.proofs.PickLaws.{picked-IsPick}
 use Rattle.solve_core.proofs.BranchLaws.{trailed-work, trailed-pending, before-more}
 use Rattle.solve_core.proofs.SearchSteps.{next-unknown, alive-fewer, known-before, closed-events}
+use Rattle.solve_core.proofs.TrailSteps.{trailed-longer}
 use Rattle.solve_core.proofs.ClosureLaws.{closure-IsLeastClosed}
 use Rattle.solve_core.proofs.search.explore.Goals as goal
 
@@ -44,10 +45,12 @@ returns-clause-goes_on g c =
     closed-events rule (picked-IsPick c.args.pick p.width) lines given (Some new.cells) (owed_by rule p branches new)
     c.if-not-guess.ensures.closed
     ∙ ap (λ es. events rule lines given ++ es) (trailed-pending rule lines old new branches c.guess.ensures.trail w) in
+    let longer = trailed-longer old new c.guess.ensures.trail (alive-fewer lines old.cells new.cells c.args.place c.args.colour at.0 at.1
+    c.requires.colour c.if-not-guess.ensures.closed) in
     record {
       under_way = record {
         work = trailed-work rule lines old new branches c.guess.ensures.trail w;
-        older = search (rules, before-more, length-append, alive-fewer);
+        older = search (rules, before-more, longer);
         next_open = search (rules, closure-IsLeastClosed);
       };
       ends = λ spent left. (rw c.guess.ensures.size.0 at c.look_at.ensures.ending) p c.requires.size spent left

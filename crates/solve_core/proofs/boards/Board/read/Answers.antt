@@ -1,6 +1,6 @@
 -- `Board::read`: with the grid's cells and nothing on the trail, the board is a lawful one.
 use Rattle.solve_core.proofs.Names.{◌≡◌, ◌∙◌, ◌*◌, length, ap, sym, PartialGrid, TrailedGrid}
-use Rattle.solve_core.proofs.BoardSteps.{board-fresh, trailed}
+use Rattle.solve_core.proofs.BoardSteps.{board-fresh}
 use Rattle.solve_core.proofs.boards.Board.read.Goals as goal
 
 pub invariant_of-self : goal.invariant_of-self
@@ -9,7 +9,7 @@ invariant_of-self g c =
     let read = c.read.ensures.lines in
     let wide : c.args.grid.now.width ≡ b.lines.width = c.requires.width ∙ sym (ap (λ (t : TrailedGrid). t.width) c.self.view_is) in
     let high : c.args.grid.now.height ≡ b.lines.height = c.requires.height ∙ sym (ap (λ (t : TrailedGrid). t.height) c.self.view_is) in
-    board-fresh c.read.new.self (trailed b.lines b.trail.items) c.clear.new.self.items _ _ c.self.invariant
+    board-fresh _ c.read.new.self b.lines b.trail.items c.clear.new.self.items _ _ c.self.invariant
     (ap (λ (t : PartialGrid). t.width) read ∙ wide)
     (ap (λ (t : PartialGrid). t.height) read ∙ high)
     (ap (λ (t : PartialGrid). length t.cells) read ∙ c.read.ensures.count ∙ (λ i. wide i * high i) ∙ sym c.self.invariant.count)

@@ -1,23 +1,49 @@
--- `Board::settle`: since the cell was unknown, the trail has room for its place, and then leads back.
-use Rattle.solve_core.proofs.Names.{◌≡◌, ◌∙◌, ◌+◌, ◌*◌, ◌++◌, ◌∷◌, ◌<◌, [], ℕ, length, get_or, Unknown, IsBoard, TrailedGrid, rules}
-use Rattle.solve_core.proofs.BoardSteps.{board-settled, place-within, trailed}
-use Rattle.solve_core.proofs.TrailSteps.{trailed-one}
+-- `Board::settle`: its row learns one cell.
+use Rattle.solve_core.proofs.Names.{◌∙◌, ◌≤◌, arith, length-set}
+use Rattle.solve_core.proofs.LearnedLines.{row_changed, row_more, row_other, row_unknown, row_wide, row_written}
 use Rattle.solve_core.proofs.boards.Board.settle.Goals as goal
 
-here : (g t : TrailedGrid) (room x y : ℕ) → g ≡ t → IsBoard g room → x < t.width → y < t.height →
-    get_or t.cells (y * t.width + x) Unknown ≡ Unknown
-    → (y * g.width + x < length g.cells) × (get_or g.cells (y * g.width + x) Unknown ≡ Unknown) × (y * t.width + x < length t.cells)
-here g t room x y same b lx ly u = search (rules, place-within)
+pub settle-requires-clause-i : goal.settle-requires-clause-i
+settle-requires-clause-i g c =
+    omega (
+      arith,
+      c.requires.column,
+      row_wide _ _ _ _ _ _ _ c.self.invariant.count c.self.view_is c.requires.column c.requires.row c.requires.unknown c.requires.known
+          (c.copy-row.ensures ∙ c.line.ensures.cells),
+    )
 
-pub invariant_of-self : goal.invariant_of-self
-invariant_of-self g c =
-    let b = c.self.inside in
-    let at = here (trailed b.lines b.trail.items) _ _ c.args.x c.args.y c.self.view_is c.self.invariant c.requires.column c.requires.row
-    c.requires.unknown in
-    board-settled c.set.new.self (trailed b.lines b.trail.items) c.push_reserved.new.self.items _ _ (c.args.y * b.lines.width + c.args.x)
-    c.args.cell c.self.invariant at.0 at.1 c.requires.known c.set.ensures
-    (c.push_reserved.ensures.items ∙ (λ i. b.trail.items ++ (c.args.y * c.width.ensures.width i + c.args.x) ∷ []))
-    c.push_reserved.ensures.capacity
+pub settle-requires-clause-unknown : goal.settle-requires-clause-unknown
+settle-requires-clause-unknown g c =
+    row_unknown _ _ _ _ _ _ _ c.self.invariant.count c.self.view_is c.requires.column c.requires.row c.requires.unknown c.requires.known
+    (c.copy-row.ensures ∙ c.line.ensures.cells)
 
-pub returns-clause-trail : goal.returns-clause-trail
-returns-clause-trail g c = search (rules, here, trailed-one)
+pub learn-requires-clause-fits : goal.learn-requires-clause-fits
+learn-requires-clause-fits g c =
+    let fits : c.args.self.now.width ≤ g.W.PlaceSet.WIDTH = rw (← c.self.view_is) c.self.invariant.fits.0 in
+    rw (c.settle.ensures, length-set) (omega (
+      arith,
+      fits,
+      row_wide _ _ _ _ _ _ _ c.self.invariant.count c.self.view_is c.requires.column c.requires.row c.requires.unknown c.requires.known
+          (c.copy-row.ensures ∙ c.line.ensures.cells),
+    ))
+
+pub learn-requires-clause-more : goal.learn-requires-clause-more
+learn-requires-clause-more g c =
+    rw c.settle.ensures (row_more _ _ _ _ _ _ _ c.self.invariant.count c.self.view_is c.requires.column c.requires.row c.requires.unknown c.requires.known
+    (c.copy-row.ensures ∙ c.line.ensures.cells))
+
+pub learn-requires-clause-changes : goal.learn-requires-clause-changes
+learn-requires-clause-changes g c =
+    rw c.settle.ensures (row_changed _ _ _ _ _ _ _ c.self.invariant.count c.self.view_is c.requires.column c.requires.row c.requires.unknown c.requires.known
+    (c.copy-row.ensures ∙ c.line.ensures.cells)
+    _ _ c.empty.ensures c.marked.ensures)
+
+pub learn-requires-clause-some : goal.learn-requires-clause-some
+learn-requires-clause-some g c =
+    rw c.settle.ensures (row_other _ _ _ _ _ _ _ c.self.invariant.count c.self.view_is c.requires.column c.requires.row c.requires.unknown c.requires.known
+    (c.copy-row.ensures ∙ c.line.ensures.cells))
+
+pub returns-clause-cells : goal.returns-clause-cells
+returns-clause-cells g c =
+    c.learn.ensures.cells ∙ rw c.settle.ensures (row_written _ _ _ _ _ _ _ c.self.invariant.count c.self.view_is c.requires.column c.requires.row c.requires.unknown c.requires.known
+    (c.copy-row.ensures ∙ c.line.ensures.cells))

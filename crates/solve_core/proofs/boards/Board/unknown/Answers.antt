@@ -5,5 +5,5 @@ use Rattle.solve_core.proofs.boards.Board.unknown.Goals as goal
 
 pub invariant_of-result : goal.invariant_of-result
 invariant_of-result g c =
-    board-unknown c.args.width c.args.height _ c.unknown.result c.clear.new.self.items c.requires.size c.unknown.ensures c.clear.ensures.items
-    (omega (arith, c.requires.room.trail, ap (λ (r : BoardSpace). r.trail) c.room.view_is, c.clear.ensures.capacity))
+    board-unknown _ c.args.width c.args.height _ c.unknown.result c.clear.new.self.items c.requires.size c.requires.fits c.unknown.ensures
+    c.clear.ensures.items (omega (arith, c.requires.room.trail, ap (λ (r : BoardSpace). r.trail) c.room.view_is, c.clear.ensures.capacity))

@@ -1,54 +1,26 @@
--- `learn` of `Board`: the trail leads back from the cells that the line learned, and its room is left.
-use Rattle.solve_core.proofs.Names.{arith, subst, Rows, Columns, IsTrailed, TrailedGrid, length-Extends, PartialGrid, rules}
-use Rattle.solve_core.proofs.BoardSteps.{board-learned, trail-learned, trailed}
-use Rattle.solve_core.proofs.LearnedLines.{column_learning, place_fits, row_learning, learns_at}
-use Rattle.solve_core.proofs.boards.BoardLearner.learn.Given.{Over}
+-- `learn` of `Board`: its step leads back to the cells as they were, and there was room for it, since a cell was unknown.
+use Rattle.solve_core.proofs.Names.{arith, subst, IsTrailed, TrailedGrid, board_of}
+use Rattle.solve_core.proofs.BoardSteps.{board-learned, board-room, board-trailed}
+use Rattle.solve_core.proofs.LearnedLines.{learned_step}
 use Rattle.solve_core.proofs.boards.BoardLearner.learn.Goals as goal
 
-abbrev grid_at : TrailedGrid → PartialGrid
-grid_at t = record { width = t.width; height = t.height; cells = t.cells }
-
-pub push_changes-requires-clause-places : goal.push_changes-requires-clause-places
-push_changes-requires-clause-places g c = λ k has.
-    let is = learns_at c.args.side Rows c.args.i _ c.args.new.now c.self.inside.lines _ c.self.invariant.size.width_from c.self.invariant.count
-    (λ j. grid_at (c.self.view_is j)) c.in-Rows.is c.requires.i c.requires.more c.requires.changes in
-    let fits = place_fits Rows _ _ _ _ _ _ c.self.invariant.size is k has in
-    rw (c.from-place.ensures, c.width-width.ensures.width) (omega (arith, fits))
-
-trailed-in-Rows : (g : Over) (c : goal.After-push_changes g) → IsTrailed (trailed c.self.inside.lines c.self.inside.trail.items)
-    (trailed c.learn.new.self c.push_changes.new.trail.items)
-trailed-in-Rows g c = search (rules, learns_at, trail-learned, row_learning)
+pub push_reserved-requires : goal.push_reserved-requires
+push_reserved-requires g c =
+    let step = learned_step _ _ _ _ c.self.inside.lines c.learn.new.self _ _ c.self.invariant.size.width_from c.self.invariant.count c.self.view_is
+    c.requires.i c.requires.more c.requires.changes c.requires.some c.learn.ensures.cells in
+    omega (arith, board-room _ _ _ _ c.self.invariant, step.2, c.self.invariant.room_is)
 
 pub invariant_of-self : goal.invariant_of-self
 invariant_of-self g c =
-    board-learned c.learn.new.self (trailed c.self.inside.lines c.self.inside.trail.items) c.push_changes.new.trail.items _ _
-    c.self.invariant c.learn.ensures.width c.learn.ensures.height (trailed-in-Rows g c) c.push_changes.ensures.capacity
+    let step = learned_step _ _ _ _ c.self.inside.lines c.learn.new.self _ _ c.self.invariant.size.width_from c.self.invariant.count c.self.view_is
+    c.requires.i c.requires.more c.requires.changes c.requires.some c.learn.ensures.cells in
+    board-learned _ c.learn.new.self c.self.inside.lines c.self.inside.trail.items c.push_reserved.new.self.items _ _ _ c.self.invariant
+    c.learn.ensures.width c.learn.ensures.height step.3 c.push_reserved.ensures.items step.0 step.1 step.2 c.push_reserved.ensures.capacity
 
-pub returns-in-Rows-clause-trail : goal.returns-in-Rows-clause-trail
-returns-in-Rows-clause-trail g c = λ keeps.
-    subst (λ (b : TrailedGrid). IsTrailed b (trailed c.learn.new.self c.push_changes.new.trail.items)) c.self.view_is (trailed-in-Rows g c)
-
-pub push_changes-requires-in-Columns : goal.push_changes-requires-in-Columns
-push_changes-requires-in-Columns g c =
-    let is = learns_at c.args.side Columns c.args.i _ c.args.new.now c.self.inside.lines _ c.self.invariant.size.width_from c.self.invariant.count
-    (λ j. grid_at (c.self.view_is j)) c.in-Columns.is c.requires.i c.requires.more c.requires.changes in
-    record {
-      within = λ k has. omega (arith, (is.changes.to k has).0, length-Extends _ c.args.new.now is.more, c.requires.fits);
-      places = λ k has.
-          let fits = place_fits Columns _ _ _ _ _ _ c.self.invariant.size is k has in
-          rw (c.from-place.ensures, c.width-width.ensures.width) (omega (arith, fits));
-      room = search rules;
-    }
-
-trailed-in-Columns : (g : Over) (c : goal.After-push_changes-in-Columns g) → IsTrailed (trailed c.self.inside.lines c.self.inside.trail.items)
-    (trailed c.learn.new.self c.push_changes-in-Columns.new.trail.items)
-trailed-in-Columns g c = search (rules, learns_at, trail-learned, column_learning)
-
-pub invariant_of-self-in-Columns : goal.invariant_of-self-in-Columns
-invariant_of-self-in-Columns g c =
-    board-learned c.learn.new.self (trailed c.self.inside.lines c.self.inside.trail.items) c.push_changes-in-Columns.new.trail.items _ _
-    c.self.invariant c.learn.ensures.width c.learn.ensures.height (trailed-in-Columns g c) c.push_changes-in-Columns.ensures.capacity
-
-pub returns-in-Columns-clause-trail : goal.returns-in-Columns-clause-trail
-returns-in-Columns-clause-trail g c = λ keeps.
-    subst (λ (b : TrailedGrid). IsTrailed b (trailed c.learn.new.self c.push_changes-in-Columns.new.trail.items)) c.self.view_is (trailed-in-Columns g c)
+pub returns-clause-trail : goal.returns-clause-trail
+returns-clause-trail g c = λ keeps.
+    let step = learned_step _ _ _ _ c.self.inside.lines c.learn.new.self _ _ c.self.invariant.size.width_from c.self.invariant.count c.self.view_is
+    c.requires.i c.requires.more c.requires.changes c.requires.some c.learn.ensures.cells in
+    subst (λ (b : TrailedGrid). IsTrailed b (board_of c.learn.new.self c.push_reserved.new.self.items)) c.self.view_is
+    (board-trailed c.learn.new.self c.self.inside.lines c.self.inside.trail.items c.push_reserved.new.self.items _ c.learn.ensures.width
+    c.learn.ensures.height c.push_reserved.ensures.items step.1 step.2)

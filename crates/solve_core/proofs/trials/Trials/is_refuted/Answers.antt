@@ -1,7 +1,6 @@
 -- `Trials::is_refuted`: a cell of the grid has a place in sets of its width, and neutral cells are open.
-use Rattle.solve_core.proofs.Names.{◌≡◌, ◌∙◌, ◌<◌, ◌%◌, ◌/◌, ℕ, sym, subst, arith, HasRoomFor, Nonogram, Tried, rules}
+use Rattle.solve_core.proofs.Names.{◌∙◌, sym, subst, arith, HasRoomFor, Tried}
 use Rattle.solve_core.proofs.GridSteps.{place_split}
-use Rattle.solve_core.proofs.NeutralCells.{neutral_open}
 use Rattle.solve_core.proofs.trials.Trials.is_refuted.Goals as goal
 
 pub is_open-requires-clause-column : goal.is_open-requires-clause-column

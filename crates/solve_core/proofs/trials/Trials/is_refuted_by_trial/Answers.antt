@@ -1,15 +1,10 @@
 -- `Trials::is_refuted_by_trial`: a board that closes alive is line-closed and knows all that the board knew, so its
 -- colours are open; and then the board goes back.
-use Rattle.solve_core.proofs.Names.{set, sym, subst, lines_of, HasRoomFor, Tried, arith}
+use Rattle.solve_core.proofs.Names.{set, sym, lines_of}
 use Rattle.solve_core.proofs.ClosureLaws.{closure-IsLeastClosed}
 use Rattle.solve_core.proofs.TrialSteps.{settled-extends}
 use Rattle.solve_core.proofs.trials.Trials.is_refuted_by_trial.Goals as goal
 use Rattle.solve_core.proofs.trials.Trials.is_refuted_by_trial.Goals.{then-alive, else-alive}
-
-pub first_places-requires : goal.first_places-requires
-first_places-requires g c =
-    let fits = (subst (λ (t : Tried). HasRoomFor c.args.puzzle.now t) (sym c.self.view_is) c.requires.room).fits in
-    (omega (arith, c.height.ensures, c.requires.ready.rest.marks.puzzle.size.height_from), omega (arith, c.height.ensures, fits.columns_short))
 
 pub returns-clause-ready : goal.returns-clause-ready
 returns-clause-ready g c =

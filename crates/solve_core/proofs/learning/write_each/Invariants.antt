@@ -1,7 +1,7 @@
--- What the loop of `settle_each` keeps: the lines at the places before `from` have the colour, and the others are as
+-- What the loop of `write_each` keeps: the lines at the places before `from` have the colour, and the others are as
 -- they were.
 use Rattle.solve_core.proofs.Names.{◌≡◌, ℕ, ◌-◌, ◌*◌, ◌<◌, ◌≤◌, [], get_or, set, Has}
-use Rattle.solve_core.proofs.learning.settle_each.Given as goal
+use Rattle.solve_core.proofs.learning.write_each.Given as goal
 
 abbrev pub invariant-loop-from : goal.invariant-loop-from
 invariant-loop-from g l =

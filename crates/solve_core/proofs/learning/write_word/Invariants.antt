@@ -1,7 +1,7 @@
--- What the loop of `settle_word` keeps: the lines at `left` are as they were, and those at the other places of the
+-- What the loop of `write_word` keeps: the lines at `left` are as they were, and those at the other places of the
 -- word have the colour.
 use Rattle.solve_core.proofs.Names.{◌≡◌, ◌≢◌, ℕ, ◌+◌, [], get_or, set, Has}
-use Rattle.solve_core.proofs.learning.settle_word.Given as goal
+use Rattle.solve_core.proofs.learning.write_word.Given as goal
 
 abbrev pub invariant-loop-colour : goal.invariant-loop-colour
 invariant-loop-colour g l = record {

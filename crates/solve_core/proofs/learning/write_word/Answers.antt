@@ -1,9 +1,9 @@
--- `settle_word`: a place of the word is met once, so its line was as before.
+-- `write_word`: a place of the word is met once, so its line was as before.
 use Rattle.solve_core.proofs.Names.{rules, ◌≡◌, ◌≢◌, ◌∙◌, refl, ◌+◌, ◌-◌, ◌<◌, ℕ, inl, inr, List, [], length, get_or, set, sym, ap, arith, get_or-set_same, get_or-set_other, subst, cases_eq, eqb-true, Cell, Has, width_most}
 use Rattle.solve_core.proofs.Changes.{none_in}
 use Rattle.solve_core.proofs.WordLemmas.{in_word, of_word, stays}
 use Rattle.solve_core.proofs.GridLineSteps.{line_read}
-use Rattle.solve_core.proofs.learning.settle_word.Goals as goal
+use Rattle.solve_core.proofs.learning.write_word.Goals as goal
 
 pub overflow_add-from : goal.overflow_add-from
 overflow_add-from g c = grind (arith, width_most, c.requires.from, c.first_place-k.ensures.within)
@@ -17,8 +17,8 @@ offset_bounds-lines-from g c =
     let here : c.from.result < length c.args.lines.now = omega (arith, c.from.ensures, line) in
     search rules
 
-pub settle-requires : goal.settle-requires
-settle-requires g c =
+pub write_cell-requires : goal.write_cell-requires
+write_cell-requires g c =
     let before = c.loop-colour.invariant in
     let x = c.first_place-k.result in
     let has = c.first_place-k.ensures.in_mask in
@@ -29,7 +29,7 @@ settle-requires g c =
     line_read c.loop-colour.lines c.from.result c.index-lines-from.result within ∙
     ap (λ (j : ℕ). get_or c.loop-colour.lines j []) c.from.ensures ∙
     before.as_old (c.args.from + x) (λ y word gone e. gone (subst (Has c.loop-colour.left) (omega (arith, e)) has)) in
-    record { i = rw same can.within; unknown = rw same can.unknown; known = c.requires.colour }
+    record { i = rw same can.within; unknown = rw same can.unknown }
 
 pub loop-colour-preserved : goal.loop-colour-preserved
 loop-colour-preserved g c =
@@ -47,7 +47,7 @@ loop-colour-preserved g c =
     let is = of_word places from word x c.word_from-left.ensures (before.inside x has) in
     let line = (c.requires.cells (from + x) is).line in
     let within : at < length lines = omega (arith, c.from.ensures, line, c.loop-colour.auto.lines) in
-    let settled = c.settle.new.self in
+    let settled = c.write_cell.new.line in
     let elsewhere = λ (k : ℕ) (other : k ≢ from + x). get_or-set_other lines at k settled [] (λ e. other (e ∙ c.from.ensures)) in
     record {
       inside = λ y h. before.inside y (stays left next x marked y h).0;
@@ -56,7 +56,7 @@ loop-colour-preserved g c =
       as_new = λ y h gone. elim (cases_eq y x) [
         | inl own ↦ rw own (
             ap (λ (p : ℕ). get_or (set lines at settled) p []) (sym c.from.ensures) ∙ get_or-set_same lines at settled [] within ∙
-            c.settle.ensures ∙ (λ i. set (line_read lines at c.index-lines-from.result within i) c.args.i c.args.colour) ∙
+            c.write_cell.ensures ∙ (λ i. set (line_read lines at c.index-lines-from.result within i) c.args.i c.args.colour) ∙
             ap (λ (p : ℕ). set (get_or lines p []) c.args.i c.args.colour) c.from.ensures ∙
             ap (λ (line : List Cell). set line c.args.i c.args.colour)
             (before.as_old (from + x) (λ z hz dead e. dead (subst (Has left) (omega (arith, e)) has))))
