@@ -37,7 +37,7 @@ module _ (p : Nonogram) (c : Closing) (cells : List Cell) (colour : Cell) (rest 
       (subst (λ (v : Cell). deduced (set line b v) clue ≡ Some (set line b v)) (coloured_as colour can.known)
       (table.nothing_else b within unknown neutral.1))
 
-  -- if nothing else is certain of its row and of its column once a cell of a board at rest has a colour, nothing is of the board
+  -- if nothing else is certain of its row and of its column once a cell has a colour, nothing is of the cells
   pub neutral_cell : (y x : ℕ) → IsNeutralLine Rows y x → IsNeutralLine Columns x y → IsNeutralCell p cells (y * p.width + x) colour
   neutral_cell y x row column can =
       settled_closed p (set cells (y * p.width + x) colour) rest.marks.puzzle

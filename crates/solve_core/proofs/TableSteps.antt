@@ -63,7 +63,8 @@ column_others i old new rows others Rows k n = refl
 column_others i old new rows others Columns k n = others k (n refl)
 
 -- sets beside tables without a line can be any
-pub empty_sets : (width : ℕ) (tables : List Table) (sets : List ColourMasks) → AreEmpty tables → length sets ≤ width → AreNeutralOf width tables sets
+pub empty_sets : (width : ℕ) (tables : List Table) (sets : List ColourMasks) → AreEmpty tables → length sets ≤ width
+    → AreNeutralOf width tables sets
 empty_sets width tables sets empty few = record { few = few; neutral = λ j k filled some has. absurd (some (empty.each k)) }
 
 -- no place is for a colour if there is none

@@ -1,4 +1,4 @@
--- What the loop of `mark_neutral` keeps: the sets that are passed have the line's mark, the others are as they were.
+-- What the loop of `mark_neutral` keeps: sets that are passed are marked, the others are as they were.
 use Rattle.solve_core.proofs.Names.{◌≡◌, ◌<◌, ◌≤◌, ℕ, Bool, length, get_or, Has, IsMarked, IsMaskOf, has}
 use Rattle.line_core.specs.Pairs.{neutral_if}
 use Rattle.solve_core.specs.steps.ColourMasks.{mask_if, no_colours}
