@@ -1,4 +1,4 @@
--- The lines of a grid after one of them was written whole, and each that crosses it where it changes: learned, or forgotten again.
+-- The lines of a grid after one was written whole, and each that crosses it where it changes: what it learns or forgets.
 use Rattle.solve_core.proofs.Names.{◌≡◌, ◌≢◌, ◌∙◌, AllByRecursion, AreFresh, Blank, Filled, LineMarks, Nonogram, Some, bit_at, colour, cond, deduced, eq-eqb, has, is_filled, is_known, map, ne_eqb, subst, true, false, true≢false, refl, ℕ, suc, ◌+◌, ◌*◌, ◌<◌, inl, inr, List, [], ◌∷◌, length, get_or, set, sym, ap, arith, length-set, get_or-set_same, get_or-set_other, cases_eq, cases_lt, get_or_past, set-get_or, zero-add, Cell, Unknown, Side, Rows, Columns, Extends, IsChanged, IsMarked, IsMarkedOn, cells_at, crossing, places_on, IsSize, PartialGrid, cells_of_rows, count_on, place_on, same_cells, get_or-cells_at, length-cells_at, length-places_on, get_or-places_on, Extends-at, Extends-refl, Has, IsMaskOf, with_cells, AreLinesOf, AreSameOutside, board_of, cells_along, TrailedGrid, CanLearn, CanWriteIn, LineStep, IsStepOf, marks_on, step_on, unlearned, without, cleared, unknown_count, length-Extends, ext_get_or, rules}
 use Rattle.solve_core.proofs.ClosureLaws.{length-with_cells, with_cells-monotone, with_cells-read}
 use Rattle.solve_core.proofs.Changes.{none_in}

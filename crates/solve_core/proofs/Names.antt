@@ -3,7 +3,7 @@ pub use Rattle.std.proofs.Common.{Bool, IfNone, IfSome, List, None, Option, Some
 pub use Rattle.std.proofs.Math.ListN.{get_or-eq_default, get_or-map, length-map}
 pub use Rattle.std.proofs.Math.Seq.{drop-length, get_or-append_seam}
 pub use Rattle.std.proofs.lemmas.Bool.{and_parts, cases_Bool, cases_eq, cases_lt, eq-eqb, eqb-false, eqb-true, false_from_ne_true, le-leb, le-ltb, leb-true, lt-leb, lt-ltb, ne_eqb, or_cases}
-pub use Rattle.std.proofs.lemmas.List.{drop-append-le, ext_get_or, get_or-replicate, get_or-take, get_or_append_left, get_or_default, get_or_past, length-replicate, length-take, length-take-le, set-get_or, set-set, take-append-drop, take-take, take_rest, with_items_is}
+pub use Rattle.std.proofs.lemmas.List.{drop-append-le, ext_get_or, get_or-replicate, get_or-take, get_or_append_left, get_or_default, get_or_past, length-replicate, length-take, length-take-le, set-get_or, take-append-drop, take-take, take_rest, with_items_is}
 pub use Rattle.std.proofs.lemmas.List.Elements.{All-contains, All-from_recursion, All-more, recursion_from_All}
 pub use Rattle.std.proofs.lemmas.List.Quantifiers.{position-Some}
 pub use Rattle.std.proofs.lemmas.List.Sums.{AllPass-from_list_all, count_by_more_no, count_by_more_yes, fails_before_first, sum_by-cons}

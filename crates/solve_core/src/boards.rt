@@ -71,8 +71,8 @@ impl<W: LineSet> BoardRoom<W> {
     }
 }
 
-/// A grid as its rows and its columns. It keeps what each line learned, in the order in which they did, in room
-/// that is made once, and so leads back.
+/// A grid as its rows and its columns. It keeps what lines learned, in the order in which they did, in room that
+/// is made once, and so leads back.
 pub struct Board<W: LineSet> {
     lines: GridLines<W>,
     trail: Vec<Step<W>>,
@@ -207,8 +207,8 @@ impl<W: LineSet> Board<W> {
         touched
     }
 
-    /// Takes over the cells of the board to which its trail leads back, with nothing to go back to. Only lines that
-    /// its steps touch are copied.
+    /// Takes over the cells of the board to which its trail leads back, with nothing to go back to. Only lines
+    /// that its steps touch are copied.
     pub fn restore(&mut self, other: &Board<W>)
         requires width { other.now.width ≡ self.old.width }
         requires height { other.now.height ≡ self.old.height }

@@ -1,4 +1,4 @@
--- What the loop of `copy_each` keeps: the lines at the places are copied but for those left, and the others are as they were.
+-- What the loop of `copy_each` keeps: but for those left, the lines at the places are copied; others stay.
 use Rattle.solve_core.proofs.Names.{◌≡◌, ℕ, [], get_or, Has}
 use Rattle.solve_core.proofs.grid_lines.copy_each.Given as goal
 

@@ -1,4 +1,4 @@
--- What the loop of `Board::touched` keeps: the lines of the steps passed are marked, and only lines of the grid.
+-- What the loop of `Board::touched` keeps: the lines of the steps passed are marked, and all are of the grid.
 use Rattle.solve_core.proofs.Names.{◌<◌, ℕ, get_or, AllByRecursion, AreMarksWithin, LineStep, IsStepOf}
 use Rattle.solve_core.proofs.LearnedLines.{IsMarkedStep}
 use Rattle.solve_core.proofs.boards.Board.touched.Given as goal

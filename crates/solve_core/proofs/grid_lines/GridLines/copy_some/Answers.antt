@@ -1,4 +1,4 @@
--- `GridLines::copy_some`: since no other line differs, with the marked ones copied the lines are those of the other grid.
+-- `GridLines::copy_some`: with the marked lines copied, all are those of the other grid.
 use Rattle.solve_core.proofs.Names.{rules, sym, subst, with_items_is, Rows, Columns, AreMarksWithin, PartialGrid}
 use Rattle.solve_core.proofs.LearnedLines.{copied_grid}
 use Rattle.solve_core.proofs.grid_lines.GridLines.copy_some.Goals as goal
