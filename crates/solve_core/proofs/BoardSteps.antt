@@ -1,9 +1,8 @@
 -- What learning and going back do to a board.
-use Rattle.solve_core.proofs.Names.{◌≡◌, refl, IsTrailed, board_of, cells_before, ℕ, ◌+◌, ◌-◌, ◌*◌, ◌<◌, ◌≤◌, inl, inr, List, [], ◌∷◌, ◌++◌, length, map, take, drop, sym, ap, ◌∙◌, arith, length-append, length-map, replicate, length-replicate, drop-append-le, drop-length, cases_lt, Cell, Unknown, PartialGrid, IsSize, IsBoard, LineStep, TrailStep, IsStepOf, step_on, without, cleared, unknown_count, rules}
+use Rattle.solve_core.proofs.Names.{◌≡◌, IsTrailed, board_of, ℕ, ◌+◌, ◌*◌, ◌<◌, ◌≤◌, inl, inr, List, [], ◌∷◌, ◌++◌, length, map, drop, ap, ◌∙◌, arith, length-append, length-map, replicate, length-replicate, drop-append-le, drop-length, cases_lt, Cell, Unknown, PartialGrid, IsSize, IsBoard, LineStep, TrailStep, IsStepOf, step_on, without, cleared, unknown_count, rules}
 use Rattle.std.proofs.lemmas.List.{map-append}
-use Rattle.std.proofs.Math.Seq.{drop-append_seam, take-append_seam}
 use Rattle.solve_core.proofs.Closing.{unknown_count-le}
-use Rattle.solve_core.proofs.TrailSteps.{cleared-append, length-without, all_append, trailed-one}
+use Rattle.solve_core.proofs.TrailSteps.{cleared-append, length-without, all_append}
 use Rattle.solve_core.proofs.BranchLaws.{all_split}
 
 -- a board with other cells, and nothing to go back to
@@ -52,18 +51,14 @@ board-learned most g old steps more s room left b w h long m is back fewer e =
 pub board-trailed : (g old : PartialGrid) (steps more : List LineStep) (s : LineStep) → g.width ≡ old.width → g.height ≡ old.height →
     more ≡ steps ++ s ∷ [] → without g.cells (step_on old.width old.height s) ≡ old.cells → unknown_count g.cells < unknown_count old.cells →
     IsTrailed (board_of old steps) (board_of g more)
-board-trailed g old steps more s w h m back fewer =
-    trailed-one (board_of old steps) (board_of g more) (step_on old.width old.height s) w h
-    (rw (w, h, m) (map-append (step_on old.width old.height) steps (s ∷ []))) back fewer
-
--- what is left of the trail, and of the cells, without its last step
-pub board-before : (old : PartialGrid) (steps less : List LineStep) (s : LineStep) → steps ≡ less ++ s ∷ [] →
-    let g = board_of old steps in let last = length g.trail - 1 in
-    (map (step_on old.width old.height) less ≡ take last g.trail) × (without old.cells (step_on old.width old.height s) ≡ cells_before g.cells g.trail last)
-board-before old steps less s t =
-    let f = step_on old.width old.height in
-    let long : length (map f less ++ f s ∷ []) - 1 ≡ length (map f less) = omega (arith, length-append (map f less) (f s ∷ [])) in
-    rw (t, map-append, long) (sym (take-append_seam (map f less) (f s ∷ [])), rw (drop-append_seam) refl)
+board-trailed g old steps more s w h m back fewer = record {
+  added = step_on old.width old.height s ∷ [];
+  width = w;
+  height = h;
+  kept = rw (w, h, m) (map-append (step_on old.width old.height) steps (s ∷ []));
+  undo = back;
+  count = omega arith;
+}
 
 -- a board without its last step
 pub board-undone : (most : ℕ) (g old : PartialGrid) (steps less : List LineStep) (s : LineStep) (room left : ℕ) → IsBoard most old steps room →

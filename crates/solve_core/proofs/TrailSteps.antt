@@ -1,5 +1,5 @@
 -- How a trail grows, and what taking its steps back leaves.
-use Rattle.solve_core.proofs.Names.{◌≡◌, drop, ℕ, zero, suc, ◌+◌, ◌<◌, true, List, [], ◌∷◌, ◌++◌, length, get_or, set, refl, sym, ap, ◌∙◌, arith, length-append, append-nil, append_assoc, true≢false, AllByRecursion, Cell, Unknown, Filled, Blank, is_known, cells_at, TrailStep, TrailedGrid, unlearned, without, unknown_count, cleared, IsTrailed, rules}
+use Rattle.solve_core.proofs.Names.{◌≡◌, drop, ℕ, zero, suc, ◌+◌, ◌<◌, true, List, [], ◌∷◌, ◌++◌, length, get_or, set, refl, sym, ap, ◌∙◌, arith, length-append, append_assoc, true≢false, AllByRecursion, Cell, Unknown, Filled, Blank, is_known, cells_at, TrailStep, TrailedGrid, unlearned, without, unknown_count, cleared, IsTrailed}
 use Rattle.solve_core.proofs.ClosureLaws.{length-with_cells}
 
 -- taking two lists of steps back takes those of the second one back first
@@ -33,11 +33,7 @@ pub all_append : {X : Type 0} (P : X → Type 0) (xs ys : List X) → AllByRecur
 all_append P [] ys h k = k
 all_append P (x ∷ xs) ys h k = (h.0, all_append P xs ys h.1 k)
 
--- nothing was learned
-pub trailed-refl : (g : TrailedGrid) → IsTrailed g g
-trailed-refl g = search (rules, append-nil)
-
--- first some was learned, and then more
+-- first something was learned, and then more
 pub trailed_trans : (a b c : TrailedGrid) → IsTrailed a b → IsTrailed b c → IsTrailed a c
 trailed_trans a b c x y = record {
   added = x.added ++ y.added;
@@ -68,8 +64,3 @@ count-settled (x ∷ g) zero Blank h e n = rw e (omega arith)
 count-settled (Unknown ∷ g) (suc k) c h e n = let rest = count-settled g k c (omega arith) e n in omega (arith, rest)
 count-settled (Filled ∷ g) (suc k) c h e n = count-settled g k c (omega arith) e n
 count-settled (Blank ∷ g) (suc k) c h e n = count-settled g k c (omega arith) e n
-
--- a line learned something
-pub trailed-one : (g after : TrailedGrid) (s : TrailStep) → after.width ≡ g.width → after.height ≡ g.height → after.trail ≡ g.trail ++ s ∷ [] →
-    without after.cells s ≡ g.cells → unknown_count after.cells < unknown_count g.cells → IsTrailed g after
-trailed-one g after s w h kept undo fewer = record { added = s ∷ []; width = w; height = h; kept = kept; undo = undo; count = omega arith }

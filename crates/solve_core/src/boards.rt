@@ -70,7 +70,7 @@ impl<W: LineSet> BoardRoom<W> {
     }
 }
 
-/// A grid as its rows and its columns. It keeps what each line learned, in the order in which they did, in room
+/// A grid as its rows and its columns. It keeps what lines learned, in the order in which they did, in room
 /// that is made once, and so leads back.
 pub struct Board<W: LineSet> {
     lines: GridLines<W>,
@@ -183,8 +183,8 @@ impl<W: LineSet> Board<W> {
         }
     }
 
-    /// The rows that steps touch which were made since the trail had `mark` of them: those that learned, and those that
-    /// a column crosses where it learned.
+    /// The rows that are touched by the steps since the trail had `mark` of them: those that learned, and those
+    /// that a column crosses where it learned.
     pub fn rows_since(&self, mark: usize) -> W
         requires { mark ≤ length self.now.trail }
         ensures { (y : ℕ) → Has (W.number result) y → y < self.now.height }

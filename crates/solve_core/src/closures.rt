@@ -463,8 +463,8 @@ impl<W: LineSet> Closer<W> {
         alive
     }
 
-    /// The cells of row y of a board at rest with which nothing else is certain, as tables show, for each colour. Once
-    /// 16 trials in succession were alive, the tables of row y and of column x are made.
+    /// The cells of row y of a board at rest with which nothing else is certain, as tables show, for each colour.
+    /// Once 16 trials in succession were alive, the tables of row y and of column x are made.
     pub fn neutral_in_row(
         &mut self,
         puzzle: &Puzzle,

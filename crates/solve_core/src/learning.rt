@@ -1,5 +1,5 @@
-//! What a line learned, or forgets, written into the lines that cross it: by words of 64 places, and in one colour
-//! after the other, so that no cell is asked for its colour.
+//! What a line learned, or forgets, written into the lines that cross it: by words of 64 places, and in one
+//! colour after the other, so that no cell is asked for its colour.
 ghost use Rattle.std.specs.Prelude.{◌≡◌, ℕ, ◌<◌, ◌≤◌, [], length, slice_index_or, slice_set, true};
 ghost use Rattle.grid_core.specs.declared.cells.Cell.TheVariants.{Unknown};
 ghost use Rattle.grid_core.specs.Cells.{is_known};
@@ -24,8 +24,8 @@ fn write_cell<W: LineSet>(line: &mut LineOf<W>, i: u16, colour: Cell)
     }
 }
 
-/// Writes a colour, or that nothing is known, into cell `i` of each line at those of the places that are among the
-/// 64 from `from` on.
+/// Writes a colour, or that nothing is known, into cell `i` of each line at those of the places that are among
+/// the 64 from `from` on.
 fn write_word<W: LineSet>(lines: &mut [LineOf<W>], i: u16, places: W, from: u16, colour: Cell)
     requires from { from < W.WIDTH }
     requires cells { (k : ℕ) → IsIn (W.number places) from k → CanWriteIn lines.old i colour k }

@@ -99,8 +99,8 @@ impl<W: LineSet> Trials<W> {
         Progress::Changed
     }
 
-    /// Whether a colour is refuted at an unknown cell. It is tried on the board itself, which then goes back; if the
-    /// board stays alive, the colours of all cells known there are open.
+    /// Whether a colour is refuted at an unknown cell. It is tried on the board itself, which then goes back; if
+    /// the board stays alive, the colours of all cells known there are open.
     fn is_refuted_by_trial(
         &mut self,
         puzzle: &Puzzle,
@@ -126,8 +126,8 @@ impl<W: LineSet> Trials<W> {
         !alive
     }
 
-    /// Notes as open the colours of the cells of row y for which they are neutral, as the tables of the row and of the
-    /// columns show, that of column x at least.
+    /// Notes as open the colours for which cells of row y are neutral, as the tables of the row and of columns show,
+    /// that of column x among them.
     fn open_neutral(&mut self, puzzle: &Puzzle, board: &Board<W>, x: u16, y: u16)
         requires ready { IsReady puzzle.now self.old board.now.cells }
         requires room { HasRoomFor puzzle.now self.old }
@@ -141,8 +141,8 @@ impl<W: LineSet> Trials<W> {
         self.openings.open_row(usize::from(y), &neutral);
     }
 
-    /// Whether a colour is refuted at an unknown cell, without a trial if it is known to be open, or tables show that
-    /// nothing else is certain with it.
+    /// Whether a colour is refuted at an unknown cell, without a trial if it is known to be open, or tables show
+    /// that nothing else is certain with it.
     fn is_refuted(
         &mut self,
         puzzle: &Puzzle,

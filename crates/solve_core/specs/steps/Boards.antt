@@ -36,8 +36,8 @@ pub record HasBoardRoom (width height : ℕ) (room : BoardSpace) : Type 0 where
   pub columns : width ≤ room.columns
   pub trail : width * height ≤ room.trail
 
--- what each board keeps in sets of `most` places: its steps are of its lines, and before each of them there were as many
--- unknown cells as there is room for steps
+-- what each board keeps in sets of `most` places: its steps are of its lines, and at each mark there was room
+-- for a step for each unknown cell
 pub record IsBoard (most : ℕ) (g : PartialGrid) (steps : List LineStep) (room : ℕ) : Type 0 where
   pub size : IsSize g.width g.height
   pub fits : (g.width ≤ most) × (g.height ≤ most)

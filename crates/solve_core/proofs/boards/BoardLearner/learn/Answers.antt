@@ -1,4 +1,4 @@
--- `learn` of `Board`: its step leads back to the cells as they were, and there was room for it, since a cell was unknown.
+-- `learn` of `Board`: its step leads back, and there was room for it, since a cell was unknown.
 use Rattle.solve_core.proofs.Names.{arith, subst, IsTrailed, TrailedGrid, board_of}
 use Rattle.solve_core.proofs.BoardSteps.{board-learned, board-room, board-trailed}
 use Rattle.solve_core.proofs.LearnedLines.{learned_step}
