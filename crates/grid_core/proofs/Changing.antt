@@ -2,22 +2,15 @@
 use Rattle.grid_core.proofs.Names.{◌≡◌, ◌≢◌, ℕ, ◌<◌, ◌⊎◌, nat_eq, List, length, refl, sym, arith, IsTrue, ext_get_or, nat_tests, bit_at-zero, Cell, Unknown, Filled, Blank, Has, has, IsMaskOf, line_cells, IsChanged}
 use Rattle.place_sets.proofs.WordSteps.{some_place}
 use Rattle.grid_core.proofs.LineCells.{length_seen, seen_at}
+use Rattle.grid_core.specs.Lines.{IsLine}
 
--- the places of either mask's difference, within the line
-pub changed_is : (len f b more g d x y z all m : ℕ) (l other : List Cell) → line_cells len f b ≡ l → line_cells more g d ≡ other
-    → length other ≡ length l
-    → ((k : ℕ) → Has f k → Has b k → ⊥) → ((k : ℕ) → Has g k → Has d k → ⊥)
+-- the places of either mask's difference
+pub changed_is : (width len f b more g d x y z : ℕ) (l other : List Cell) → line_cells len f b ≡ l → line_cells more g d ≡ other
+    → length other ≡ length l → IsLine width len f b → IsLine width more g d
     → IsMaskOf (λ i. has f i ≢ has g i) x → IsMaskOf (λ i. has b i ≢ has d i) y → IsMaskOf (λ i. Has x i ⊎ Has y i) z
-    → IsMaskOf (λ i. i < len) all
-    → IsMaskOf (λ i. Has z i × Has all i) m → IsMaskOf (IsChanged l other) m
-changed_is len f b more g d x y z all m l other e o same apart far px py pz pa pm =
-    let long = length_seen len f b l e in
-    let at = λ (i : ℕ). seen_at len f b i l e in
-    let far_at = λ (i : ℕ). seen_at more g d i other o in
-    record {
-      to = λ i h. grind (arith, nat_tests, at i, far_at i, pm.to i, pa.to i, pz.to i, px.to i, py.to i, apart i, far i);
-      from = λ i h. grind (arith, nat_tests, at i, far_at i, pm.from i, pa.from i, pz.from i, px.from i, py.from i);
-    }
+    → IsMaskOf (IsChanged l other) z
+changed_is width len f b more g d x y z l other e o same own far px py pz =
+    grind (arith, nat_tests, length_seen len f b l e, length_seen more g d other o, seen_at len f b, seen_at more g d)
 
 -- two cells that can't differ are the same
 pub same_cells : (c d : Cell) → (d ≢ c → ⊥) → d ≡ c

@@ -1,6 +1,9 @@
 -- The rows that a grid keeps.
-use Rattle.grid_core.proofs.Names.{◌≡◌, ℕ, ◌+◌, ◌-◌, ◌*◌, ◌<◌, ◌≤◌, List, [], length, replicate, get_or, set, refl, arith, length-set, ext_get_or, length-map, get_or-map, length-append, length-replicate, get_or_append_left, get_or-append_right, get_or-replicate, append_assoc, append-nil, map-set, replicate-append-replicate, set-append_left, Cell, Unknown, Row, AreRowsOf, all_rows, row_cells, rows_cells, unknown_row, PartialGrid, cells_of_rows, row_of, with_row}
+use Rattle.grid_core.proofs.Names.{◌≡◌, ℕ, ◌+◌, ◌-◌, ◌*◌, ◌<◌, ◌≤◌, List, [], length, replicate, get_or, set, refl, arith, length-set, ext_get_or, length-map, get_or-map, length-append, length-replicate, get_or_append_left, get_or-append_right, get_or-replicate, append_assoc, append-nil, map-set, replicate-append-replicate, set-append_left, Cell, Unknown, Row, AreRowsOf, bit_at-zero, nat_tests, all_rows, row_cells, rows_cells, unknown_row, PartialGrid, cells_of_rows, row_of, with_row}
+use Rattle.std.proofs.lemmas.Grind.{elements}
 use Rattle.grid_core.proofs.LineCells.{cells-none, length_line}
+use Rattle.grid_core.specs.KeptRows.{AreRows, IsRow}
+use Rattle.grid_core.specs.PartialGrid.{IsSize}
 use Rattle.grid_core.proofs.RowLists.{AreLong, cells-set_row, cells-unknown, length-rows, row_of-rows}
 
 -- the grid that keeps these rows
@@ -39,6 +42,11 @@ pub row_unknown : (w h : ℕ) (rows : List Row) (y : ℕ) → length rows ≤ h 
     replicate w Unknown ≡ row_of (kept_grid w h rows) y
 row_unknown w h rows y few from l = grind (arith, row-is w h rows y unknown_row, cells-none, get_or-append_right, get_or-replicate)
 
+-- a row of which nothing is known is one
+unknown_is : (w : ℕ) → 1 ≤ w → w ≤ 256 → IsRow w unknown_row
+unfolding IsRow
+unknown_is w some short = grind (arith, nat_tests, bit_at-zero)
+
 -- a grid with no row written is unknown
 pub none_written : (w h : ℕ) (rows : List Row) → rows ≡ [] →
     kept_grid w h rows ≡ record { width = w; height = h; cells = replicate (w * h) Unknown }
@@ -56,6 +64,12 @@ one_written w h rows filled y row line few l is cells =
     let all : all_rows h (set filled y row) ≡ set (all_rows h rows) y row =
     grind (arith, length-set, set-append_left, length-append, length-replicate, filled-up h (y + 1) rows) in
     grind (arith, all, map-set, cells-set_row w (rows_cells w (all_rows h rows)) y line, rows-long w, length-map, length-all)
+
+-- and each row that was written is one
+pub rows_written : (w h n y room : ℕ) (rows : List Row) (row : Row) → IsSize w h → AreRows w h rows room → n ≤ h → IsRow w row →
+    AreRows w h (set (all_rows n rows) y row) room
+rows_written w h n y room rows row size are l is =
+    let none = unknown_is w size.width_from size.width_to in grind (arith, elements)
 
 -- with a row for each line, the grid has the lines' cells
 pub all_written : (w h : ℕ) (rows : List Row) (lines : List (List Cell)) → length lines ≡ h → AreLong w lines

@@ -1,9 +1,9 @@
 -- Rows as a grid keeps them: two sets of places each, and no length.
 use Rattle.std.specs.Prelude.{◌≡◌, ◌<◌, ◌≤◌, ◌-◌, ℕ, List, [], ◌++◌, length, map, replicate, slice_index_or}
-use Rattle.place_sets.specs.Masks.{Has, number_of}
+use Rattle.place_sets.specs.Masks.{number_of}
 use Rattle.grid_core.specs.declared.cells.Cell.{Cell}
 use Rattle.grid_core.specs.declared.rows.Row.{Row}
-use Rattle.grid_core.specs.Lines.{line_cells}
+use Rattle.grid_core.specs.Lines.{IsLine, line_cells}
 
 -- the first `width` cells of a row
 abbrev pub row_cells : ℕ → Row → List Cell
@@ -13,9 +13,9 @@ row_cells width row = line_cells width (number_of row.filled) (number_of row.bla
 abbrev pub rows_cells : ℕ → List Row → List (List Cell)
 rows_cells width rows = map (row_cells width) rows
 
--- no place of a row is filled and blank
-abbrev pub IsRow : Row → Type 0
-IsRow row = (x : ℕ) → Has (number_of row.filled) x → Has (number_of row.blank) x → ⊥
+-- a row has the sets of a line of `width` cells
+unfoldable pub IsRow : ℕ → Row → Type 0
+IsRow width row = IsLine 256 width (number_of row.filled) (number_of row.blank)
 
 -- a row of which nothing is known
 abbrev pub unknown_row : Row
@@ -26,14 +26,14 @@ abbrev pub all_rows : ℕ → List Row → List Row
 all_rows height rows = rows ++ replicate (height - length rows) unknown_row
 
 -- each of the rows that were written is one, of `height` at most, with room for all
-pub record AreRows (height : ℕ) (rows : List Row) (room : ℕ) : Type 0 where
-  pub each : (y : ℕ) → y < length rows → (row : Row) → IsRow (slice_index_or rows y row)
+pub record AreRows (width height : ℕ) (rows : List Row) (room : ℕ) : Type 0 where
+  pub each : (y : ℕ) → y < length rows → (row : Row) → IsRow width (slice_index_or rows y row)
   pub written : length rows ≤ height
   pub room_is : height ≤ room
 
 -- there is a row for each of these lines, with its cells
 pub record AreRowsOf (lines : List (List Cell)) (rows : List Row) : Type 0 where
   pub count : length rows ≡ length lines
-  pub each : (y : ℕ) → y < length rows → (row : Row) → IsRow (slice_index_or rows y row)
+  pub each : (y : ℕ) → y < length rows → (row : Row) → IsRow (length (slice_index_or lines y [])) (slice_index_or rows y row)
   pub cells : (y : ℕ) → y < length rows → (row : Row) →
       row_cells (length (slice_index_or lines y [])) (slice_index_or rows y row) ≡ slice_index_or lines y []

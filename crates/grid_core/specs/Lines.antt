@@ -1,5 +1,5 @@
 -- Lines that are kept as two sets.
-use Rattle.std.specs.Prelude.{◌≡◌, ◌≢◌, ◌<◌, ◌≤◌, ℕ, Bool, true, false, List, length, map, slice_index_or, Option, Some, None}
+use Rattle.std.specs.Prelude.{◌≡◌, ◌≢◌, ◌<◌, ◌≤◌, ℕ, Bool, true, false, cond, List, length, map, slice_index_or, Option, Some, None}
 use Rattle.std.specs.List.{range_with_len}
 use Rattle.grid_core.specs.declared.cells.Cell.{Cell}
 use Rattle.grid_core.specs.declared.cells.Cell.TheVariants.{Unknown, Filled, Blank}
@@ -22,12 +22,19 @@ cell_with false false = Unknown
 abbrev pub line_cells : ℕ → ℕ → ℕ → List Cell
 line_cells len filled blank = map (λ place. cell_with (has filled place) (has blank place)) (range_with_len 0 len)
 
--- a line has a cell at least, no more of them than there are places, and none of them is filled and blank
+-- a line with the cells at some places unknown
+abbrev pub unlearned : ℕ → List Cell → List Cell
+unlearned places line = map (λ k. cond (has places k) Unknown (slice_index_or line k Unknown)) (range_with_len 0 (length line))
+
+-- a line has a cell at least, no more of them than there are places, none of them is filled and blank,
+-- and its sets have no other place
 pub record IsLine (width len filled blank : ℕ) : Type 0 where
   pub some : 1 ≤ len
   pub short : len ≤ width
   pub within : len ≤ 256
   pub apart : (i : ℕ) → Has filled i → Has blank i → ⊥
+  pub filled_in : (i : ℕ) → Has filled i → i < len
+  pub blank_in : (i : ℕ) → Has blank i → i < len
 
 -- a place at which two lines differ
 abbrev pub IsChanged : List Cell → List Cell → ℕ → Type 0

@@ -43,7 +43,7 @@ impl Model for Grid {
 
     ghost view = { λ g. record { width = g.width; height = g.height; cells = cells_of_rows (rows_cells g.width (all_rows g.height g.rows.items)) } };
 
-    ghost invariant = { λ g. IsSize g.width g.height × AreRows g.height g.rows.items (vec_capacity g.rows) };
+    ghost invariant = { λ g. IsSize g.width g.height × AreRows g.width g.height g.rows.items (vec_capacity g.rows) };
 }
 
 /// Adds rows of which nothing is known, in room that is made, until there are `count` rows.

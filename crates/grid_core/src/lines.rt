@@ -5,10 +5,10 @@ ghost use Rattle.grid_core.specs.declared.cells.Cell.TheVariants.{Unknown};
 ghost use Rattle.grid_core.specs.Cells.{is_filled, is_known};
 ghost use Rattle.grid_core.specs.declared.limits.TheConstants.{LONGEST_SIDE};
 ghost use Rattle.place_sets.specs.Masks.{Has, IsMaskOf, has};
-ghost use Rattle.grid_core.specs.Lines.{IsChanged, IsUnknownCell, IsUnknownFrom, is_blank, line_cells};
+ghost use Rattle.grid_core.specs.Lines.{IsChanged, IsUnknownCell, IsUnknownFrom, is_blank, line_cells, unlearned};
 
 use crate::Cell;
-use place_sets::{PlaceSet, Wide, complement_within, first_from, first_places};
+use place_sets::{PlaceSet, Wide, complement_within, first_from};
 use std::marker::Model;
 
 /// The cells of a line, as many as its sets have places at most, seen as the list of its cells.
@@ -54,10 +54,13 @@ impl<W: PlaceSet> LineOf<W> {
         }
     }
 
-    /// A line of `len` cells, filled and blank at the places of these sets. No place is in both.
+    /// A line of `len` cells, filled and blank at the places of these sets. No place is in both, and none is
+    /// at `len` or beyond.
     pub fn of_sets(len: u16, filled: W, blank: W) -> LineOf<W>
         requires len { (1 ≤ len) × (len ≤ W.WIDTH) }
         requires apart { (i : ℕ) → Has (W.number filled) i → Has (W.number blank) i → ⊥ }
+        requires filled_in { (i : ℕ) → Has (W.number filled) i → i < len }
+        requires blank_in { (i : ℕ) → Has (W.number blank) i → i < len }
         ensures { result ≡ line_cells len (W.number filled) (W.number blank) }
     {
         LineOf {
@@ -174,6 +177,19 @@ impl<W: PlaceSet> LineOf<W> {
         }
     }
 
+    /// The same line with the cells at some places unknown.
+    #[tactic(auto, using(crate::proofs::LineCells::length_line))]
+    pub fn without(&self, places: W) -> LineOf<W>
+        ensures cells { result ≡ unlearned (W.number places) self.now }
+        ensures fits { length result ≤ W.WIDTH }
+    {
+        LineOf {
+            len: self.len,
+            filled: self.filled.difference(places),
+            blank: self.blank.difference(places),
+        }
+    }
+
     /// The places at which another line of the same length differs.
     #[tactic(auto, using(crate::proofs::LineCells::length_seen))]
     pub fn changes(&self, other: &LineOf<W>) -> W
@@ -183,9 +199,7 @@ impl<W: PlaceSet> LineOf<W> {
     {
         let filled = self.filled.symmetric_difference(other.filled);
         let blank = self.blank.symmetric_difference(other.blank);
-        filled
-            .union(blank)
-            .intersection(first_places(self.len as u16))
+        filled.union(blank)
     }
 
     /// Whether another line has the same cells.
@@ -197,6 +211,7 @@ impl<W: PlaceSet> LineOf<W> {
     }
 
     /// Becomes the same as a line of the same length in the widest sets.
+    #[tactic(auto, using(crate::proofs::LineCells::length_seen))]
     pub fn read(&mut self, other: &LineOf<Wide>)
         requires { length other.now ≡ length self.old }
         ensures { self.new ≡ other.now }

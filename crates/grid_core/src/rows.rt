@@ -25,10 +25,10 @@ impl Row {
     }
 
     /// The cells of a line.
-    #[tactic(auto, using(crate::proofs::LineCells::length_seen))]
+    #[tactic(auto, using(crate::proofs::LineCells::length_seen), unfolding(crate::specs::KeptRows::IsRow))]
     pub(crate) fn of<W: PlaceSet>(line: &LineOf<W>) -> Row
         ensures cells { row_cells (length line.now) result ≡ line.now }
-        ensures row { IsRow result }
+        ensures row { IsRow (length line.now) result }
     {
         Row {
             filled: line.filled.widened(),
@@ -36,10 +36,10 @@ impl Row {
         }
     }
 
-    /// The first `width` cells, as a line.
+    /// Its `width` cells, as a line.
+    #[tactic(auto, unfolding(crate::specs::KeptRows::IsRow))]
     pub(crate) fn line(&self, width: u16) -> LineOf<Wide>
-        requires width { (1 ≤ width) × (width ≤ 256) }
-        requires row { IsRow self.now }
+        requires { IsRow width self.now }
         ensures { result ≡ row_cells width self.now }
     {
         LineOf::of_sets(width, self.filled, self.blank)

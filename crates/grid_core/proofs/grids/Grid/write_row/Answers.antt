@@ -1,7 +1,17 @@
 -- `Grid::write_row`: with a row kept in place of another, the grid has the line's cells there.
 use Rattle.grid_core.proofs.Names.{ap, arith, PartialGrid}
-use Rattle.grid_core.proofs.KeptRows.{one_written}
+use Rattle.grid_core.proofs.KeptRows.{one_written, rows_written}
 use Rattle.grid_core.proofs.grids.Grid.write_row.Goals as goal
+
+pub invariant_of-self : goal.invariant_of-self
+invariant_of-self g c =
+    let wide = ap (λ (g : PartialGrid). g.width) c.self.view_is in
+    let tall = ap (λ (g : PartialGrid). g.height) c.self.view_is in
+    rw (c.fill_up.ensures.rows, c.fill_up.ensures.room, c.from-place.ensures) (
+      c.self.invariant.0,
+      rows_written _ _ _ _ _ _ c.of.result
+          c.self.invariant.0 c.self.invariant.1 (omega arith) (rw (wide, c.requires.width) c.of.ensures.row),
+    )
 
 pub returns-clause-row : goal.returns-clause-row
 returns-clause-row g c =
