@@ -1,6 +1,7 @@
 -- What masks of the cells that can be filled, and of those that can be blank, tell of a line.
-use Rattle.line_core.proofs.Names.{rules, ◌≡◌, ℕ, ◌<◌, ◌⊎◌, inl, inr, Bool, true, false, not, ◌&&◌, List, length, get_or, Some, None, refl, arith, ext_get_or, length-map-range_with_len, get_or-map-range_with_len, Cell, Unknown, Has, has, IsMaskOf, has_true, true_has, deduced, IsFillable, IsBlankable, ArePositive, has_by, ◌||◌, cases_Bool, cell_at, length_line, told_by, placings, shared, false_from_ne_true, or_right, or_left, ◌∷◌, [], ap}
-use Rattle.grid_core.specs.Lines.{line_cells}
+use Rattle.line_core.proofs.Names.{rules, ◌∙◌, ◌≡◌, ℕ, ◌<◌, ◌⊎◌, inl, inr, Bool, true, false, not, ◌&&◌, List, length, get_or, Some, None, refl, arith, ext_get_or, length-map-range_with_len, get_or-map-range_with_len, Cell, Unknown, Has, has, IsMaskOf, has_true, true_has, deduced, IsFillable, IsBlankable, ArePositive, has_by, ◌||◌, cases_Bool, certain_by, told_by, zero-add, placings, shared, false_from_ne_true, or_right, or_left, ◌∷◌, [], ap}
+use Rattle.grid_core.specs.Lines.{cell_with, line_cells}
+use Rattle.grid_core.proofs.LineCells.{line_is}
 use Rattle.line_core.proofs.DeductionLaws.{ListsPlacings, placings_listed, no_placing, agrees_is}
 use Rattle.line_core.proofs.WholeEnds.{IsTold, told_is}
 use Rattle.line_core.proofs.Certain.{CanBe, Tells, certain_is}
@@ -12,14 +13,22 @@ either_first f b m p = grind (arith, p.to 0, p.from 0, has_true, true_has, has_b
 pub told_dead : (len f b m : ℕ) → IsMaskOf (λ i. Has f i ⊎ Has b i) m → has m 0 ≡ false → None ≡ told_by len f b
 told_dead len f b m p none = rw (either_first f b m p, none) refl
 
-without_at : (f b n i : ℕ) → IsMaskOf (λ i. Has f i × (has b i ≡ false)) n → has n i ≡ (has f i && not (has b i))
-without_at f b n i p = search rules
+without_at : (len f b all d n i : ℕ) → i < len → IsMaskOf (λ i. i < len) all → IsMaskOf (λ i. Has f i × (has b i ≡ false)) d
+    → IsMaskOf (λ i. Has d i × Has all i) n → has n i ≡ (has f i && not (has b i))
+without_at len f b all d n i l pa pd p = search rules
+
+told_cell : (f b : Bool) → certain_by f b ≡ cell_with (f && not b) (b && not f)
+told_cell f b = grind arith
 
 -- and the answer if it can have one
-pub told_some : (len f b m nf nb : ℕ) → IsMaskOf (λ i. Has f i ⊎ Has b i) m → has m 0 ≡ true → IsMaskOf (λ i. Has f i × (has b i ≡ false)) nf
-    → IsMaskOf (λ i. Has b i × (has f i ≡ false)) nb → Some (line_cells len nf nb) ≡ told_by len f b
-told_some len f b m nf nb p some pf pb =
-    search (rules, ext_get_or, length-map-range_with_len, get_or-map-range_with_len, cell_at, length_line, either_first, without_at)
+pub told_some : (len f b m all df db nf nb : ℕ) → IsMaskOf (λ i. Has f i ⊎ Has b i) m → has m 0 ≡ true → IsMaskOf (λ i. i < len) all
+    → IsMaskOf (λ i. Has f i × (has b i ≡ false)) df → IsMaskOf (λ i. Has b i × (has f i ≡ false)) db
+    → IsMaskOf (λ i. Has df i × Has all i) nf → IsMaskOf (λ i. Has db i × Has all i) nb → Some (line_cells len nf nb) ≡ told_by len f b
+told_some len f b m all df db nf nb p some pa pf pb qf qb =
+    let told = λ (k : ℕ). certain_by (has f k) (has b k) in
+    let each = λ (i : ℕ) (h : i < len). get_or-map-range_with_len told 0 len i i Unknown h (zero-add i) ∙
+    rw (without_at len f b all df nf i h pa pf qf, without_at len b f all db nb i h pa pb qb) (told_cell (has f i) (has b i)) in
+    rw (either_first f b m p, some) (ap (λ (line : List Cell). Some line) (line_is len nf nb _ (length-map-range_with_len told 0 len) each))
 
 -- ---- the deduction
 

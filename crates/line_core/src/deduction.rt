@@ -103,8 +103,9 @@ pub fn certain<W: PlaceSet>(len: u16, fillable: W, blankable: W) -> Option<LineO
     if !fillable.union(blankable).contains(0) {
         return None;
     }
-    let filled = fillable.difference(blankable);
-    let blank = blankable.difference(fillable);
+    let within = first_places(len);
+    let filled = fillable.difference(blankable).intersection(within);
+    let blank = blankable.difference(fillable).intersection(within);
     Some(LineOf::of_sets(len, filled, blank))
 }
 

@@ -9,5 +9,5 @@ returns-then-not-contains g c = told_dead c.args.len _ _ _ c.union.ensures (sym 
 pub returns : goal.returns
 returns g c =
     ap (λ (line : List Cell). Some line) c.of_sets.ensures
-    ∙ told_some c.args.len _ _ _ _ _ c.union.ensures (sym c.contains.ensures ∙ c.if-not-contains.false) c.difference-filled.ensures
-    c.difference-blank.ensures
+    ∙ told_some c.args.len _ _ _ _ _ _ _ _ c.union.ensures (sym c.contains.ensures ∙ c.if-not-contains.false) c.first_places-within.ensures
+    c.difference.ensures c.difference-2.ensures c.intersection-filled.ensures c.intersection-blank.ensures
