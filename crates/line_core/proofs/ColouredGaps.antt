@@ -1,5 +1,5 @@
 -- What can be on a line before a gap, once one of its cells is coloured: step by step along the line.
-use Rattle.line_core.proofs.Names.{◌↔◌, HasColour, AreColoursBefore, rules, ◌≡◌, ◌≢◌, ℕ, zero, suc, ◌+◌, ◌-◌, ◌<◌, ◌≤◌, Bool, true, false, List, [], ◌∷◌, length, refl, sym, ap, ◌∙◌, arith, add-one, ◌⊎◌, inl, inr, get_or, drop, cases_lt, and_from, and_parts, Cell, Unknown, allows, agrees, behind, MayBe, IsGapAfter, IsEndAfter, IsGap, IsGapAhead, IsWholeEnd, IsFlooded, AllFrom, Has, IsMaskOf, mask_same, length-set, get_or-set_other, get_or-set_same, replicate, ◌++◌, drop-cons, cases_eq, colour, ColourMasks, no_colours, coloured, CanBeBefore, CanBeSeen, CanBeUpTo, IsWholeGap, IsReady, seen}
+use Rattle.line_core.proofs.Names.{◌↔◌, rules, ◌≡◌, ◌≢◌, ℕ, zero, suc, ◌+◌, ◌-◌, ◌<◌, ◌≤◌, Bool, true, false, List, [], ◌∷◌, length, refl, sym, ap, ◌∙◌, arith, add-one, ◌⊎◌, inl, inr, get_or, drop, cases_lt, and_from, and_parts, Cell, Unknown, allows, agrees, behind, MayBe, IsGapAfter, IsEndAfter, IsGap, IsGapAhead, IsWholeEnd, IsFlooded, AllFrom, length-set, get_or-set_other, get_or-set_same, replicate, ◌++◌, drop-cons, cases_eq, colour, coloured, CanBeBefore, CanBeUpTo, IsWholeGap}
 use Rattle.line_core.proofs.Joining.{closed_behind_to, closed_behind_from, closed_ahead_from, agrees_span, runs_first}
 use Rattle.line_core.proofs.Reaching.{gap_after_to, gap_after_from, first_gap_to, first_gap_from}
 
@@ -158,57 +158,3 @@ whole_before_end l clue j e jl some far w =
     let agree = agrees_span l true c s (e + 1) b.0 (omega arith) w.0.1.1 b.1 in
     let clue_at : c ∷ drop (j + 1) clue ≡ drop j clue = rw add-one (sym (drop-cons clue j 0 jl)) in
     (g, (g.0, (replicate c true ++ b.0, rw next agree, runs_first c b.0 some b.3 ∙ ap (λ (rs : List ℕ). c ∷ rs) b.2 ∙ clue_at)))
-
--- ---- masks of what can be before a gap, from those further back
-
-pub before_are : {t : Bool} (l : List Cell) (rs : List ℕ) (i : ℕ) (m : ColourMasks) → AreColoursBefore t l rs i m → (v : Bool) (k : ℕ)
-    → HasColour m v k ↔ CanBeSeen t l rs i v k
-before_are l rs i m a true k = (a.fillable_is.to k, a.fillable_is.from k)
-before_are l rs i m a false k = (a.blankable_is.to k, a.blankable_is.from k)
-
--- a cell of the line is seen among some
-abbrev pub IsSeenIn : Bool → List Cell → ℕ → ℕ → ℕ → Type 0
-IsSeenIn t l from to k = (k < length l) × (from ≤ seen t (length l) k) × (seen t (length l) k < to)
-
--- as a step has it, from the masks at the gaps further back
-abbrev Told : Bool → List Cell → ℕ → ℕ → ℕ → ℕ → List ColourMasks → List ColourMasks → Bool → ℕ → Type 0
-Told t l n i longer ended before row v k =
-    (IsSeenIn t l i (i + 1) k × (v ≡ false)) ⊎ ((Has longer i × HasColour (get_or row (i - 1) no_colours) v k)
-    ⊎ (Has ended i × (((v ≡ true) × IsSeenIn t l (i - n) i k) ⊎ ((n < i) × HasColour (get_or before (i - n - 1) no_colours) v k))))
-
-told_is : {t : Bool} (l : List Cell) (rs : List ℕ) (n i longer ended : ℕ) (before row : List ColourMasks) → 0 < n → (Has longer i → 1 ≤ i)
-    → IsReady t l rs n i longer ended before row → (v : Bool) (k : ℕ) → Told t l n i longer ended before row v k ↔ CanBeSeen t l (n ∷ rs) i v k
-told_is {t = t} l rs n i longer ended before row some far r v k =
-    (λ x. let y = to x in (y.0, before_from l rs n i v s some r.gap y.1), λ h. from h.0 (before_to l rs n i v s some h.1))
-  where
-    s : ℕ
-    s = seen t (length l) k
-
-    in_row : Has longer i → HasColour (get_or row (i - 1) no_colours) v k ↔ CanBeSeen t l (n ∷ rs) (i - 1) v k
-    in_row h = before_are l (n ∷ rs) (i - 1) _ (r.longer_to h) v k
-
-    in_before : Has ended i → n < i → HasColour (get_or before (i - n - 1) no_colours) v k ↔ CanBeSeen t l rs (i - 1 - n) v k
-    in_before h a = before_are l rs (i - 1 - n) _ (r.before_to h a) v k
-
-    to : Told t l n i longer ended before row v k → (k < length l) × Step l rs n i v s
-    to (inl ((kl, low, high), blank)) = (kl, inl (omega arith, blank))
-    to (inr (inl (h, x))) = search (rules, in_row h, far)
-    to (inr (inr (h, x))) = search (rules, in_before h, r.ended_to)
-
-    from : k < length l → Step l rs n i v s → Told t l n i longer ended before row v k
-    from kl (inl (at, blank)) = inl ((kl, omega arith, omega arith), blank)
-    from kl (inr (h, inl y)) = let x = r.longer_from h (gap_less l s v y.1 (n ∷ rs) (i - 1) y.2) in inr (inl (x, (in_row x).1 (kl, y)))
-    from kl (inr (h, inr (e, y))) = let x = r.ended_from h e in search (rules, in_before x)
-
--- the masks of what can be filled and of what can be blank
-pub colours_are : {t : Bool} (l : List Cell) (rs : List ℕ) (n i own longer ended : ℕ) (before row : List ColourMasks) (m : ColourMasks) → 0 < n
-    → (Has longer i → 1 ≤ i) → IsReady t l rs n i longer ended before row → IsMaskOf (IsSeenIn t l i (i + 1)) own
-    → IsMaskOf (λ k. (Has longer i × Has (get_or row (i - 1) no_colours).fillable k)
-    ⊎ (Has ended i × (IsSeenIn t l (i - n) i k ⊎ ((n < i) × Has (get_or before (i - n - 1) no_colours).fillable k)))) m.fillable
-    → IsMaskOf (λ k. (Has own k ⊎ (Has longer i × Has (get_or row (i - 1) no_colours).blankable k))
-    ⊎ (Has ended i × (n < i) × Has (get_or before (i - n - 1) no_colours).blankable k)) m.blankable → AreColoursBefore t l (n ∷ rs) i m
-colours_are l rs n i own longer ended before row m some far r o p q =
-    let told = told_is l rs n i longer ended before row some far r in record {
-      fillable_is = mask_same _ _ _ p (λ k h. (told true k).0 (search rules)) (λ k h. let t = (told true k).1 h in search rules);
-      blankable_is = mask_same _ _ _ q (λ k h. (told false k).0 (search (rules, o.to k))) (λ k h. let t = (told false k).1 h in search (rules, o.from k));
-    }

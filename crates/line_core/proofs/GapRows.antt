@@ -1,6 +1,7 @@
 -- Rows of what can be before the gaps of whole placings, written gap by gap.
-use Rattle.line_core.proofs.Names.{Bool, rules, eqb-true, none_has, true, ◌≡◌, ◌≢◌, ◌∙◌, ℕ, zero, suc, ◌+◌, ◌-◌, ◌<◌, ◌≤◌, List, ◌++◌, length, false, refl, sym, subst, arith, zero-add, inl, inr, get_or, set, take, map, Cell, Has, IsMaskOf, IsShifted, IsGapAfter, IsWholeEnd, behind, nat_eq, ◌*◌, ◌/◌, get_or-set_other, get_or-set_same, true≢false, drop, [], length-drop, drop_of_length-le, append-nil, get_or-take, get_or-drop, get_or-append-add, get_or_append_left, length-take-le, take_all, cases_eq, cases_lt, bit_at, IsMarked, number_at, length_at, add-one, AreLengths, ColourMasks, no_colours, AreColoursBefore, IsWholeGap, IsReady, IsRow, bit_at-suc, bit_at_lowest, bit_at-lt, same_from_bits}
-use Rattle.line_core.proofs.ColouredGaps.{whole_back, whole_end_back, whole_before_end}
+use Rattle.line_core.proofs.Names.{Bool, CanBeSeen, ◌↔◌, ◌⊎◌, ◌∷◌, rules, eqb-true, none_has, true, ◌≡◌, ◌≢◌, ◌∙◌, ℕ, zero, suc, ◌+◌, ◌-◌, ◌<◌, ◌≤◌, List, ◌++◌, length, false, refl, sym, subst, arith, zero-add, inl, inr, get_or, set, take, map, Cell, Has, IsMaskOf, IsShifted, IsGapAfter, IsWholeEnd, behind, nat_eq, ◌*◌, ◌/◌, get_or-set_other, get_or-set_same, true≢false, drop, [], length-drop, drop_of_length-le, append-nil, get_or-take, get_or-drop, get_or-append-add, get_or_append_left, length-take-le, take_all, cases_eq, cases_lt, bit_at, IsMarked, number_at, length_at, add-one, AreLengths, ColourMasks, no_colours, AreColoursBefore, IsWholeGap, IsSeenIn, HasColour, AreMasks, AreMore, seen, IsRow, bit_at-suc, bit_at_lowest, bit_at-lt, same_from_bits}
+use Rattle.line_core.proofs.ColouredGaps.{before_from, before_to, gap_less, whole_back, whole_end_back, whole_before_end, Step}
+use Rattle.line_core.proofs.ColourMasks.{masks_are, masks_same}
 
 -- a number with one bit less is less
 bit_less : (p a b : ℕ) → bit_at a p ≡ 1 → bit_at b p ≡ 0 → ((i : ℕ) → i ≢ p → bit_at b i ≡ bit_at a i) → b < a
@@ -45,29 +46,96 @@ first_inside l gaps left p Q row walk h gap = (gap p (walk.within p h)).0.0
 
 pub ruleset walks = (left_inside, first_inside, mask_less, walk_none)
 
--- a gap after run j can be told by the gaps before it, in its row and in the row before
-pub ready_is : {t : Bool} (l : List Cell) (clue : List ℕ) (j w gaps left ends longer ended p : ℕ) (before row rows : List ColourMasks)
-    → AreLengths w clue → j < length clue → length l ≤ 128 → IsMaskOf (IsWholeGap l clue (j + 1)) gaps → IsMaskOf (IsWholeEnd l clue j) ends
-    → IsMaskOf (IsShifted w (Has gaps) 1) longer → IsMaskOf (IsShifted w (Has ends) 1) ended → p < w → Has left p
-    → ((i : ℕ) → Has left i → p ≤ i) → before ≡ take 128 rows → IsRow t l clue j 0 rows
-    → IsWalk gaps left (AreColoursBefore t l (behind 0 clue (j + 1))) no_colours row
-    → IsReady t l (behind 0 clue j) (get_or clue j 0) p longer ended before row
-ready_is l clue j w gaps left ends longer ended p before row rows are jl short places es lm em within here least front told walk =
-    let gs : IsMaskOf (IsWholeGap l clue (suc j)) gaps = rw (add-one j) at places in
-    let whole = gs.to p (walk.within p here) in
-    let c = get_or clue j 0 in
-    let some = (length_at w clue j are jl).0 in record {
-      gap = whole.0;
-      longer_to = λ h. let x = lm.to p h in rw (add-one j) at (walk.done (p - 1) x.2 (λ n. omega (arith, x.1, least (p - 1) n)));
-      longer_from = λ first g. search (rules, lm.from, gs.from, whole_back);
-      ended_to = λ h. (es.to (p - 1) (em.to p h).2).0;
-      before_to = λ h far.
-          let gap = whole_before_end l clue j (p - 1) jl some (omega arith) (es.to (p - 1) (em.to p h).2) in
-          let e : p - 1 - c ≡ p - c - 1 = omega arith in
-          let inside : p - 1 - c < 128 = omega (arith, gap.0.0.0) in
-          rw (sym e, front, get_or-take 128 rows (p - 1 - c) no_colours inside) (rw zero-add at (told (p - 1 - c) gap));
-      ended_from = λ first e. search (rules, em.from, es.from, whole_end_back);
-    }
+-- the places that are left are after the others, and what should be right before them is the last
+abbrev pub IsLast : {A : Type 0} → ℕ → ℕ → (ℕ → A → Type 0) → A → Type 0
+IsLast all left Q last = (i k : ℕ) → Has all i → (Has left i → ⊥) → Has left k → (i < k) × (k ≡ i + 1 → Q i last)
+
+pub last_more : {A : Type 0} (all left next p : ℕ) (Q : ℕ → A → Type 0) (last v : A) → Has left p → ((i : ℕ) → Has left i → p ≤ i)
+    → IsMaskOf (IsMarked (Has left) p false) next → Q p v → IsLast all left Q last → IsLast all next Q v
+last_more all left next p Q last v first least m here old i k h lacks there =
+    let after : Has left k × (k ≢ p) = elim (m.to k there) [ inl x ↦ x | inr x ↦ absurd (true≢false (sym x.1)) ] in
+    let far = least k after.0 in
+    elim (cases_eq i p) [
+      | inl e ↦ (omega (arith, after.1), λ next. rw e here)
+      | inr ne ↦
+          (let x = (old i p h (λ x. lacks (m.from i (inl (x, ne)))) first).0 in (omega arith, λ next. absurd (omega (arith, after.1))))
+    ]
+
+-- the colours before a gap after run j, from those of the last gap and of the row before
+pub next_told : (t : Bool) (l : List Cell) (clue : List ℕ) (j w gaps left ends longer ended p : ℕ) (before rows : List ColourMasks)
+    (last old m : ColourMasks) → AreLengths w clue → j < length clue → length l ≤ 128 → IsMaskOf (IsWholeGap l clue (j + 1)) gaps
+    → IsMaskOf (IsWholeEnd l clue j) ends → IsMaskOf (IsShifted w (Has gaps) 1) longer → IsMaskOf (IsShifted w (Has ends) 1) ended → p < w
+    → Has gaps p → Has left p → ((i : ℕ) → Has left i → p ≤ i) → before ≡ take 128 rows → IsRow t l clue j 0 rows
+    → IsLast gaps left (AreColoursBefore t l (behind 0 clue (j + 1))) last
+    → AreMasks (λ v k. ((v ≡ false) × IsSeenIn t (length l) p (p + 1) k) ⊎ (Has longer p × HasColour last v k)) old
+    → (let n = get_or clue j 0 in AreMore (λ v k. Has ended p × (((v ≡ true) × IsSeenIn t (length l) (p - n) p k)
+    ⊎ ((n < p) × HasColour (get_or before (p - n - 1) no_colours) v k))) old m)
+    → AreColoursBefore t l (behind 0 clue (j + 1)) p m
+next_told t l clue j w gaps left ends longer ended p before rows last old m are jl short ps es lm em pw is here low front told ahead a b =
+    rw (add-one j) (masks_same _ _ m b (λ v k. (
+      λ h. let y = to v k h in (y.0, before_from l runs n p v (seen t (length l) k) some whole.0 y.1),
+      λ h. from v k h.0 (before_to l runs n p v (seen t (length l) k) some h.1),
+    )))
+  where
+    n : ℕ
+    n = get_or clue j 0
+
+    runs : List ℕ
+    runs = behind 0 clue j
+
+    some : 0 < n
+    some = (length_at w clue j are jl).0
+
+    gs : IsMaskOf (IsWholeGap l clue (suc j)) gaps
+    gs = rw (add-one j) at ps
+
+    whole : IsWholeGap l clue (suc j) p
+    whole = gs.to p is
+
+    gap : (v : Bool) (k : ℕ)
+        → HasColour old v k ↔ (((v ≡ false) × IsSeenIn t (length l) p (p + 1) k) ⊎ (Has longer p × HasColour last v k))
+    gap = masks_are _ old a
+
+    in_row : Has longer p → (v : Bool) (k : ℕ) → HasColour last v k ↔ CanBeSeen t l (n ∷ runs) (p - 1) v k
+    in_row h = let x = lm.to p h in
+        rw (add-one j) at (masks_are _ last ((ahead (p - 1) p x.2 (λ n. omega (arith, x.1, low (p - 1) n)) here).1 (omega (arith, x.1))))
+
+    in_before : Has ended p → n < p → (v : Bool) (k : ℕ)
+        → HasColour (get_or before (p - n - 1) no_colours) v k ↔ CanBeSeen t l runs (p - 1 - n) v k
+    in_before h far =
+        let gap = whole_before_end l clue j (p - 1) jl some (omega arith) (es.to (p - 1) (em.to p h).2) in
+        let e : p - 1 - n ≡ p - n - 1 = omega arith in
+        let inside : p - 1 - n < 128 = omega (arith, gap.0.0.0) in
+        masks_are _ _ (rw (sym e, front, get_or-take 128 rows (p - 1 - n) no_colours inside) (rw zero-add at (told (p - 1 - n) gap)))
+
+    to : (v : Bool) (k : ℕ) → HasColour old v k ⊎ (Has ended p × (((v ≡ true) × IsSeenIn t (length l) (p - n) p k)
+        ⊎ ((n < p) × HasColour (get_or before (p - n - 1) no_colours) v k))) → (k < length l) × Step l runs n p v (seen t (length l) k)
+    to v k (inl x) = elim ((gap v k).0 x) [
+      | inl (blank, own) ↦ (own.0, inl (omega (arith, own.1), blank))
+      | inr (h, y) ↦ (let z = (in_row h v k).0 y in (z.0, inr ((lm.to p h).1, inl z.1)))
+    ]
+    to v k (inr (h, inl (fill, x))) = let far = (em.to p h).1 in let end = (es.to (p - 1) (em.to p h).2).0 in search rules
+    to v k (inr (h, inr (far, x))) = let y = (in_before h far v k).0 x in
+        (y.0, inr ((em.to p h).1, inr ((es.to (p - 1) (em.to p h).2).0, inr (omega arith, y.1))))
+
+    from : (v : Bool) (k : ℕ) → k < length l → Step l runs n p v (seen t (length l) k)
+        → HasColour old v k ⊎ (Has ended p × (((v ≡ true) × IsSeenIn t (length l) (p - n) p k)
+        ⊎ ((n < p) × HasColour (get_or before (p - n - 1) no_colours) v k)))
+    from v k kl (inl (at, blank)) = search (rules, gap v k)
+    from v k kl (inr (one, inl y)) =
+        let g = gs.from (p - 1) (whole_back l clue (suc j) p jl one whole.1 (gap_less l _ v y.1 (n ∷ runs) (p - 1) y.2)) in
+        let x = lm.from p (pw, one, g) in
+        search (rules, gap v k, in_row)
+    from v k kl (inr (one, inr (e, y))) = inr (
+      ends_here,
+      elim y [
+        | inl (fill, low, high) ↦ inl (fill, (kl, omega arith, omega arith))
+        | inr (far, z) ↦ (let less : n < p = omega arith in inr (less, (in_before ends_here less v k).1 (kl, z)))
+      ],
+    )
+      where
+        ends_here : Has ended p
+        ends_here = em.from p (pw, one, es.from (p - 1) (whole_end_back l clue j p one whole.1 e))
 
 -- a mask that is taken from a list
 pub kept_is : {A : Type 0} (number : A → ℕ) (P : ℕ → Type 0) (xs : List A) (i : ℕ) (d : A) (m : ℕ) → i < length xs
@@ -78,9 +146,9 @@ kept_is number P xs i d m inside e p = subst (IsMaskOf P) (sym (e ∙ number_at 
 abbrev pub AreRowsTo : Bool → List Cell → List ℕ → ℕ → List ColourMasks → Type 0
 AreRowsTo t l clue j table = (q : ℕ) → q ≤ j → IsRow t l clue q (128 * q) table
 
-pub rows_none : {t : Bool} (l : List Cell) (clue : List ℕ) (table : List ColourMasks)
+pub rows_none : (t : Bool) (l : List Cell) (clue : List ℕ) (table : List ColourMasks)
     → ((i : ℕ) → IsWholeGap l clue 0 i → AreColoursBefore t l [] i (get_or table i no_colours)) → AreRowsTo t l clue 0 table
-rows_none l clue table told q h i whole = let e : q ≡ 0 = omega arith in rw (e, zero-add) (told i (rw e at whole))
+rows_none t l clue table told q h i whole = let e : q ≡ 0 = omega arith in rw (e, zero-add) (told i (rw e at whole))
 
 -- a part of a list up to its end is what is left of it, and is put back behind the first part
 pub part_is : (a : ℕ) (xs : List ColourMasks) → take (length xs - a) (drop a xs) ≡ drop a xs
@@ -93,16 +161,16 @@ pub put_back : (a : ℕ) (xs ys : List ColourMasks) → take a xs ++ (ys ++ drop
 put_back a xs ys = rw (drop_of_length-le (drop a xs) {i = length xs - a} (omega (arith, length-drop a xs)), append-nil) refl
 
 -- the last of them, seen from its place
-pub row_at : {t : Bool} (l : List Cell) (clue : List ℕ) (j : ℕ) (table : List ColourMasks) → AreRowsTo t l clue j table
+pub row_at : (t : Bool) (l : List Cell) (clue : List ℕ) (j : ℕ) (table : List ColourMasks) → AreRowsTo t l clue j table
     → IsRow t l clue j 0 (take (length table - 128 * j) (drop (128 * j) table))
-row_at l clue j table told i whole = rw (part_is, get_or-drop (128 * j) table (0 + i) no_colours, zero-add i) (told j (omega arith) i whole)
+row_at t l clue j table told i whole = rw (part_is, get_or-drop (128 * j) table (0 + i) no_colours, zero-add i) (told j (omega arith) i whole)
 
 -- one more row, written behind the last of them
-pub rows_more : {t : Bool} (l : List Cell) (clue : List ℕ) (j : ℕ) (table new : List ColourMasks) → length l ≤ 128 → 128 * j ≤ length table
+pub rows_more : (t : Bool) (l : List Cell) (clue : List ℕ) (j : ℕ) (table new : List ColourMasks) → length l ≤ 128 → 128 * j ≤ length table
     → AreRowsTo t l clue j table → IsRow t l clue (j + 1) 128 new
     → ((k : ℕ) → k < 128 → get_or new k no_colours ≡ get_or (take (length table - 128 * j) (drop (128 * j) table)) k no_colours)
     → AreRowsTo t l clue (j + 1) (take (128 * j) table ++ (new ++ drop (length table - 128 * j) (drop (128 * j) table)))
-rows_more l clue j table new short room told next same q le i whole =
+rows_more t l clue j table new short room told next same q le i whole =
     let front = take (128 * j) table in
     let size : length front ≡ 128 * j = length-take-le (128 * j) table room in
     let within : i < 128 = omega (arith, whole.0.0.0) in

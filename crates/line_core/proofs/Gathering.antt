@@ -1,8 +1,8 @@
 -- What can be on a line with a cell coloured, told by what can be before and after that cell, or the run that covers it.
 use Rattle.line_core.proofs.Names.{AreMore, allows, rules, ap, sym, cases_eq, get_or-set_same, true≢false, not, mask_same, get_or-drop, IsShifted, nat_eq, ◌≡◌, ℕ, zero, suc, ◌+◌, ◌-◌, ◌*◌, ◌<◌, ◌≤◌, Bool, true, false, List, ◌∷◌, length, length_at, get_or, set, take, drop, reverse, refl, ◌∙◌, arith, add-one, ◌⊎◌, inl, inr, ◌↔◌, cases_lt, and_from, and_parts, length-set, ext_get_or, get_or-reverse, Has, IsMarked, IsMaskOf, Cell, Unknown, agrees, runs, behind, MayBe, IsGapAhead, IsWholeEnd, ArePositive, get_or-set_other, get_or-set_at, get_or_default, length-reverse, reverse-reverse, drop-set-lt, colour, ColourMasks, PairMasks, no_colours, no_pair, masks_if, coloured, AreColours, AreLengths, CanBeBefore, IsWholeGap, AreMasks, ArePairsMore, AreToldOf, IsLineWithin, CanBeAfter, CanBeBesideGap, CanBeBesideRun, CanBeUpTo, CanBeWithBlank, CanBeWithFilled, HasColour, IsEndOver}
 use Rattle.line_core.specs.steps.Pairs.{ArePairs}
-use Rattle.line_core.proofs.ColourMasks.{Below, masks_are, masks_of, masks_same, more_more, read_at, more_same, no_below, one_below}
-use Rattle.line_core.proofs.ColouredGaps.{before_are, colour_is, coloured_less, coloured_other, behind_coloured, gap_less, end_less, end_step_to, end_step_from, whole_before_end}
+use Rattle.line_core.proofs.ColourMasks.{Below, masks_are, masks_same, more_more, read_at, more_same, no_below, one_below}
+use Rattle.line_core.proofs.ColouredGaps.{colour_is, coloured_less, coloured_other, behind_coloured, gap_less, end_less, end_step_to, end_step_from, whole_before_end}
 use Rattle.line_core.proofs.Certain.{CanBe}
 use Rattle.line_core.proofs.GapRows.{mask_less, part_is, part_long}
 use Rattle.line_core.proofs.Joining.{closed_ahead_to, closed_ahead_from, blankable_to, blankable_from, reversed_gap}
@@ -137,7 +137,7 @@ module _ (l : List Cell) (clue : List ℕ) (before after : List ColourMasks) (w 
   near_at : (j i : ℕ) → j ≤ length clue → IsWholeGap l clue j i → (d : Bool) (k : ℕ)
       → HasColour (get_or before (128 * j + i) no_colours) d k ↔ CanBeBefore l (behind 0 clue j) i d k
   near_at j i jl whole d k =
-      let are = before_are l (behind 0 clue j) i _ (told.before_is j i jl whole) d k in (λ h. (are.0 h).1, λ h. are.1 (h.1.0, h))
+      let are = masks_are _ _ (told.before_is j i jl whole) d k in (λ h. (are.0 h).1, λ h. are.1 (h.1.0, h))
 
   -- as it is read
   pub near_are : (j i p : ℕ) (read : ColourMasks) → j ≤ length clue → IsWholeGap l clue j i → p ≡ i
@@ -155,7 +155,7 @@ module _ (l : List Cell) (clue : List ℕ) (before after : List ColourMasks) (w 
       let q = length clue - j in
       let same = read_at after (128 * q + p) (128 * q + (length l - 1 - i)) read (omega arith) (omega arith) is in
       let size : length (reverse l) - 1 - k ≡ length l - 1 - k = ap (λ (n : ℕ). n - 1 - k) (length-reverse l) in
-      let are = rw (sym same, size) at (before_are (reverse l) (behind 0 (reverse clue) q) (length l - 1 - i) _
+      let are = rw (sym same, size) at (masks_are _ _
       (told.after_is q (length l - 1 - i) (omega (arith, length-reverse clue)) (whole_turned l clue j i jl inside whole)) d k) in (
         λ h. let x = are.0 h in (after_turned l clue j i k d jl inside (omega (arith, x.0, length-reverse l))).0 x.1,
         λ h. are.1 (omega (arith, h.1.0, length-reverse l), (after_turned l clue j i k d jl inside h.1.0).1 h),
@@ -166,40 +166,28 @@ module _ (l : List Cell) (clue : List ℕ) (before after : List ColourMasks) (w 
     pub up_to_is : (one up : ℕ) (m : ColourMasks) → IsMaskOf (λ i. i < get_or clue j 0) one
         → IsMaskOf (IsShifted w (Has one) (e + 1 - get_or clue j 0)) up → (let n = get_or clue j 0 in
         let table = take (length before - 128 * j) (drop (128 * j) before) in
-        IsMaskOf (λ k. Has up k ⊎ ((0 < e + 1 - n) × Has (get_or table (e + 1 - n - 1) no_colours).fillable k)) m.fillable
-        → IsMaskOf (λ k. (0 < e + 1 - n) × Has (get_or table (e + 1 - n - 1) no_colours).blankable k) m.blankable
+        AreMasks (λ d k. ((d ≡ true) × Has up k) ⊎ ((0 < e + 1 - n) × HasColour (get_or table (e + 1 - n - 1) no_colours) d k)) m
         → AreMasks (λ d k. CanBeUpTo l (behind 0 clue j) n d e k) m)
-    up_to_is one up m o u p q = masks_of _ m beside
-      where
-        n : ℕ
-        n = get_or clue j 0
-
-        some : 0 < n
-        some = (length_at w clue j are jl).0
-
-        read : n ≤ e → (d : Bool) (k : ℕ)
-            → HasColour (get_or (take (length before - 128 * j) (drop (128 * j) before)) (e + 1 - n - 1) no_colours) d k
-            ↔ CanBeBefore l (behind 0 clue j) (e - n) d k
-        read far d k =
-            let at : e + 1 - n - 1 ≡ e - n = omega arith in
-            rw (part_is (128 * j) before, get_or-drop (128 * j) before (e + 1 - n - 1) no_colours, at)
-            (near_at j (e - n) (omega arith) (whole_before_end l clue j e jl some far whole) d k)
-
-        run : (k : ℕ) → Has up k ↔ ((e + 1 - n ≤ k) × (k ≤ e))
-        run k = (
-          λ h. let x = u.to k h in (x.1, omega (arith, o.to (k - (e + 1 - n)) x.2, whole.0.0)),
-          λ (low, high). u.from k (omega (arith, end_inside l clue j e some whole), low, o.from (k - (e + 1 - n)) (omega arith)),
-        )
-
-        beside : (d : Bool) (k : ℕ) → HasColour m d k ↔ CanBeUpTo l (behind 0 clue j) n d e k
-        beside true k = (
-          λ h. elim (p.to k h) [ inl x ↦ (let y = (run k).0 x in inl (refl, y.0, y.1)) | inr x ↦ search (rules, read) ],
-          λ h. p.from k (elim h [ inl (fill, low, high) ↦ inl ((run k).1 (low, high)) | inr x ↦ inr (omega arith, (read x.0 true k).1 x.1) ]),
-        )
-        beside false k = (
-          λ h. let x = q.to k h in search (rules, read),
-          λ h. elim h [ inl x ↦ cc | inr x ↦ search (rules, q.from k, read) ],
-        )
+    up_to_is one up m o u p =
+        let n = get_or clue j 0 in
+        let table = take (length before - 128 * j) (drop (128 * j) before) in
+        let some = (length_at w clue j are jl).0 in
+        let at : e + 1 - n - 1 ≡ e - n = omega arith in
+        let told_at = get_or table (e + 1 - n - 1) no_colours in
+        let read : n ≤ e → (d : Bool) (k : ℕ) → HasColour told_at d k ↔ CanBeBefore l (behind 0 clue j) (e - n) d k =
+        λ far. rw (part_is (128 * j) before, get_or-drop (128 * j) before (e + 1 - n - 1) no_colours, at)
+        (near_at j (e - n) (omega arith) (whole_before_end l clue j e jl some far whole)) in
+        masks_same _ _ m p (λ d k. (
+          λ h. elim h [
+            | inl (fill, x) ↦ (let y = u.to k x in inl (fill, y.1, omega (arith, o.to (k - (e + 1 - n)) y.2, whole.0.0)))
+            | inr (some, x) ↦ (let far : n ≤ e = omega arith in inr (far, (read far d k).0 x))
+          ],
+          λ h. elim h [
+            | inl (fill, low, high) ↦
+                inl (fill, u.from k (omega (arith, end_inside l clue j e some whole), low, o.from (k - (e + 1 - n)) (omega arith)))
+            | inr (far, x) ↦ inr (omega arith, (read far d k).1 x)
+          ],
+        ))
 
     -- and all that goes with it: up to its last cell, and after the gap after it
     pub beside_is : (p : ℕ) (read old new : ColourMasks) → e + 1 < len → p ≡ len - 1 - (e + 1)

@@ -33,9 +33,9 @@ pub use Rattle.line_core.specs.steps.Reach.{AreLengths, HasPlacing, IsBlankable,
 pub use Rattle.line_core.specs.Told.{certain_by, told_by}
 pub use Rattle.std.proofs.lemmas.Grind.{common_steps, get_or-set_at}
 pub use Rattle.line_core.specs.Pairs.{ColourMasks, PairMasks, coloured, masks_if, no_colours, no_pair}
-pub use Rattle.line_core.specs.steps.Pairs.{AreColours, AreColoursBefore, AreWholeEnds, CanBeBefore, CanBeSeen, IsPairAt, IsWholeGap, seen}
-pub use Rattle.line_core.specs.steps.Gathers.{IsLineWithin, AreMasks, AreMore, ArePairsMore, AreToldOf, CanBeAfter, CanBeBesideGap, CanBeBesideRun, CanBeUpTo, CanBeWithBlank, CanBeWithFilled, HasColour, IsEndOver}
+pub use Rattle.line_core.specs.steps.Pairs.{AreColours, AreColoursBefore, AreMasks, AreWholeEnds, CanBeBefore, CanBeSeen, IsPairAt, IsWholeGap, seen}
+pub use Rattle.line_core.specs.steps.Gathers.{IsLineWithin, AreMore, ArePairsMore, AreToldOf, CanBeAfter, CanBeBesideGap, CanBeBesideRun, CanBeUpTo, CanBeWithBlank, CanBeWithFilled, HasColour, IsEndOver}
 pub use Rattle.place_sets.proofs.LevelSteps.{levels_none, none_at, number_at}
-pub use Rattle.line_core.specs.steps.Befores.{IsReady, IsRow}
+pub use Rattle.line_core.specs.steps.Befores.{IsRow, IsSeenIn}
 pub use Rattle.std.proofs.lemmas.List.Sums.{list_all-from_AllPass, sum_by-take-le, sum_by_more}
 pub use Rattle.std.specs.Int.{bit_at}

@@ -1,13 +1,14 @@
 //! What can be on a line before a gap between its runs, once one of its cells has a colour.
 
-ghost use Rattle.std.specs.Prelude.{◌≡◌, ◌+◌, ◌-◌, ◌*◌, ◌<◌, ◌≤◌, ◌⊎◌, ℕ, List, [], ◌∷◌, length, map, slice_index_or};
+ghost use Rattle.std.specs.Prelude.{◌≡◌, ◌+◌, ◌-◌, ◌*◌, ◌<◌, ◌≤◌, ◌⊎◌, ℕ, List, [], ◌∷◌, false, length, map, slice_index_or, true};
 ghost use Rattle.grid_core.specs.declared.cells.Cell.{Cell};
 ghost use Rattle.place_sets.specs.Masks.{Has, IsMaskOf};
 ghost use Rattle.line_core.specs.steps.Passes.{IsSpanOf};
 ghost use Rattle.line_core.specs.steps.Reach.{AreLengths, IsGapAfter, IsWholeEnd};
 ghost use Rattle.line_core.specs.Pairs.{no_colours};
-ghost use Rattle.line_core.specs.steps.Pairs.{AreColoursBefore, AreTold, AreWholeEnds, AreWholeGaps, IsWholeGap, seen};
-ghost use Rattle.line_core.specs.steps.Befores.{IsReady, IsRow};
+ghost use Rattle.line_core.specs.steps.Pairs.{AreColoursBefore, AreMasks, AreTold, AreWholeEnds, AreWholeGaps, IsWholeGap};
+ghost use Rattle.line_core.specs.steps.Befores.{IsRow, IsSeenIn};
+ghost use Rattle.line_core.specs.steps.Gathers.{AreMore, HasColour};
 
 use crate::pairs::Colours;
 use crate::passes::Pass;
@@ -49,37 +50,39 @@ pub fn write_wholes<W: PlaceSet>(
     }
 }
 
-/// Some adjacent cells of a line of `len` cells by their places as they are seen, from the line's other end or not.
-fn seen_cells<W: PlaceSet, const TURNED: bool>(len: u16, first: u16, count: u16) -> W
+/// Some adjacent cells of a line of `len` cells by their places as they are seen, from the line's other end
+/// or not: as many first places are shifted there.
+fn seen_cells<W: PlaceSet, const TURNED: bool>(len: u16, first: u16, count: u16, places: W) -> W
     requires len { len ≤ W.WIDTH }
     requires count { (0 < count) × (first + count ≤ len) }
-    ensures { IsMaskOf (λ k. (k < len) × (first ≤ seen TURNED len k) × (seen TURNED len k < first + count)) (W.number result) }
+    requires places { IsMaskOf (λ i. i < count) (W.number places) }
+    ensures { IsMaskOf (IsSeenIn TURNED len first (first + count)) (W.number result) }
 {
     let from = if TURNED { len - first - count } else { first };
-    first_places::<W>(count).shifted_up(from)
+    places.shifted_up(from)
 }
 
 /// The colours before a gap, as far as a longer gap gives them: its own cell is blank, and the others can be
-/// what they can before the cell before, if that is such a gap too.
-fn colours_in_gap<W: PlaceSet>(place: u16, own: W, longer: W, row: &[Colours<W>]) -> Colours<W>
-    requires place { place < W.WIDTH }
-    requires longer { Has (W.number longer) place → 1 ≤ place }
-    requires row { place ≤ length row.now }
-    ensures fillable { IsMaskOf (λ k. Has (W.number longer) place
-        × Has (slice_index_or row.now (place - 1) no_colours).fillable k) result.fillable }
-    ensures blankable { IsMaskOf (λ k. Has (W.number own) k ⊎ (Has (W.number longer) place
-        × Has (slice_index_or row.now (place - 1) no_colours).blankable k)) result.blankable }
+/// what they can before the last gap, if that is one cell before.
+fn colours_in_gap<W: PlaceSet, const TURNED: bool>(
+    len: u16,
+    place: u16,
+    longer: W,
+    last: &Colours<W>,
+) -> Colours<W>
+    requires len { len ≤ W.WIDTH }
+    requires place { place < len }
+    ensures { AreMasks (λ filled k. ((filled ≡ false) × IsSeenIn TURNED len place (place + 1) k)
+        ⊎ (Has (W.number longer) place × HasColour last.now filled k)) result }
 {
-    if !longer.contains(place) {
-        return Colours {
-            fillable: W::empty(),
-            blankable: own,
-        };
-    }
-    let colours = &row[usize::from(place - 1)];
-    Colours {
-        fillable: colours.fillable,
-        blankable: own.union(colours.blankable),
+    let own = Colours {
+        fillable: W::empty(),
+        blankable: seen_cells::<W, TURNED>(len, place, 1, first_places(1)),
+    };
+    if longer.contains(place) {
+        own.with(last)
+    } else {
+        own
     }
 }
 
@@ -87,77 +90,44 @@ fn colours_in_gap<W: PlaceSet>(place: u16, own: W, longer: W, row: &[Colours<W>]
 /// before the gap before it.
 pub fn run_and_before<W: PlaceSet>(start: u16, run: W, before: &[Colours<W>]) -> Colours<W>
     requires { start ≤ length before.now }
-    ensures fillable { IsMaskOf (λ k. Has (W.number run) k
-        ⊎ ((0 < start) × Has (slice_index_or before.now (start - 1) no_colours).fillable k)) result.fillable }
-    ensures blankable { IsMaskOf (λ k. (0 < start) × Has (slice_index_or before.now (start - 1) no_colours).blankable k) result.blankable }
+    ensures { AreMasks (λ filled k. ((filled ≡ true) × Has (W.number run) k)
+        ⊎ ((0 < start) × HasColour (slice_index_or before.now (start - 1) no_colours) filled k)) result }
 {
+    let own = Colours {
+        fillable: run,
+        blankable: W::empty(),
+    };
     if start == 0 {
-        return Colours {
-            fillable: run,
-            blankable: W::empty(),
-        };
+        return own;
     }
-    let colours = &before[usize::from(start - 1)];
-    Colours {
-        fillable: run.union(colours.fillable),
-        blankable: colours.blankable,
-    }
+    own.with(&before[usize::from(start - 1)])
 }
 
-/// The colours before a gap, as far as a run gives them that ends right before it.
-fn colours_to_run<W: PlaceSet, const TURNED: bool>(
-    len: u16,
-    place: u16,
-    number: u16,
-    ended: W,
-    before: &[Colours<W>],
-) -> Colours<W>
-    requires len { len ≤ W.WIDTH }
-    requires place { place < len }
-    requires number { 0 < number }
-    requires ended { Has (W.number ended) place → number ≤ place }
-    requires before { place ≤ length before.now }
-    ensures fillable { IsMaskOf (λ k. Has (W.number ended) place
-        × (((k < len) × (place - number ≤ seen TURNED len k) × (seen TURNED len k < place))
-        ⊎ ((number < place) × Has (slice_index_or before.now (place - number - 1) no_colours).fillable k))) result.fillable }
-    ensures blankable { IsMaskOf (λ k. Has (W.number ended) place
-        × (number < place) × Has (slice_index_or before.now (place - number - 1) no_colours).blankable k) result.blankable }
-{
-    if ended.contains(place) {
-        let start = place - number;
-        run_and_before(start, seen_cells::<W, TURNED>(len, start, number), before)
-    } else {
-        Colours::none()
-    }
-}
-
-/// The colours before a gap after a run of `number` cells.
+/// The colours before a gap: those in the gap, and what a run gives if it ends right before the gap.
 fn colours_before<W: PlaceSet, const TURNED: bool>(
+    in_gap: Colours<W>,
     len: u16,
     place: u16,
     number: u16,
-    longer: W,
+    places: W,
     ended: W,
     before: &[Colours<W>],
-    row: &[Colours<W>],
 ) -> Colours<W>
     requires len { len ≤ W.WIDTH }
     requires place { place < len }
     requires number { 0 < number }
-    requires longer { Has (W.number longer) place → 1 ≤ place }
+    requires places { IsMaskOf (λ i. i < number) (W.number places) }
     requires ended { Has (W.number ended) place → number ≤ place }
     requires before { place ≤ length before.now }
-    requires row { place ≤ length row.now }
-    ensures { (line : List Cell) (runs : List ℕ) → len ≡ length line
-        → IsReady TURNED line runs number place (W.number longer) (W.number ended) before.now row.now
-        → AreColoursBefore TURNED line (number ∷ runs) place result }
+    ensures { AreMore (λ filled k. Has (W.number ended) place × (((filled ≡ true) × IsSeenIn TURNED len (place - number) place k)
+        ⊎ ((number < place) × HasColour (slice_index_or before.now (place - number - 1) no_colours) filled k))) in_gap result }
 {
-    let in_gap = colours_in_gap(place, seen_cells::<W, TURNED>(len, place, 1), longer, row);
-    let to_run = colours_to_run::<W, TURNED>(len, place, number, ended, before);
-    Colours {
-        fillable: in_gap.fillable.union(to_run.fillable),
-        blankable: in_gap.blankable.union(to_run.blankable),
+    if !ended.contains(place) {
+        return in_gap;
     }
+    let start = place - number;
+    let run = seen_cells::<W, TURNED>(len, start, number, places);
+    in_gap.with(&run_and_before(start, run, before))
 }
 
 /// Writes the colours before each gap of whole placings that has no run before it.
@@ -177,7 +147,7 @@ fn write_first<W: PlaceSet, const TURNED: bool>(len: u16, gaps: W, row: &mut [Co
         left = left.marked(place, false);
         row[usize::from(place)] = Colours {
             fillable: W::empty(),
-            blankable: seen_cells::<W, TURNED>(len, 0, place + 1),
+            blankable: seen_cells::<W, TURNED>(len, 0, place + 1, first_places(place + 1)),
         };
     }
 }
@@ -210,12 +180,15 @@ fn write_row<W: PlaceSet, const TURNED: bool>(
     let longer = gaps.shifted_up(1);
     let ended = ends.shifted_up(1);
     let (before, row) = rows.split_at_mut(ROW);
+    let places = first_places::<W>(number);
+    let mut last = Colours::none();
     let mut left = gaps;
     while !left.is_empty() {
         let place = left.first_place();
         left = left.marked(place, false);
-        let colours = colours_before::<W, TURNED>(len, place, number, longer, ended, before, row);
-        row[usize::from(place)] = colours;
+        let in_gap = colours_in_gap::<W, TURNED>(len, place, longer, &last);
+        last = colours_before::<W, TURNED>(in_gap, len, place, number, places, ended, before);
+        row[usize::from(place)] = last.copied();
     }
 }
 

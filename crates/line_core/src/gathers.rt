@@ -5,8 +5,8 @@ ghost use Rattle.std.specs.Prelude.{◌≡◌, ◌+◌, ◌*◌, ◌<◌, ◌≤
 ghost use Rattle.grid_core.specs.declared.cells.Cell.{Cell};
 ghost use Rattle.place_sets.specs.Masks.{IsMaskOf};
 ghost use Rattle.line_core.specs.Pairs.{masks_if, no_pair};
-ghost use Rattle.line_core.specs.steps.Pairs.{ArePairs, AreWholeEnds, AreWholeGaps, IsWholeGap};
-ghost use Rattle.line_core.specs.steps.Gathers.{AreMasks, AreMore, ArePairsMore, AreToldOf, CanBeBesideGap, CanBeBesideRun, CanBeWithBlank, CanBeWithFilled, HasColour, IsLineWithin};
+ghost use Rattle.line_core.specs.steps.Pairs.{AreMasks, ArePairs, AreWholeEnds, AreWholeGaps, IsWholeGap};
+ghost use Rattle.line_core.specs.steps.Gathers.{AreMore, ArePairsMore, AreToldOf, CanBeBesideGap, CanBeBesideRun, CanBeWithBlank, CanBeWithFilled, HasColour, IsLineWithin};
 ghost use Rattle.line_core.specs.steps.Reach.{AreLengths, IsWholeEnd};
 
 use crate::befores::{ROW, run_and_before};

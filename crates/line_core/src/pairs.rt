@@ -55,6 +55,16 @@ impl<W: PlaceSet> Colours<W> {
         self.blankable = self.blankable.union(more.blankable);
     }
 
+    /// The same cells once more.
+    pub(crate) fn copied(&self) -> Colours<W>
+        ensures { result ≡ self.now }
+    {
+        Colours {
+            fillable: self.fillable,
+            blankable: self.blankable,
+        }
+    }
+
     /// The cells of both.
     pub(crate) fn with(&self, more: &Colours<W>) -> Colours<W>
         ensures { AreMore (HasColour more.now) self.now result }

@@ -1,15 +1,10 @@
 -- What can be on a line with a cell of some colour, as it is gathered from what is told before and after that cell.
 use Rattle.std.specs.Prelude.{◌≡◌, ℕ, ◌+◌, ◌-◌, ◌*◌, ◌<◌, ◌≤◌, ◌⊎◌, Bool, true, false, not, List, length, slice_index_or, reverse}
 use Rattle.grid_core.specs.declared.cells.Cell.{Cell}
-use Rattle.place_sets.specs.Masks.{Has, IsMaskOf}
+use Rattle.place_sets.specs.Masks.{Has}
 use Rattle.line_core.specs.Pairs.{ColourMasks, PairMasks, coloured, masks_if, no_pair}
-use Rattle.line_core.specs.steps.Pairs.{AreTold, CanBeBefore, IsWholeGap}
+use Rattle.line_core.specs.steps.Pairs.{AreMasks, AreTold, CanBeBefore, IsWholeGap}
 use Rattle.line_core.specs.steps.Reach.{behind, MayBe, IsGapAhead, IsWholeEnd}
-
--- the masks have exactly the cells of which something holds with each colour
-pub record AreMasks (P : Bool → ℕ → Type 0) (masks : ColourMasks) : Type 0 where
-  pub fillable_is : IsMaskOf (P true) masks.fillable
-  pub blankable_is : IsMaskOf (P false) masks.blankable
 
 -- a cell is in the mask of a colour
 abbrev pub HasColour : ColourMasks → Bool → ℕ → Type 0

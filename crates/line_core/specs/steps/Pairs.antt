@@ -25,6 +25,11 @@ pub record IsPairAt (line : List Cell) (clue : List ℕ) (x : ℕ) (pair : PairM
 abbrev pub ArePairs : List Cell → List ℕ → List PairMasks → Type 0
 ArePairs line clue pairs = (x : ℕ) → x < length line → slice_index_or line x (colour true) ≡ Unknown → IsPairAt line clue x (slice_index_or pairs x no_pair)
 
+-- the masks have exactly the cells of which something holds with each colour
+pub record AreMasks (P : Bool → ℕ → Type 0) (masks : ColourMasks) : Type 0 where
+  pub fillable_is : IsMaskOf (P true) masks.fillable
+  pub blankable_is : IsMaskOf (P false) masks.blankable
+
 -- a cell up to place i can have a colour together with a gap at i after `runs`, the last of them first
 abbrev pub CanBeBefore : List Cell → List ℕ → ℕ → Bool → ℕ → Type 0
 CanBeBefore line runs i filled k = (k ≤ i) × MayBe line filled k × IsGapAfter (coloured line k filled) runs i
@@ -39,9 +44,8 @@ abbrev pub CanBeSeen : Bool → List Cell → List ℕ → ℕ → Bool → ℕ 
 CanBeSeen turned line runs i filled k = (k < length line) × CanBeBefore line runs i filled (seen turned (length line) k)
 
 -- the masks of those cells
-pub record AreColoursBefore (turned : Bool) (line : List Cell) (runs : List ℕ) (i : ℕ) (masks : ColourMasks) : Type 0 where
-  pub fillable_is : IsMaskOf (CanBeSeen turned line runs i true) masks.fillable
-  pub blankable_is : IsMaskOf (CanBeSeen turned line runs i false) masks.blankable
+abbrev pub AreColoursBefore : Bool → List Cell → List ℕ → ℕ → ColourMasks → Type 0
+AreColoursBefore turned line runs i = AreMasks (CanBeSeen turned line runs i)
 
 -- a cell is blank in some placing, with the first j runs before it
 abbrev pub IsWholeGap : List Cell → List ℕ → ℕ → ℕ → Type 0

@@ -1,11 +1,11 @@
--- `colours_before`: the masks of both parts, joined.
-use Rattle.line_core.proofs.Names.{join_of}
-use Rattle.line_core.proofs.ColouredGaps.{colours_are}
+-- `colours_before`: what the run gives is added.
+use Rattle.line_core.proofs.Names.{rules, arith, ◌≡◌, ◌+◌, ◌-◌, true_has, ◌∙◌, sym}
+use Rattle.line_core.proofs.ColourMasks.{masks_are, more_same}
 use Rattle.line_core.proofs.befores.colours_before.Goals as goal
 
 pub returns : goal.returns
-returns g c = λ line runs size r.
-    let gap = rw (← c.in_gap.view_is) at c.colours_in_gap-in_gap.ensures in
-    let run = rw (← c.to_run.view_is) at c.colours_to_run-to_run.ensures in
-    colours_are line runs _ _ _ _ _ _ _ _ c.requires.number c.requires.longer r (rw size at c.seen_cells.ensures)
-    (join_of _ _ _ _ _ gap.fillable (rw size at run.fillable) c.union.ensures) (join_of _ _ _ _ _ gap.blankable run.blankable c.union-2.ensures)
+returns g c =
+    let ended = true_has _ _ (sym c.contains.ensures ∙ c.if-not-contains.false) in
+    let to : c.args.place - c.args.number + c.args.number ≡ c.args.place = omega (arith, c.requires.ended ended) in
+    let run = rw to at c.seen_cells-run.ensures in
+    more_same _ _ _ _ c.with.ensures (λ d k. search (rules, masks_are _ _ c.run_and_before.ensures d k, run.to k, run.from k))

@@ -13,7 +13,7 @@ pub loop-j-init : goal.loop-j-init
 loop-j-init g c =
     let (are, (count, (short, (whole, rest)))) = c.requires.1.1.1.1.1 in
     let gap = kept_is _ _ c.args.gaps.now 0 _ _ (omega arith) c.of_kept.ensures (whole _ (omega arith)) in
-    record { size = c.write_first.ensures.count; told = rows_none g.line _ _ (λ i h. c.write_first.ensures.row i (gap.from i h)) }
+    record { size = c.write_first.ensures.count; told = rows_none _ g.line _ _ (λ i h. c.write_first.ensures.row i (gap.from i h)) }
 
 pub write_row-requires : goal.write_row-requires
 write_row-requires g c = λ κs within.
@@ -21,7 +21,7 @@ write_row-requires g c = λ κs within.
     let j = c.loop-j.j in
     let gap = kept_is _ _ c.args.gaps.now (j + 1) _ _ (omega arith) c.of_kept-next.ensures (gaps _ (omega arith)) in
     let end = kept_is _ _ c.args.ends.now j _ _ (omega arith) c.of_kept-run_ends.ensures (ends _ c.loop-j-test.true) in
-    let row = row_at g.line _ j _ c.loop-j.invariant.told in search (rules, part_long)
+    let row = row_at _ g.line _ j _ c.loop-j.invariant.told in search (rules, part_long)
 
 pub loop-j-preserved : goal.loop-j-preserved
 loop-j-preserved g c =
@@ -30,5 +30,5 @@ loop-j-preserved g c =
     let table = c.loop-j.table in
     let row = c.write_row.ensures in record {
       size = rw (put_back at table, length-append) (omega (arith, row.count, part_long at table, length-take-le at table (omega arith)));
-      told = rows_more g.line _ _ _ _ short (omega arith) c.loop-j.invariant.told row.row row.before;
+      told = rows_more _ g.line _ _ _ _ short (omega arith) c.loop-j.invariant.told row.row row.before;
     }

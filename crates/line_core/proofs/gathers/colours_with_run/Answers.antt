@@ -7,16 +7,14 @@ use Rattle.line_core.proofs.gathers.colours_with_run.Goals as goal
 pub returns-then-next-len : goal.returns-then-next-len
 returns-then-next-len g c =
     let (line, (are, (count, (jl, (whole, told))))) = c.requires.1.1 in
-    let before = c.run_and_before-colours.ensures in
     let up = up_to_is g.line _ _ _ _ _ line told _ _ are jl whole _ _ _ c.first_places.ensures
-    c.shifted_up-run.ensures before.fillable before.blankable in
+    c.shifted_up-run.ensures c.run_and_before-colours.ensures in
     beside_is g.line _ _ _ _ _ line told _ _ are jl whole _ _ _ _ c.if-next-len.true
     c.from-turned.ensures c.index-after-clue.is up c.add.ensures
 
 pub returns-else-next-len : goal.returns-else-next-len
 returns-else-next-len g c =
     let (line, (are, (count, (jl, (whole, told))))) = c.requires.1.1 in
-    let before = c.run_and_before-colours.ensures in
     let up = up_to_is g.line _ _ _ _ _ line told _ _ are jl whole _ _ _ c.first_places.ensures
-    c.shifted_up-run.ensures before.fillable before.blankable in
+    c.shifted_up-run.ensures c.run_and_before-colours.ensures in
     masks_same _ _ _ up (λ d k. (λ h. inl h, λ h. elim h [ inl x ↦ x | inr x ↦ absurd (omega (arith, x.0, c.if-next-len.false, line.len_is)) ]))
