@@ -92,12 +92,8 @@ next_told t l clue j w gaps left ends longer ended p before rows last old m are 
     whole : IsWholeGap l clue (suc j) p
     whole = gs.to p is
 
-    gap : (v : Bool) (k : ℕ)
-        → HasColour old v k ↔ (((v ≡ false) × IsSeenIn t (length l) p (p + 1) k) ⊎ (Has longer p × HasColour last v k))
-    gap = masks_are _ old a
-
-    in_row : Has longer p → (v : Bool) (k : ℕ) → HasColour last v k ↔ CanBeSeen t l (n ∷ runs) (p - 1) v k
-    in_row h = let x = lm.to p h in
+    at_last : Has longer p → (v : Bool) (k : ℕ) → HasColour last v k ↔ CanBeSeen t l (n ∷ runs) (p - 1) v k
+    at_last h = let x = lm.to p h in
         rw (add-one j) at (masks_are _ last ((ahead (p - 1) p x.2 (λ n. omega (arith, x.1, low (p - 1) n)) here).1 (omega (arith, x.1))))
 
     in_before : Has ended p → n < p → (v : Bool) (k : ℕ)
@@ -110,9 +106,9 @@ next_told t l clue j w gaps left ends longer ended p before rows last old m are 
 
     to : (v : Bool) (k : ℕ) → HasColour old v k ⊎ (Has ended p × (((v ≡ true) × IsSeenIn t (length l) (p - n) p k)
         ⊎ ((n < p) × HasColour (get_or before (p - n - 1) no_colours) v k))) → (k < length l) × Step l runs n p v (seen t (length l) k)
-    to v k (inl x) = elim ((gap v k).0 x) [
+    to v k (inl x) = elim ((masks_are _ old a v k).0 x) [
       | inl (blank, own) ↦ (own.0, inl (omega (arith, own.1), blank))
-      | inr (h, y) ↦ (let z = (in_row h v k).0 y in (z.0, inr ((lm.to p h).1, inl z.1)))
+      | inr (h, y) ↦ (let z = (at_last h v k).0 y in (z.0, inr ((lm.to p h).1, inl z.1)))
     ]
     to v k (inr (h, inl (fill, x))) = let far = (em.to p h).1 in let end = (es.to (p - 1) (em.to p h).2).0 in search rules
     to v k (inr (h, inr (far, x))) = let y = (in_before h far v k).0 x in
@@ -121,11 +117,11 @@ next_told t l clue j w gaps left ends longer ended p before rows last old m are 
     from : (v : Bool) (k : ℕ) → k < length l → Step l runs n p v (seen t (length l) k)
         → HasColour old v k ⊎ (Has ended p × (((v ≡ true) × IsSeenIn t (length l) (p - n) p k)
         ⊎ ((n < p) × HasColour (get_or before (p - n - 1) no_colours) v k)))
-    from v k kl (inl (at, blank)) = search (rules, gap v k)
+    from v k kl (inl (at, blank)) = search (rules, masks_are _ old a v k)
     from v k kl (inr (one, inl y)) =
         let g = gs.from (p - 1) (whole_back l clue (suc j) p jl one whole.1 (gap_less l _ v y.1 (n ∷ runs) (p - 1) y.2)) in
         let x = lm.from p (pw, one, g) in
-        search (rules, gap v k, in_row)
+        search (rules, masks_are _ old a v k, at_last)
     from v k kl (inr (one, inr (e, y))) = inr (
       ends_here,
       elim y [
