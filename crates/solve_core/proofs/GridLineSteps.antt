@@ -1,5 +1,7 @@
 -- A grid as its rows and its columns: its cells, and what changing one of them does.
-use Rattle.solve_core.proofs.Names.{◌≡◌, ℕ, ◌+◌, ◌-◌, ◌*◌, ◌/◌, ◌%◌, ◌<◌, ◌≤◌, List, [], ◌∷◌, length, get_or, refl, sym, ap, ◌∙◌, arith, replicate, ext_get_or, get_or_default, get_or-replicate, length-replicate, div_below, Cell, Unknown, PartialGrid, IsSize, places_from, cells_at, length-places_from, get_or-places_from, length-cells_at, get_or-cells_at, IsUnknownCell, AreLinesOf, cells_of_rows, row_of, get_or-row_of, get_or-rows, length-row_of, length-rows, cases_lt, inl, inr, subst, rules}
+use Rattle.solve_core.proofs.Names.{◌≡◌, ℕ, ◌+◌, ◌-◌, ◌*◌, ◌/◌, ◌%◌, ◌<◌, ◌≤◌, List, [], ◌∷◌, length, get_or, refl, sym, ap, ◌∙◌, arith, replicate, ext_get_or, get_or_default, get_or-replicate, length-replicate, div_below, Cell, Unknown, PartialGrid, IsSize, places_from, cells_at, length-places_from, get_or-places_from, length-cells_at, get_or-cells_at, IsUnknownCell, AreLinesOf, cells_of_rows, row_of, get_or-row_of, get_or-rows, length-row_of, length-rows, cases_lt, inl, inr, subst, rules, sum_by-cons, count_by, is_known}
+use Rattle.std.specs.Prelude.{◌^◌, sum_by}
+use Rattle.std.proofs.lemmas.List.Sums.{count_by-le-length, sum_by-append}
 use Rattle.solve_core.proofs.SideLines.{row_within}
 use Rattle.solve_core.proofs.LineSteps.{get_or-replicated}
 
@@ -99,6 +101,18 @@ passed P w y column end from before here k low high = elim (cases_lt k (y * w + 
   | inl early ↦ before k low early
   | inr late ↦ (let at : y * w + (k - y * w) ≡ k = omega arith in subst P at (here (k - y * w) (omega arith) (omega arith)))
 ]
+
+-- ---- known cells
+
+-- the known cells of each row are those of the grid
+pub known_by_rows : (rows : List (List Cell)) → sum_by (count_by is_known) rows ≡ count_by is_known (cells_of_rows rows)
+known_by_rows [] = refl
+known_by_rows (row ∷ rows) = search (rules, sum_by-cons, sum_by-append, (known_by_rows rows))
+
+-- and they are few enough
+pub few_known : (rows columns : List (List Cell)) → AreLinesOf (cells_of_rows rows) rows columns →
+    sum_by (count_by is_known) rows < 2 ^ 32
+few_known rows columns a = rw (known_by_rows rows) (let few = count_by-le-length is_known (cells_of_rows rows) in grind (arith, a, few))
 
 -- ---- rows read from a grid
 

@@ -1,5 +1,5 @@
 //! A grid as its rows and its columns.
-ghost use Rattle.std.specs.Prelude.{◌≡◌, ◌+◌, ◌-◌, ◌*◌, ◌<◌, ◌≤◌, ℕ, nat_eq, [], false, length, replicate, slice_index_or, slice_set, true, vec_capacity, IfOk, IfSome};
+ghost use Rattle.std.specs.Prelude.{◌≡◌, ◌+◌, ◌-◌, ◌*◌, ◌<◌, ◌≤◌, ℕ, nat_eq, [], count_by, false, length, replicate, slice_index_or, slice_set, true, vec_capacity, IfOk, IfSome};
 ghost use Rattle.grid_core.specs.Cells.{Extends, is_known};
 ghost use Rattle.grid_core.specs.Nonogram.{cells_at, crossing, places_on};
 ghost use Rattle.grid_core.specs.steps.Sides.{count_on};
@@ -162,6 +162,20 @@ fn sure_below<W: LineSet>(rows: &[LineOf<W>], y: usize) -> W
     }
 }
 
+/// How many cells of a line are known.
+fn known_in<W: LineSet>(line: &LineOf<W>) -> u32
+    ensures { result ≡ count_by is_known line.now }
+{
+    let count = line.len();
+    let mut unknown = 0;
+    let mut from = 0;
+    while let Some(place) = line.first_unknown(from) {
+        unknown += 1;
+        from = place + 1;
+    }
+    u32::from(count - unknown)
+}
+
 impl<W: LineSet> GridLines<W> {
     /// Its rows and its columns.
     pub fn into_lists(self) -> (Vec<LineOf<W>>, Vec<LineOf<W>>) {
@@ -211,6 +225,14 @@ impl<W: LineSet> GridLines<W> {
         ensures within { length self.now.cells ≤ 65536 }
     {
         self.rows.len() * self.columns.len()
+    }
+
+    /// How many cells are known.
+    #[tactic(auto, using(crate::proofs::GridLineSteps::known_by_rows, crate::proofs::GridLineSteps::few_known))]
+    pub fn known(&self) -> u32
+        ensures { result ≡ count_by is_known self.now.cells }
+    {
+        self.rows.iter().map(|row| known_in(row)).sum()
     }
 
     /// The unknown cells of row y of whose neighbours at least `least`, 0 to 4, are known or outside the

@@ -29,20 +29,6 @@ use line_core::{LineSet, Width};
 use place_sets::Wide;
 use std::alloc::Global;
 
-/// How many cells are known.
-fn count_known<W: LineSet>(board: &Board<W>) -> u32
-    ensures { result ≡ count_by is_known board.now.cells }
-{
-    let lines = board.lines();
-    let mut unknown = 0;
-    let mut from = 0;
-    while let Some(place) = lines.first_unknown(from) {
-        unknown += 1;
-        from = place + 1;
-    }
-    (lines.count() - unknown) as u32
-}
-
 /// Whether each cell is known, if `known` cells are.
 fn are_known<W: LineSet>(board: &Board<W>, known: u32) -> bool
     requires { known ≡ count_by is_known board.now.cells }
@@ -110,7 +96,7 @@ fn findings<W: LineSet>(
             spent: 0,
         };
     }
-    let line_known = count_known(board);
+    let line_known = board.lines().known();
     let by_lines = are_known(board, line_known);
     if !try_unless_full(trials, puzzle, board, by_lines) {
         return Findings {
@@ -121,7 +107,7 @@ fn findings<W: LineSet>(
             spent: 0,
         };
     }
-    let trial_known = count_known(board);
+    let trial_known = board.lines().known();
     let grade = grade(by_lines, are_known(board, trial_known));
     let mut solutions = solutions;
     let end = search(

@@ -15,7 +15,9 @@ pub returns : goal.returns
 returns g c =
     let p = c.args.puzzle.now in
     let graded = c.grade-grade.ensures ∙ (λ i. grade_by (c.are_known-by_lines.ensures i) (c.are_known.ensures i)) in
-    rw (c.verdict.ensures, graded, c.count_known-line_known.ensures, c.count_known-trial_known.ensures)
+    let line_known = rw c.lines.ensures.lines at c.known-line_known.ensures in
+    let trial_known = rw c.lines-2.ensures.lines at c.known-trial_known.ensures in
+    rw (c.verdict.ensures, graded, line_known, trial_known)
     (rw (← c.search-end.ensures) at (report-told (picked c.args.pick p.width) p c.args.guesses c.args.board.now.cells
     (Some c.close.new.self.cells) (Some c.try_unless_full.new.board.cells) c.requires.unknown c.if-not-close.ensures.closed
     (rw c.if-not-try_unless_full.false at c.try_unless_full.ensures.tried)))
