@@ -88,7 +88,7 @@ fn open_changes<W: LineSet>(
         × IsNeutralAt deductions.now.tables (crossing side) k i (is_filled (slice_index_or new.now k Unknown)) }
     ensures fresh { StayFresh side i (Has (W.number changes)) fresh.old fresh.new }
 {
-    if !may_be_fresh {
+    if !may_be_fresh || fresh.is_empty() {
         *fresh = Marks::none();
         return changes;
     }
