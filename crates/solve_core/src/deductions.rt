@@ -2,7 +2,7 @@
 ghost use Rattle.std.specs.Prelude.{[], ℕ, Some, ◌≡◌, ◌≢◌, ◌+◌, ◌*◌, ◌<◌, ◌≤◌, ◌↔◌, length, vec_capacity, IsTrue, IfOk, IfSome, All};
 ghost use Rattle.line_core.specs.Deduction.{deduced};
 ghost use Rattle.line_core.specs.Told.{told_by};
-ghost use Rattle.solve_core.specs.steps.Deductions.{AreRight, IsKeptFrom};
+ghost use Rattle.solve_core.specs.steps.Deductions.{AreAllOrNone, AreRight, IsKeptFrom};
 ghost use Rattle.grid_core.specs.Nonogram.{Nonogram, line_on};
 ghost use Rattle.solve_core.specs.steps.LinePairs.{AreTablesOf, table_on};
 ghost use Rattle.grid_core.specs.declared.sides.Side.{Side as SideValue};
@@ -92,7 +92,7 @@ fn key_of(side: Side, i: u16) -> u64 {
 }
 
 /// Which of `slots` slots, a power of two, is that of a line, by its group and its place there. `None` if
-/// there is no slot yet.
+/// there is no slot yet, else all are there.
 fn slot_of<W: LineSet>(
     groups: &[[u16; GROUP]],
     slots: usize,
@@ -100,7 +100,8 @@ fn slot_of<W: LineSet>(
     number: u16,
     line: &LineOf<W>,
 ) -> Option<(usize, usize)>
-    requires { 0 < slots }
+    requires some { 0 < slots }
+    requires all { AreAllOrNone slots (length groups.now) }
     ensures { IfSome result (λ slot. (slot.0 < length groups.now) × (slot.1 < 64)) }
 {
     if groups.is_empty() {
@@ -110,10 +111,17 @@ fn slot_of<W: LineSet>(
         .hash()
         .wrapping_add(key_of(side, number).wrapping_mul(0x8cb9_2ba7_2f3d_8dd7));
     let slot = (mixed >> 50) as usize & (slots - 1);
-    if slot / GROUP < groups.len() {
-        Some((slot / GROUP, slot % GROUP))
-    } else {
-        None
+    Some((slot / GROUP, slot % GROUP))
+}
+
+/// Adds groups of slots that no deduction has taken, in room that is made, until there are `count` groups.
+fn fill_up(groups: &mut Vec<[u16; GROUP]>, count: usize)
+    requires { count ≤ vec_capacity groups.old }
+    ensures count { count ≤ length groups.new.items }
+    ensures room { vec_capacity groups.new ≡ vec_capacity groups.old }
+{
+    while groups.len() < count {
+        groups.push_reserved([NO_DEDUCTION; GROUP]);
     }
 }
 
@@ -166,13 +174,14 @@ impl<W: LineSet> Drop for Deductions<W> {
 impl<W: LineSet> Model for Deductions<W> {
     ghost use Rattle.std.specs.Prelude.{vec_capacity};
     ghost use Rattle.std.specs.Prelude.{List};
-    ghost use Rattle.solve_core.specs.steps.Deductions.{HasRoom, Memory};
+    ghost use Rattle.std.specs.Prelude.{length};
+    ghost use Rattle.solve_core.specs.steps.Deductions.{AreAllOrNone, HasRoom, Memory};
 
     ghost Value = { Memory };
 
     ghost view = { λ d. record { kept = d.kept.items; tables = d.pairs } };
 
-    ghost invariant = { λ d. HasRoom d.room (vec_capacity d.slots) (vec_capacity d.kept) };
+    ghost invariant = { λ d. HasRoom d.room (vec_capacity d.slots) (vec_capacity d.kept) × AreAllOrNone d.room (length d.slots.items) };
 }
 
 impl<W: LineSet> Deductions<W> {
@@ -280,9 +289,7 @@ impl<W: LineSet> Deductions<W> {
     pub fn open(&mut self)
         ensures { self.new ≡ self.old }
     {
-        while self.slots.len() < self.room.div_ceil(GROUP) {
-            self.slots.push_reserved([NO_DEDUCTION; GROUP]);
-        }
+        fill_up(&mut self.slots, self.room.div_ceil(GROUP));
     }
 
     /// What is certain of line i of a side of the puzzle with these cells: what all placings of its clue

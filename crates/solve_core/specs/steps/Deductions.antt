@@ -41,3 +41,7 @@ pub record HasRoom (room slots_room kept_room : ℕ) : Type 0 where
   pub few : room ≤ MOST_REMEMBERED
   pub slots_fit : room ≤ 64 * slots_room
   pub kept_fit : room ≤ kept_room
+
+-- there are groups for all of `slots` slots, or none yet
+abbrev pub AreAllOrNone : ℕ → ℕ → Type 0
+AreAllOrNone slots groups = (groups ≡ 0) ⊎ (slots ≤ 64 * groups)
