@@ -13,7 +13,7 @@ pub use Rattle.place_sets.proofs.HasLemmas.{has_true, true_has}
 pub use Rattle.place_sets.proofs.Steps.{mask_same}
 pub use Rattle.place_sets.proofs.Uses.{flood_from, flood_same, has_of, join_of, meet_of, shifted_of}
 pub use Rattle.place_sets.specs.Masks.{AllFrom, AreLevelsOf, Has, IsFlooded, IsMarked, IsMaskOf, IsShifted, SomeFrom, SomeLevel, has}
-pub use Rattle.grid_core.proofs.LineCells.{cell_at, has_by, length_line}
+pub use Rattle.grid_core.proofs.LineCells.{has_by}
 pub use Rattle.grid_core.proofs.RunsLemmas.{runs_after}
 pub use Rattle.grid_core.specs.Cells.{CellExtends, Extends, agrees, allows, colour, is_filled}
 pub use Rattle.grid_core.specs.Runs.{is_positive, runs}

@@ -1,14 +1,11 @@
 -- The lines of a grid after one of them was written whole, and each that crosses it where it changes: learned, or forgotten again.
-use Rattle.solve_core.proofs.Names.{◌≡◌, ◌≢◌, ◌∙◌, AreFresh, Blank, Filled, LineMarks, Nonogram, Some, bit_at, colour, cond, deduced, eq-eqb, has, is_filled, is_known, ne_eqb, subst, true, false, true≢false, refl, ℕ, ◌+◌, ◌*◌, ◌<◌, inl, inr, List, [], length, get_or, set, sym, ap, arith, length-set, get_or-set_same, get_or-set_other, cases_eq, cases_lt, get_or_past, set-get_or, zero-add, Cell, Unknown, Side, Rows, Columns, Extends, IsChanged, IsMarked, cells_at, crossing, places_on, IsSize, PartialGrid, cells_of_rows, count_on, place_on, same_cells, get_or-cells_at, length-cells_at, length-places_on, get_or-places_on, Extends-at, Extends-refl, Has, IsMaskOf, with_cells, AreLinesOf, board_of, cells_along, TrailedGrid, CanLearn, CanWriteIn, LineStep, IsStepOf, step_on, unlearned, without, unknown_count, length-Extends, ext_get_or, rules}
+use Rattle.solve_core.proofs.Names.{◌≡◌, ◌≢◌, ◌∙◌, AreFresh, Blank, Filled, LineMarks, Nonogram, Some, bit_at, colour, cond, deduced, eq-eqb, has, is_filled, is_known, ne_eqb, subst, true, true≢false, refl, ℕ, ◌+◌, ◌*◌, ◌<◌, inl, inr, List, [], length, get_or, set, sym, ap, arith, length-set, get_or-set_same, get_or-set_other, cases_eq, cases_lt, get_or_past, set-get_or, zero-add, Cell, Unknown, Side, Rows, Columns, Extends, IsChanged, IsMarked, cells_at, crossing, places_on, IsSize, PartialGrid, cells_of_rows, count_on, place_on, same_cells, get_or-cells_at, length-cells_at, length-places_on, get_or-places_on, Extends-at, Extends-refl, Has, IsMaskOf, with_cells, AreLinesOf, board_of, cells_along, TrailedGrid, CanLearn, CanWriteIn, LineStep, IsStepOf, step_on, unlearned, without, unknown_count, length-Extends, ext_get_or, rules}
 use Rattle.solve_core.proofs.ClosureLaws.{length-with_cells, with_cells-monotone, with_cells-read}
 use Rattle.solve_core.proofs.Changes.{none_in}
 use Rattle.solve_core.proofs.Closing.{fewer_unknown}
 use Rattle.solve_core.proofs.GridLineSteps.{grid_of_lines, lines_cells}
 use Rattle.solve_core.proofs.LineSteps.{cells_at-same, cells_at-with_cells, get_or-with_cells, learned_cell, with_cells-same}
 use Rattle.solve_core.proofs.Order.{set_extends}
-use Rattle.grid_core.proofs.LineCells.{line_is}
-use Rattle.grid_core.specs.Lines.{is_blank, line_cells}
-use Rattle.std.proofs.lemmas.Bool.Decides.{nat_tests}
 use Rattle.line_core.specs.Pairs.{AreNeutral}
 use Rattle.solve_core.specs.steps.Boards.{grid_of_board}
 use Rattle.solve_core.specs.steps.LineMarks.{StayFresh}
@@ -313,19 +310,6 @@ forgotten_is w h s cells some count is =
           get_or-unlearned s.changes line k (omega (arith, lk, long)) ∙
           rw (ne_eqb (bit_at s.changes k) 1 none) (at_own s.side w h s.line k cells lk);
     }
-
--- the cells of a line without some places, by sets of its filled and of its blank cells
-pub forgotten_cells : (len m f b free clear blank : ℕ) (line : List Cell) → len ≡ length line →
-    ((i : ℕ) → i < length line → has f i ≡ is_filled (get_or line i Unknown)) → ((i : ℕ) → i < length line → has b i ≡ is_blank (get_or line i Unknown)) →
-    IsMaskOf (λ i. Has f i × (has m i ≡ false)) free → IsMaskOf (λ i. Has b i × (has m i ≡ false)) clear →
-    IsMaskOf (λ i. Has clear i × (has free i ≡ false)) blank → line_cells len free blank ≡ unlearned m line
-forgotten_cells len m f b free clear blank line e filled blanks without_filled without_blank apart =
-    line_is len free blank (unlearned m line) (length-unlearned m line ∙ sym e) (λ i l.
-    let here : i < length line = omega (arith, l, e) in
-    let told = filled i here in
-    let told_blank = blanks i here in
-    rw (get_or-unlearned m line i here)
-    (grind (arith, nat_tests, told, told_blank, without_filled.to i, without_filled.from i, without_blank.to i, without_blank.from i, apart.to i, apart.from i)))
 
 -- a cell that is made unknown can be written into a line that crosses
 pub can_forget : (side : Side) (w h i : ℕ) (cells : List Cell) (lines : List (List Cell)) → AreOn (crossing side) w h cells lines →

@@ -17,7 +17,7 @@ pub use Rattle.grid_core.proofs.Changing.{same_cells, same_without_change}
 pub use Rattle.grid_core.proofs.LineLaws.{all_lines, each_line, get_or-cells_at, get_or-places_from, get_or-places_on, length-cells_at, length-places_from, length-places_on, place-within}
 pub use Rattle.grid_core.proofs.RowLists.{get_or-row_of, get_or-rows, length-row_of, length-rows}
 pub use Rattle.grid_core.specs.Cells.{CellExtends, Extends, colour, is_filled, is_known, is_unknown}
-pub use Rattle.grid_core.specs.Lines.{IsChanged, IsUnknownCell, IsUnknownFrom}
+pub use Rattle.grid_core.specs.Lines.{IsChanged, IsUnknownCell, IsUnknownFrom, unlearned}
 pub use Rattle.grid_core.specs.Nonogram.{GridLine, IsNonogram, Nonogram, Solves, cells_at, clues_on, crossing, line_on, lines_of, places_from, places_on}
 pub use Rattle.grid_core.specs.PartialGrid.{IsSize, PartialGrid}
 pub use Rattle.grid_core.specs.Rows.{cells_of_rows, row_of}
@@ -53,5 +53,5 @@ pub use Rattle.solve_core.specs.steps.Learning.{CanLearn, CanWriteIn, IsIn}
 pub use Rattle.solve_core.specs.steps.LineMarks.{AreMarksWithin, AreUnmarked, IsMarkedOn, IsUnmarkedOn, LineMarks, marks_on}
 pub use Rattle.solve_core.specs.steps.Marks.{HasMarks, HasWork, IsAtRest, IsDeduced, IsLearned, IsWritten, MarksAfter, MarksChanges, Progresses}
 pub use Rattle.solve_core.specs.steps.Openings.{AreBothNoted, AreOpenings}
-pub use Rattle.solve_core.specs.steps.Trails.{IsStepOf, IsTrailed, LineStep, TrailStep, TrailedGrid, cleared, step_on, unknown_count, unlearned, without}
+pub use Rattle.solve_core.specs.steps.Trails.{IsStepOf, IsTrailed, LineStep, TrailStep, TrailedGrid, cleared, step_on, unknown_count, without}
 pub use Rattle.solve_core.specs.steps.Tried.{HasRoomFor, IsReady, Tried}

@@ -13,7 +13,7 @@ ghost use Rattle.solve_core.specs.steps.GridLines.{AreLinesOf};
 ghost use Rattle.place_sets.specs.Masks.{Has, has, IsMaskOf};
 ghost use Rattle.solve_core.specs.Closure.{with_cells};
 ghost use Rattle.solve_core.specs.steps.Boards.{fresh_board};
-ghost use Rattle.solve_core.specs.steps.Trails.{IsTrailed, TrailedGrid, step_on, unlearned, without};
+ghost use Rattle.solve_core.specs.steps.Trails.{IsTrailed, TrailedGrid, step_on, without};
 ghost use Rattle.solve_core.specs.Picks.{is_sure};
 ghost use Rattle.solve_core.specs.Picks.{most_known};
 
@@ -68,16 +68,6 @@ fn unknown_lines<W: LineSet>(list: Vec<LineOf<W>>, len: u16, count: u16) -> Vec<
         lines.push_reserved(LineOf::unknown(len));
     }
     lines
-}
-
-/// A line with the cells at some places unknown.
-fn line_without<W: LineSet>(line: &LineOf<W>, places: W) -> LineOf<W>
-    ensures cells { result ≡ unlearned (W.number places) line.now }
-    ensures fits { length result ≤ W.WIDTH }
-{
-    let filled = line.filled().difference(places);
-    let blank = line.blank().difference(places).difference(filled);
-    LineOf::of_sets(line.len(), filled, blank)
 }
 
 /// Takes over the rows of a grid, each as a whole.
@@ -302,7 +292,7 @@ impl<W: LineSet> GridLines<W> {
         } }
     {
         let place = usize::from(i);
-        let new = line_without(self.line(side, i), changes);
+        let new = self.line(side, i).without(changes);
         match side {
             Side::Rows => {
                 self.rows[place].copy_from(&new);

@@ -1,13 +1,13 @@
 -- The trail of a board: what lines learned, which leads back.
-use Rattle.std.specs.Prelude.{◌≡◌, ℕ, suc, ◌+◌, ◌<◌, ◌≤◌, List, [], ◌∷◌, ◌++◌, length, map, cond, true, slice_index_or}
-use Rattle.std.specs.List.{range_with_len}
+use Rattle.std.specs.Prelude.{◌≡◌, ℕ, suc, ◌+◌, ◌<◌, ◌≤◌, List, [], ◌∷◌, ◌++◌, length, true, slice_index_or}
 use Rattle.grid_core.specs.Cells.{is_known}
+use Rattle.grid_core.specs.Lines.{unlearned}
 use Rattle.grid_core.specs.Nonogram.{cells_at, crossing, places_on}
 use Rattle.grid_core.specs.declared.cells.Cell.{Cell}
 use Rattle.grid_core.specs.declared.cells.Cell.TheVariants.{Unknown, Filled, Blank}
 use Rattle.grid_core.specs.declared.sides.Side.{Side}
 use Rattle.grid_core.specs.steps.Sides.{count_on}
-use Rattle.place_sets.specs.Masks.{Has, has}
+use Rattle.place_sets.specs.Masks.{Has}
 use Rattle.solve_core.specs.Closure.{with_cells}
 
 -- what a line learned: its side, its number, and the places along it that changed
@@ -49,10 +49,6 @@ pub record CanSettle (cells : List Cell) (place : ℕ) (colour : Cell) : Type 0 
   pub within : place < length cells
   pub unknown : slice_index_or cells place Unknown ≡ Unknown
   pub known : is_known colour ≡ true
-
--- a line with the cells at the places of a set made unknown
-abbrev pub unlearned : ℕ → List Cell → List Cell
-unlearned places line = map (λ k. cond (has places k) Unknown (slice_index_or line k Unknown)) (range_with_len 0 (length line))
 
 -- the cells with a step taken back: those that changed are unknown
 abbrev pub without : List Cell → TrailStep → List Cell
