@@ -143,7 +143,7 @@ greatest_listed l clue (y ∷ ys) listed (Some d) h =
     rw (get_or-map_colour x k (omega (arith, length-IsPlacing l clue x q))) at (Extends-at d (map colour x) k (h x q)))))
 
 -- what each placing has is deduced
-deduced-greatest : (l : List Cell) (clue : List ℕ) (o : Option (List Cell))
+pub deduced-greatest : (l : List Cell) (clue : List ℕ) (o : Option (List Cell))
     → ((x : List Bool) → IsPlacing l clue x → AtMost o (Some (map colour x))) → AtMost o (deduced l clue)
 deduced-greatest l clue = greatest_listed l clue (placings l clue) (placings_listed l clue)
 
@@ -166,7 +166,7 @@ deduced-below l clue x p = by (placings l clue) (placings_listed l clue)
 pub deduced-monotone : (l m : List Cell) (clue : List ℕ) → Extends l m → AtMost (deduced l clue) (deduced m clue)
 deduced-monotone l m clue h = deduced-greatest m clue (deduced l clue) (grind (arith, common_steps, deduced-below, Extends-trans))
 
-full_same : (x y : List Bool) → Extends (map colour x) (map colour y) → y ≡ x
+pub full_same : (x y : List Bool) → Extends (map colour x) (map colour y) → y ≡ x
 full_same [] [] h = refl
 full_same (a ∷ x) (b ∷ y) h = search (rules, full_same x y)
 full_same x y h = search rules
@@ -181,14 +181,14 @@ deduced-full x clue d e = by (placings (map colour x) clue) (placings_listed (ma
 
 -- ---- a deduced line has no more to give
 
-AtMost-antisym : (o : Option (List Cell)) (d : List Cell) → AtMost o (Some d) → AtMost (Some d) o → o ≡ Some d
-AtMost-antisym (Some c) d h k = ap (λ (cells : List Cell). Some cells) (Extends-antisym c d h k)
-AtMost-antisym None d h k = absurd h
+pub AtMost-antisym : (o q : Option (List Cell)) → AtMost o q → AtMost q o → o ≡ q
+AtMost-antisym (Some c) (Some d) h k = ap (λ (cells : List Cell). Some cells) (Extends-antisym c d h k)
+AtMost-antisym o q h k = search rules
 
 -- deducing what was deduced changes nothing: each placing of the line is one of the deduced line
 pub deduced-settled : (l d : List Cell) (clue : List ℕ) → deduced l clue ≡ Some d → deduced d clue ≡ Some d
 deduced-settled l d clue e =
-    AtMost-antisym (deduced d clue) d (rw e at (deduced-greatest l clue (deduced d clue) (λ x p.
+    AtMost-antisym (deduced d clue) (Some d) (rw e at (deduced-greatest l clue (deduced d clue) (λ x p.
     deduced-below d clue x (record { extends = rw e at (deduced-below l clue x p); runs_are = p.runs_are })))) (deduced-above d clue)
 
 -- the deduced line is as long as the line

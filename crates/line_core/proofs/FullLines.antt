@@ -1,9 +1,11 @@
 -- A line whose cells are all known: one full line agrees with it, whose runs a walk compares with the clue.
-use Rattle.line_core.proofs.Names.{ArePositive, rules, ◌≡◌, ◌≢◌, ◌↔◌, ℕ, zero, suc, ◌+◌, ◌<◌, ◌≤◌, Bool, true, false, not, cond, List, [], ◌∷◌, length, map, Option, Some, None, refl, sym, ap, ◌∙◌, subst, arith, add-one, drop, get_or, drop-cons, drop_of_length-le, ext_get_or, false_from_ne_true, Cell, Unknown, allows, agrees, is_filled, runs, has_by, runs_after, Has, has, IsMaskOf, has_true, true_has, mask_same, MayBe, runs_after-zero, runs_after-true, runs_after-close, runs_after-nil, none_has, none_in, add_comm, get_or-drop, common_steps}
-use Rattle.line_core.specs.steps.Full.{IsFull, IsFilled}
+use Rattle.line_core.proofs.Names.{◌++◌, append-nil, append_assoc, length-reverse, lengths_turned, length_at, reverse, AreLengths, length-append, length-drop, take, ArePositive, rules, ◌≡◌, ◌≢◌, ◌↔◌, ℕ, zero, suc, ◌+◌, ◌<◌, ◌≤◌, Bool, true, false, not, cond, List, [], ◌∷◌, length, map, Option, Some, None, refl, sym, ap, ◌∙◌, subst, arith, add-one, drop, get_or, drop-cons, drop_of_length-le, ext_get_or, false_from_ne_true, Cell, Unknown, allows, agrees, is_filled, runs, has_by, runs_after, Has, has, IsMaskOf, has_true, true_has, mask_same, MayBe, runs_after-zero, runs_after-true, runs_after-close, runs_after-nil, none_has, add_comm, get_or-drop, common_steps}
+use Rattle.line_core.specs.steps.Full.{IsFull, IsFilled, turned}
 use Rattle.line_core.proofs.WholeEnds.{IsTold, told_mask, none_told}
 use Rattle.line_core.proofs.Joining.{length-agrees}
 use Rattle.line_core.proofs.RunStarts.{covered}
+use Rattle.std.proofs.Math.Seq.{take-suc}
+use Rattle.place_sets.proofs.WordSteps.{some_place}
 use Rattle.line_core.proofs.Painting.{agrees_at}
 
 -- ---- the one full line that agrees
@@ -45,13 +47,13 @@ runs_past (suc n) [] = Some []
 runs_past (suc n) (true ∷ y) = None
 runs_past (suc n) (false ∷ y) = runs_past n y
 
--- what a walk keeps that has passed some of a clue's numbers: what is left is the mask of some cells,
--- of which the first must be blank and the runs must be the clue's others
+-- what a walk keeps that has passed some of a clue's numbers: what is left is the mask of some cells, of which the
+-- first must be blank, and whose runs come after those numbers
 pub record IsWalked (cells : List Bool) (clue : List ℕ) (j least left : ℕ) : Type 0 where
   pub rest : List Bool
   pub rest_is : IsMaskOf (IsFilled rest) left
-  pub to : runs cells ≡ clue → runs_past least rest ≡ Some (drop j clue)
-  pub from : runs_past least rest ≡ Some (drop j clue) → runs cells ≡ clue
+  pub to : (others : List ℕ) → runs cells ++ others ≡ clue → (ns : List ℕ) × (runs_past least rest ≡ Some ns) × (ns ++ others ≡ drop j clue)
+  pub from : (ns : List ℕ) → runs_past least rest ≡ Some ns → runs cells ≡ take j clue ++ ns
 
 -- runs after blank cells
 past_blanks : (least n : ℕ) (y : List Bool) → least ≤ n → ((i : ℕ) → i < n → get_or y i false ≡ false) → runs_past least y ≡ Some (runs (drop n y))
@@ -115,6 +117,12 @@ cross_first (suc n) (true ∷ y) ns h first =
     rw (add-one, sym (runs_after-zero (true ∷ y)) ∙ runs_after-true 0 y) (cross 0 n (suc n) y ns (omega arith))
 cross_first n y ns h first = search rules
 
+-- cells that begin with a filled one have a run
+first_run : (y : List Bool) (n : ℕ) (ns others more : List ℕ) → get_or y 0 false ≡ true → runs y ≡ ns → ns ++ others ≡ n ∷ more
+    → (later : List ℕ) × (ns ≡ n ∷ later) × (later ++ others ≡ more)
+first_run y n [] others more first is e = let c = covered y [] 0 is first in absurd (omega (arith, c.inside))
+first_run y n (k ∷ ns) others more first is e = (ns, cc, cc)
+
 module _ (cells : List Bool) (clue : List ℕ) (j least left : ℕ) (p : IsWalked cells clue j least left) where
   -- the walk goes on
   pub walk_more : (start shifted ones next : ℕ) → j < length clue → 0 < get_or clue j 0 → Has left start → ((i : ℕ) → Has left i → start ≤ i)
@@ -125,27 +133,42 @@ module _ (cells : List Bool) (clue : List ℕ) (j least left : ℕ) (p : IsWalke
       let y = drop start p.rest in
       let skip = past_blanks least start p.rest far (λ i b. grind (arith, common_steps, false_from_ne_true)) in
       let filled : get_or y 0 false ≡ true = grind (arith, common_steps, dropped_at) in
-      let next_is : drop j clue ≡ n ∷ drop (j + 1) clue = rw add-one (drop-cons clue j 0 h) in
-      let both = cross_first n y (drop (j + 1) clue) some filled in record {
+      let next_is : drop j clue ≡ n ∷ drop (j + 1) clue = rw add-one (drop-cons clue j 0 h) in record {
         rest = crossed n y;
         rest_is = crossed_is n y shifted ones next (search (rules, mask_same, dropped_at)) o x;
-        to = λ is. both.0 (let same : Some (runs y) ≡ Some (drop j clue) = sym skip ∙ p.to is in cc);
-        from = λ e. p.from (skip ∙ ap (λ (ns : List ℕ). Some ns) (both.1 e ∙ sym next_is));
+        to = λ others e.
+            let t = p.to others e in
+            let is : runs y ≡ t.0 = let e = skip in let some = t.1 in cc in
+            let r = first_run y n t.0 others (drop (j + 1) clue) filled is (t.2 ∙ next_is) in
+            (r.0, (cross_first n y r.0 some filled).0 (let e = is in let run = r.1 in cc), r.2);
+        from = λ ns e.
+            let run = (cross_first n y ns some filled).1 e in
+            let all : runs cells ≡ take j clue ++ (n ∷ ns) = p.from (n ∷ ns) (let s = skip in cc) in
+            rw (add-one j, take-suc clue j 0 h, append_assoc) all;
       }
 
   -- it ends where a cell is left among the first
-  pub walk_near : (start : ℕ) → start < least → Has left start → runs cells ≡ clue → ⊥
-  walk_near start h at is = search (rules, past_filled)
+  pub walk_near : (start : ℕ) → start < least → Has left start → (others : List ℕ) → runs cells ++ others ≡ clue → ⊥
+  walk_near start h at others is = let none = past_filled least start p.rest h (p.rest_is.to start at) in let some = (p.to others is).1 in cc
 
-  -- and where none is left for a further number
-  pub walk_none : j < length clue → left ≡ 0 → runs cells ≡ clue → ⊥
-  walk_none h e is = let none = past_none least left p.rest p.rest_is e in let some = p.to is in let next = drop-cons clue j 0 h in cc
+  -- where none is left all runs are passed
+  pub walk_none : left ≡ 0 → runs cells ≡ take j clue
+  walk_none e = p.from [] (past_none least left p.rest p.rest_is e) ∙ append-nil (take j clue)
 
-  -- at the end none is left exactly if all runs were the clue's
-  pub walk_last : length clue ≤ j → (left ≡ 0) ↔ (runs cells ≡ clue)
-  walk_last h =
-      let all = drop_of_length-le clue {i = j} h in (
-        (λ e. p.from (rw all (past_none least left p.rest p.rest_is e))),
-        (λ is. none_in _ left p.rest_is (λ i f.
-            let c = covered p.rest [] i (past_runs least p.rest [] (rw all at (p.to is))) f in absurd (omega (arith, c.inside)))),
-      )
+  -- and one that is left after the last number is of a further run
+  pub walk_last : length clue ≤ j → 0 < left → (others : List ℕ) → runs cells ++ others ≡ clue → ⊥
+  walk_last h some others is =
+      let t = p.to others is in
+      let c = covered p.rest t.0 _ (past_runs least p.rest t.0 t.1) (p.rest_is.to _ (some_place left some).1) in
+      absurd (omega (arith, c.inside, length-append t.0 others, ap length t.2, length-drop j clue))
+
+-- ---- a clue seen from its other end
+
+pub length-turned : {A : Type 0} (t : Bool) (xs : List A) → length (turned t xs) ≡ length xs
+length-turned true xs = length-reverse xs
+length-turned false xs = refl
+
+pub number_seen : (t : Bool) (width : ℕ) (clue : List ℕ) (j n : ℕ) → AreLengths width clue → j < length clue → n ≡ get_or (turned t clue) j 0
+    → (0 < n) × (n ≤ width)
+number_seen true width clue j n are h e = rw e (length_at width (reverse clue) j (lengths_turned width clue are) (omega (arith, length-reverse clue)))
+number_seen false width clue j n are h e = rw e (length_at width clue j are h)

@@ -17,6 +17,7 @@ pub mod Packing
 pub mod Padding
 pub mod LoneRuns
 pub mod FullLines
+pub mod SettledEnds
 pub mod Pairing
 pub mod ColourMasks
 pub mod Gathering

@@ -5,6 +5,7 @@ pub mod Outermost
 pub mod Overlaps
 pub mod Passes
 pub mod Reach
+pub mod SettledEnds
 pub mod Pairs
 pub mod Gathers
 pub mod Befores

@@ -18,6 +18,7 @@ use crate::pairs::Pair;
 use crate::passes::Pass;
 use crate::reach::{GAPS, gap_ahead, inner_ends, whole_ends, write_gaps_ahead};
 use crate::rooms::{Rooms, make_ready};
+use crate::settled_ends::{open_numbers, part, settled_ends, with_part};
 use crate::spans::{Span, padded};
 use crate::widths::{Width, places_needed};
 use grid_core::{Clue, LONGEST_SIDE, LineOf, MOST_RUNS, NoMemory};
@@ -130,37 +131,84 @@ fn deduce_numbers<W: PlaceSet>(
     certain(span.len, fillable, blankable)
 }
 
-/// What is certain of a line, in sets of a width that has room for the line and for the clue's numbers.
-fn deduce_at<W: PlaceSet>(
-    room: &mut Vec<[W::Kept; GAPS]>,
-    line: &Line,
+/// What is certain of a line, in sets of another width that has room for the line and for the clue's numbers.
+fn deduce_at<W: PlaceSet, V: PlaceSet>(
+    room: &mut Vec<[V::Kept; GAPS]>,
+    line: &LineOf<W>,
     clue: &[u16],
-) -> Option<Line>
-    requires line { length line.now ≤ W.WIDTH }
-    requires clue { AreLengths W.WIDTH clue.now }
+) -> Option<LineOf<W>>
+    requires line { length line.now ≤ V.WIDTH }
+    requires clue { AreLengths V.WIDTH clue.now }
     requires count { length clue.now ≤ MOST_RUNS }
     requires room { 0 < vec_capacity room.old }
     ensures answer { result ≡ deduced line.now clue.now }
     ensures room { 0 < vec_capacity room.new }
 {
-    match deduce_numbers::<W>(room, &line.cells.resized(), clue) {
+    let _fits = line.len();
+    match deduce_numbers::<V>(room, &line.resized(), clue) {
         None => None,
-        Some(certain) => Some(Line {
-            cells: certain.widened(),
-        }),
+        Some(certain) => Some(certain.resized()),
     }
 }
 
 /// What is certain of a line, by the narrowest sets that have room for it and for the clue's numbers.
-fn deduce_with(line: &Line, clue: &[u16], rooms: &mut Rooms) -> Option<Line>
+fn deduce_with<W: PlaceSet>(line: &LineOf<W>, clue: &[u16], rooms: &mut Rooms) -> Option<LineOf<W>>
     requires clue { AreLengths LONGEST_SIDE clue.now }
     requires count { length clue.now ≤ MOST_RUNS }
     ensures { result ≡ deduced line.now clue.now }
 {
     match Width::of(places_needed(line.len(), clue)) {
-        Width::Narrow => deduce_at::<u64>(&mut rooms.narrow, line, clue),
-        Width::Middle => deduce_at::<u128>(&mut rooms.middle, line, clue),
-        Width::Wide => deduce_at::<Wide>(&mut rooms.wide, line, clue),
+        Width::Narrow => deduce_at::<W, u64>(&mut rooms.narrow, line, clue),
+        Width::Middle => deduce_at::<W, u128>(&mut rooms.middle, line, clue),
+        Width::Wide => deduce_at::<W, Wide>(&mut rooms.wide, line, clue),
+    }
+}
+
+/// What is certain of a part of a line, by sets of 64 places if they have room for it and for the clue's numbers.
+fn deduce_part<W: PlaceSet>(
+    narrow: &mut Vec<[u64; GAPS]>,
+    room: &mut Vec<[W::Kept; GAPS]>,
+    line: &LineOf<W>,
+    clue: &[u16],
+) -> Option<LineOf<W>>
+    requires clue { AreLengths W.WIDTH clue.now }
+    requires count { length clue.now ≤ MOST_RUNS }
+    requires narrow { 0 < vec_capacity narrow.old }
+    requires room { 0 < vec_capacity room.old }
+    ensures answer { result ≡ deduced line.now clue.now }
+    ensures narrow { 0 < vec_capacity narrow.new }
+    ensures room { 0 < vec_capacity room.new }
+{
+    if places_needed(line.len(), clue) <= 64 {
+        deduce_at::<W, u64>(narrow, line, clue)
+    } else {
+        deduce_numbers(room, line, clue)
+    }
+}
+
+/// What is certain of a line, found on its cells between the settled ones at both ends, if these are worth cutting off.
+fn deduce_open<W: PlaceSet>(
+    narrow: &mut Vec<[u64; GAPS]>,
+    room: &mut Vec<[W::Kept; GAPS]>,
+    line: &LineOf<W>,
+    clue: &[u16],
+) -> Option<LineOf<W>>
+    requires clue { AreLengths W.WIDTH clue.now }
+    requires count { length clue.now ≤ MOST_RUNS }
+    requires narrow { 0 < vec_capacity narrow.old }
+    requires room { 0 < vec_capacity room.old }
+    ensures answer { result ≡ deduced line.now clue.now }
+    ensures narrow { 0 < vec_capacity narrow.new }
+    ensures room { 0 < vec_capacity room.new }
+{
+    let (front, back) = settled_ends(line);
+    if front == 0 && back == 0 {
+        return deduce_numbers(room, line, clue);
+    }
+    let (from, to) = open_numbers(line, front, back, clue)?;
+    match deduce_part(narrow, room, &part(line, front, back), &clue[from..to]) {
+        None => None,
+        Some(certain) => Some(with_part(line, front, &certain)),
     }
 }
 
@@ -198,7 +246,10 @@ pub fn deduce(tables: &mut Tables, line: &Line, clue: &Clue) -> Option<Line>
     ensures answer { result ≡ deduced line.now clue.now }
     ensures room { tables.new ≡ tables.old }
 {
-    deduce_with(line, clue.numbers(), &mut tables.rooms)
+    match deduce_with(&line.cells, clue.numbers(), &mut tables.rooms) {
+        None => None,
+        Some(cells) => Some(Line { cells }),
+    }
 }
 
 /// What is certain of a line, given its clue, whose numbers are no greater than its sets have places.
@@ -284,7 +335,8 @@ impl LineSet for u64 {
 
 impl LineSet for u128 {
     fn deduce(tables: &mut Tables, line: &LineOf<u128>, clue: &Clue) -> Option<LineOf<u128>> {
-        deduce_within(&mut tables.rooms.middle, line, clue)
+        let rooms = &mut tables.rooms;
+        deduce_open(&mut rooms.narrow, &mut rooms.middle, line, clue.numbers())
     }
 
     fn write_pairs(
@@ -300,7 +352,8 @@ impl LineSet for u128 {
 
 impl LineSet for Wide {
     fn deduce(tables: &mut Tables, line: &LineOf<Wide>, clue: &Clue) -> Option<LineOf<Wide>> {
-        deduce_within(&mut tables.rooms.wide, line, clue)
+        let rooms = &mut tables.rooms;
+        deduce_open(&mut rooms.narrow, &mut rooms.wide, line, clue.numbers())
     }
 
     fn write_pairs(

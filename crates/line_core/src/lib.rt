@@ -16,6 +16,7 @@ mod pairs;
 mod passes;
 mod reach;
 mod rooms;
+mod settled_ends;
 mod spans;
 mod starts;
 mod widths;

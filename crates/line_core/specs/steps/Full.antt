@@ -1,6 +1,7 @@
--- A line whose cells are all known.
-use Rattle.std.specs.Prelude.{◌≡◌, ℕ, Bool, true, false, List, slice_index_or}
+-- A line whose cells are all known, and runs that are the first of a clue.
+use Rattle.std.specs.Prelude.{◌≡◌, ◌≤◌, ℕ, Bool, true, false, List, ◌++◌, length, reverse, slice_index_or, take, Option, Some, None}
 use Rattle.grid_core.specs.declared.cells.Cell.{Cell}
+use Rattle.grid_core.specs.Runs.{runs}
 use Rattle.line_core.specs.steps.Reach.{MayBe}
 
 -- no cell may be both blank and filled
@@ -10,3 +11,13 @@ IsFull line = (i : ℕ) → MayBe line false i → MayBe line true i → ⊥
 -- a cell of a full line is filled
 abbrev pub IsFilled : List Bool → ℕ → Type 0
 IsFilled cells i = slice_index_or cells i false ≡ true
+
+-- a list seen from its other end, or as it is
+abbrev pub turned : {A : Type 0} → Bool → List A → List A
+turned true xs = reverse xs
+turned false xs = xs
+
+-- the runs of cells are so many of a clue's first numbers, or not how the clue begins
+abbrev pub ArePassed : List Bool → List ℕ → Option ℕ → Type 0
+ArePassed cells clue (Some count) = (count ≤ length clue) × (runs cells ≡ take count clue)
+ArePassed cells clue None = (others : List ℕ) → runs cells ++ others ≡ clue → ⊥

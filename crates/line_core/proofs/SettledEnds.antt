@@ -1,0 +1,360 @@
+-- Settled cells at both ends of a line: what is certain of the line is certain of the cells between them.
+use Rattle.line_core.proofs.Names.{seen, has_true, true_has, add_comm, get_or-take, get_or-drop, cases_lt, inl, inr, ◌⊎◌, mask_same, not, ◌&&◌, has, common_steps, rules, ◌≡◌, ◌↔◌, ℕ, zero, suc, ◌+◌, ◌-◌, ◌<◌, ◌≤◌, Bool, true, false, List, [], ◌∷◌, ◌++◌, length, map, Option, Some, None, refl, sym, ap, ◌∙◌, arith, take, drop, reverse, append_assoc, get_or, append-nil, length-append, length-map, length-drop, length-take-le, map-append, Has, IsMaskOf, get_or-reverse, AreLengths, take_all, length-reverse, reverse-reverse, ext_get_or, Cell, Unknown, Blank, Extends, colour, is_filled, runs, runs_after, deduced, runs_after-zero, runs_after-true, runs_after-false, runs_after-close, runs_after-nil}
+use Rattle.std.specs.Option.{option_map}
+use Rattle.std.proofs.lemmas.List.{append_cancel_left, drop-drop, map-id, take-append-drop, reverse-append}
+use Rattle.std.proofs.lemmas.List.Elements.{All-drop, All-take}
+use Rattle.std.proofs.Math.Seq.{take-suc}
+use Rattle.line_core.proofs.Telling.{less_at}
+use Rattle.grid_core.proofs.LineCells.{line_is}
+use Rattle.grid_core.specs.Cells.{is_known}
+use Rattle.grid_core.specs.Lines.{IsUnknownCell, cell_with, is_blank, line_cells}
+use Rattle.line_core.specs.steps.SettledEnds.{AreKnown, AreLeft, IsSettled, filled_first}
+use Rattle.line_core.specs.steps.Full.{ArePassed, IsFilled, turned}
+use Rattle.line_core.specs.Order.{AtMost}
+use Rattle.line_core.proofs.DeductionLaws.{IsPlacing, deduced-greatest, deduced-below, deduced-above, get_or-map_colour, length-deduced, length-Extends, AtMost-antisym, full_same, Extends-refl}
+use Rattle.line_core.proofs.Joining.{filled_within, onto, runs_cut}
+
+-- ---- runs on both sides of a blank cell
+
+runs_after-apart : (n : ℕ) (x y : List Bool) → runs_after n (x ++ (false ∷ y)) ≡ runs_after n x ++ runs y
+runs_after-apart n (true ∷ x) y = search (rules, runs_after-true, runs_after-apart (suc n) x y)
+runs_after-apart zero [] y = search rules
+runs_after-apart zero (false ∷ x) y = search (rules, runs_after-false, runs_after-apart 0 x y)
+runs_after-apart (suc n) [] y = search (rules, runs_after-close, runs_after-nil, runs_after-zero)
+runs_after-apart (suc n) (false ∷ x) y = search (rules, runs_after-close, runs_after-apart 0 x y)
+
+runs_apart : (x y : List Bool) → runs (x ++ (false ∷ y)) ≡ runs x ++ runs y
+runs_apart x y = rw (sym (runs_after-zero (x ++ (false ∷ y))), sym (runs_after-zero x)) (runs_after-apart 0 x y)
+
+onto-reverse : {A : Type 0} (x y : List A) → onto x y ≡ reverse x ++ y
+onto-reverse [] y = refl
+onto-reverse (b ∷ x) y = grind (arith, append_assoc, onto-reverse x (b ∷ y), onto-reverse x (b ∷ []))
+
+runs-reverse : (x : List Bool) → runs (reverse x) ≡ reverse (runs x)
+runs-reverse x = search (rules, onto-reverse, runs_cut x [], runs_apart (reverse x) [], append-nil)
+
+-- ---- placings
+
+-- parts extend parts if the whole extends the whole
+split : (a b c d : List Cell) → length a ≡ length b → Extends (a ++ c) (b ++ d) → Extends a b × Extends c d
+split [] [] c d e h = (tt, h)
+split (x ∷ a) (y ∷ b) c d e h = search (rules, split a b c d)
+split a b c d e h = search rules
+
+-- and back
+join : (a b c d : List Cell) → Extends a b → Extends c d → Extends (a ++ c) (b ++ d)
+join (x ∷ a) (y ∷ b) c d h k = search (rules, join a b c d)
+join a b c d h k = search rules
+
+-- what extends settled cells is the same
+settled_same : {X : Type 0} (h : X → Cell) (f : List Bool) (x : List X) → Extends (map colour f) (map h x) → map h x ≡ map colour f
+settled_same h (b ∷ f) (c ∷ x) e = search (rules, settled_same h f x)
+settled_same h f x e = search rules
+
+-- cells with settled ones before and behind them
+abbrev pub between : List Bool → List Bool → List Cell → List Cell
+between f g d = map colour f ++ (d ++ map colour g)
+
+-- what extends settled cells with others between them has the same settled cells
+inner : {X : Type 0} (h : X → Cell) (f g : List Bool) (l : List Cell) (x : List X) → Extends (between f g l) (map h x)
+    → (y : List X) × (map h x ≡ between f g (map h y)) × Extends l (map h y)
+inner h (b ∷ f) g l (c ∷ x) e = let r = inner h f g l x e.1 in let first : h c ≡ colour b = search rules in (r.0, cc, r.2)
+inner h [] g (b ∷ l) (c ∷ x) e = let r = inner h [] g l x e.1 in (c ∷ r.0, cc, (e.0, r.2))
+inner h [] g [] x e = ([], settled_same h g x e, tt)
+inner h f g l x e = search rules
+
+-- what is known between settled cells
+between_more : (f g : List Bool) (o q : Option (List Cell)) → AtMost o q → AtMost (option_map (between f g) o) (option_map (between f g) q)
+between_more f g (Some l) (Some m) h = search (rules, join, Extends-refl)
+between_more f g o q h = search rules
+
+module _ (f g : List Bool) (l : List Cell) (clue : List ℕ) where
+  whole : (y : List Bool) → map colour (f ++ (y ++ g)) ≡ between f g (map colour y)
+  whole y = search (rules, map-append)
+
+  -- each placing is one of the cells between with the settled ones
+  inside : (x : List Bool) → Extends (between f g l) (map colour x)
+      → (y : List Bool) × (map colour x ≡ between f g (map colour y)) × Extends l (map colour y) × (runs (f ++ (y ++ g)) ≡ runs x)
+  inside x h =
+      let r = inner colour f g l x h in
+      let same : x ≡ f ++ (r.0 ++ g) = full_same _ _ (rw (whole r.0, sym r.1) (Extends-refl (map colour x))) in
+      (r.0, r.1, r.2, ap runs (sym same))
+
+  -- if none can be, the line is dead
+  dead_between : ((y : List Bool) → runs (f ++ (y ++ g)) ≡ clue → ⊥) → deduced (between f g l) clue ≡ None
+  dead_between none = AtMost-antisym _ None tt (deduced-greatest (between f g l) clue None (λ x p.
+      let r = inside x p.extends in none r.0 (r.3 ∙ p.runs_are)))
+
+  module _ (ns : List ℕ) (left : (y : List Bool) → (runs (f ++ (y ++ g)) ≡ clue) ↔ (runs y ≡ ns)) where
+    outside : (y : List Bool) → IsPlacing l ns y → IsPlacing (between f g l) clue (f ++ (y ++ g))
+    outside y p = record {
+      extends = rw (whole y) (between_more f g (Some l) (Some (map colour y)) p.extends);
+      runs_are = (left y).1 p.runs_are;
+    }
+
+    above : (q : Option (List Cell)) (x : List Bool) → ((y : List Bool) → IsPlacing l ns y → AtMost q (Some (map colour y)))
+        → IsPlacing (between f g l) clue x → AtMost (option_map (between f g) q) (Some (map colour x))
+    above q x each p =
+        let r = inside x p.extends in
+        let placing : IsPlacing l ns r.0 = record { extends = r.2; runs_are = (left r.0).0 (r.3 ∙ p.runs_are) } in
+        rw r.1 (between_more f g q (Some (map colour r.0)) (each r.0 placing))
+
+    below : (o q : Option (List Cell)) → AtMost (Some (between f g l)) o
+        → ((y : List Bool) → IsPlacing l ns y → AtMost o (Some (map colour (f ++ (y ++ g)))))
+        → ((m : Option (List Cell)) → ((y : List Bool) → IsPlacing l ns y → AtMost m (Some (map colour y))) → AtMost m q)
+        → AtMost o (option_map (between f g) q)
+    below None q up each greatest = between_more f g None q (greatest None each)
+    below (Some w) q up each greatest =
+        let r = inner (λ (c : Cell). c) f g l w (rw (map-id w) up) in
+        let m = map (λ (c : Cell). c) r.0 in
+        let is : w ≡ between f g m = sym (map-id w) ∙ r.1 in
+        rw is (between_more f g (Some m) q (greatest (Some m) (λ y p.
+        (split m (map colour y) _ _ (sym (length-Extends l m r.2) ∙ length-Extends l (map colour y) p.extends)
+        (split (map colour f) (map colour f) _ _ refl (rw (is, whole y) at (each y p))).1).0)))
+
+    -- what is certain of the line is what is certain of the cells between, with the settled ones
+    deduced_between : deduced (between f g l) clue ≡ option_map (between f g) (deduced l ns)
+    deduced_between =
+        let line = between f g l in
+        AtMost-antisym _ _ (below _ _ (deduced-above line clue) (λ y p. deduced-below line clue _ (outside y p)) (deduced-greatest l ns))
+        (deduced-greatest line clue _ (λ x p. above _ x (deduced-below l ns) p))
+
+-- ---- settled cells
+
+blank_is : (c : Cell) → is_blank c ≡ true → c ≡ Blank
+blank_is c e = search rules
+
+known_is : (c : Cell) → (c ≡ Unknown → ⊥) → is_known c ≡ true
+known_is c e = search rules
+
+-- known cells of which the last is blank
+pub settled_is : (l : List Cell) (known last : ℕ) → known ≤ length l → AreKnown l known → is_blank (get_or l last Unknown) ≡ true → last < known
+    → IsSettled l (last + 1)
+settled_is l known last within are blank low = record {
+  within = omega arith;
+  known = λ i h. are i (omega arith);
+  closed = λ some. let e : last + 1 - 1 ≡ last = omega arith in rw e (blank_is _ blank);
+}
+
+-- what a set tells of a line that is seen from its other end
+pub seen_told : (t : Bool) (φ : Cell → Bool) (l : List Cell) (len set m : ℕ) → len ≡ length l
+    → ((i : ℕ) → i < length l → has set i ≡ φ (get_or l i Unknown)) → ((i : ℕ) → i < len → has m i ≡ has set (seen t len i))
+    → (i : ℕ) → i < len → has m i ≡ φ (get_or (turned t l) i Unknown)
+seen_told true φ l len set m e told same i h = rw (get_or-reverse l i Unknown (omega arith), sym e) (same i h ∙ told (len - 1 - i) (omega arith))
+seen_told false φ l len set m e told same i h = same i h ∙ told i (omega arith)
+
+-- which of the first cells are filled
+filled_at : (n i : ℕ) (l : List Cell) → i < n → get_or (filled_first n l) i false ≡ is_filled (get_or l i Unknown)
+filled_at n i l h = grind (arith, common_steps)
+
+pub filled_is : (l : List Cell) (n set first m : ℕ) → n ≤ length l → ((i : ℕ) → i < n → has set i ≡ is_filled (get_or l i Unknown))
+    → IsMaskOf (λ i. i < n) first → IsMaskOf (λ i. Has set i × Has first i) m → IsMaskOf (IsFilled (filled_first n l)) m
+filled_is l n set first m within told f b = mask_same _ _ m b (λ i h.
+    let inside = f.to i h.1 in filled_at n i l inside ∙ sym (told i inside) ∙ has_true set i h.0) (λ i h.
+    let inside : i < n = omega (arith, filled_within (filled_first n l) i h, length-map (take n l) is_filled, length-take-le n l within) in
+    (true_has set i (told i inside ∙ sym (filled_at n i l inside) ∙ h), f.from i inside))
+
+module _ (l : List Cell) (unknown : ℕ) (u : IsMaskOf (IsUnknownCell l) unknown) where
+  -- the cells before the first unknown one are known
+  pub known_before : (first : ℕ) → Has unknown first → ((i : ℕ) → Has unknown i → first ≤ i) → (first ≤ length l) × AreKnown l first
+  known_before first has least =
+      let within = (u.to first has).0 in (omega arith, λ i h. known_is _ (λ e. omega (arith, least i (u.from i (omega arith, e)))))
+
+  -- and those after the last one, seen from the line's other end
+  pub known_after : (len last : ℕ) → len ≡ length l → ((i : ℕ) → Has unknown i → i ≤ last)
+      → (len - 1 - last ≤ length l) × AreKnown (reverse l) (len - 1 - last)
+  known_after len last e greatest = (
+    omega arith,
+    λ i h.
+        let k = length l - 1 - i in
+        rw (get_or-reverse l i Unknown (omega arith)) (known_is _ (λ same. omega (arith, greatest k (u.from k (omega arith, same))))),
+  )
+
+-- ---- the numbers that are left
+
+-- no run goes on after settled cells
+pub settled_apart : (l : List Cell) (n : ℕ) → IsSettled l n → (y : List Bool) → runs (filled_first n l ++ y) ≡ runs (filled_first n l) ++ runs y
+settled_apart l zero settled y = refl
+settled_apart l (suc n) settled y =
+    let before = map is_filled (take n l) in
+    let last : suc n - 1 ≡ n = omega arith in
+    let e : filled_first (suc n) l ≡ before ++ (false ∷ []) =
+    rw (take-suc l n Unknown settled.within, rw last at (settled.closed (omega arith)), map-append is_filled) refl in
+    rw (e, append_assoc, runs_apart before y, runs_apart before [], append-nil) refl
+
+-- cells behind others that are seen from the line's other end
+runs_behind : (b y : List Bool) → ((z : List Bool) → runs (b ++ z) ≡ runs b ++ runs z) → runs (y ++ reverse b) ≡ reverse (runs b ++ reverse (runs y))
+runs_behind b y apart =
+    let e : y ++ reverse b ≡ reverse (b ++ reverse y) = search (rules, reverse-append, reverse-reverse) in
+    rw (e, runs-reverse (b ++ reverse y), apart (reverse y), runs-reverse y) refl
+
+-- a list that begins with some elements has the others behind them
+parts : (xs ys all : List ℕ) (n : ℕ) → xs ≡ take n all → (xs ++ ys ≡ all) ↔ (ys ≡ drop n all)
+parts xs ys all n e = (λ is. append_cancel_left xs ys (drop n all) (rw (sym (take-append-drop n all), sym e) at is), λ is. rw (e, is, take-append-drop n all) refl)
+
+turned_back : (xs ys : List ℕ) → (reverse xs ≡ ys) ↔ (xs ≡ reverse ys)
+turned_back xs ys = search (rules, reverse-reverse)
+
+take_turned : (n : ℕ) (xs : List ℕ) → reverse (drop n (reverse xs)) ≡ take (length xs - n) xs
+take_turned n xs = ext_get_or 0 _ _ (grind (arith, common_steps, length-reverse)) (λ k h. grind (arith, common_steps, get_or-reverse))
+
+-- what is left of a list after some elements
+rest_is : (n : ℕ) (xs : List ℕ) → take (length xs - n) (drop n xs) ≡ drop n xs
+rest_is n xs = take_all _ _ (omega (arith, length-drop n xs))
+
+module _ (l : List Cell) (n m : ℕ) (front : IsSettled l n) (back : IsSettled (reverse l) m) (clue : List ℕ) where
+  pub none_front : ArePassed (filled_first n l) clue None → AreLeft (filled_first n l) (filled_first m (reverse l)) clue None
+  none_front dead y is = dead _ (sym (settled_apart l n front (y ++ reverse (filled_first m (reverse l)))) ∙ is)
+
+  after_front : (from : ℕ) (y : List Bool) → ArePassed (filled_first n l) clue (Some from)
+      → (runs (filled_first n l ++ (y ++ reverse (filled_first m (reverse l)))) ≡ clue)
+      ↔ (runs (filled_first m (reverse l)) ++ reverse (runs y) ≡ reverse (drop from clue))
+  after_front from y passed =
+      let b = filled_first m (reverse l) in
+      let here = parts (runs (filled_first n l)) (runs (y ++ reverse b)) clue from passed.1 in
+      let apart = settled_apart l n front (y ++ reverse b) in
+      let behind = runs_behind b y (settled_apart (reverse l) m back) in
+      let turn = turned_back (runs b ++ reverse (runs y)) (drop from clue) in
+      (λ is. turn.0 (sym behind ∙ here.0 (sym apart ∙ is)), λ is. apart ∙ here.1 (behind ∙ turn.1 is))
+
+  pub none_back : (from : ℕ) → ArePassed (filled_first n l) clue (Some from)
+      → ArePassed (filled_first m (reverse l)) (reverse (take (length clue - from) (drop from clue))) None
+      → AreLeft (filled_first n l) (filled_first m (reverse l)) clue None
+  none_back from passed dead y is = dead (reverse (runs y)) (rw rest_is ((after_front from y passed).0 is))
+
+  pub some_left : (from count : ℕ) → ArePassed (filled_first n l) clue (Some from)
+      → ArePassed (filled_first m (reverse l)) (reverse (take (length clue - from) (drop from clue))) (Some count)
+      → AreLeft (filled_first n l) (filled_first m (reverse l)) clue (Some (from, length clue - count))
+  some_left from count passed last =
+      let r = drop from clue in
+      let (within, are) = rw rest_is at last in
+      let count_is : length r - count ≡ length clue - count - from = omega (arith, length-drop from clue) in
+      let left = rw count_is at (take_turned count r) in (
+        omega (arith, passed.0, within, length-reverse r, length-drop from clue),
+        omega arith,
+        λ y.
+            let first = after_front from y passed in
+            let behind = parts (runs (filled_first m (reverse l))) (reverse (runs y)) (reverse r) count are in
+            let turn = turned_back (runs y) (drop count (reverse r)) in
+            (λ is. turn.0 (behind.0 (first.0 is)) ∙ left, λ is. first.1 (behind.1 (turn.1 (is ∙ sym left)))),
+      )
+
+-- the numbers of a part of a clue
+pub lengths_part : (width n m : ℕ) (clue : List ℕ) → AreLengths width clue → AreLengths width (take n (drop m clue))
+lengths_part width n m clue are =
+    record { positive = search (rules, All-take, All-drop, are.positive); short = search (rules, All-take, All-drop, are.short) }
+
+-- ---- the cells between
+
+cell_told : (c : Cell) (f b nb : Bool) → f ≡ is_filled c → b ≡ is_blank c → nb ≡ (b && not f) → cell_with f nb ≡ c
+cell_told c f b nb e d n = search rules
+
+-- the line that two sets tell, of which the second one's places in the first are left out
+pub line_told : (w : List Cell) (len f b nb : ℕ) → length w ≡ len → ((i : ℕ) → i < len → has f i ≡ is_filled (get_or w i Unknown))
+    → ((i : ℕ) → i < len → has b i ≡ is_blank (get_or w i Unknown)) → IsMaskOf (λ i. Has b i × (has f i ≡ false)) nb → line_cells len f nb ≡ w
+line_told w len f b nb e filled blank m = line_is len f nb w e (λ i h. sym (cell_told _ _ _ _ (filled i h) (blank i h) (less_at b f nb i m)))
+
+-- what a set tells of a part of a line
+-- a set without what is beyond a place
+pub cut_at : (len set all m i : ℕ) → i < len → IsMaskOf (λ i. i < len) all → IsMaskOf (λ i. Has set i × Has all i) m → has m i ≡ has set i
+cut_at len set all m i h a p = search rules
+
+pub part_told : (φ : Cell → Bool) (l : List Cell) (n len set m : ℕ) → n + len ≤ length l
+    → ((i : ℕ) → i < length l → has set i ≡ φ (get_or l i Unknown)) → IsMaskOf (λ i. Has set (i + n)) m
+    → (i : ℕ) → i < len → has m i ≡ φ (get_or (take len (drop n l)) i Unknown)
+part_told φ l n len set m within told shifted i h =
+    let same : has m i ≡ has set (i + n) = search rules in
+    let at = get_or-take len (drop n l) i Unknown h ∙ get_or-drop n l i Unknown ∙ ap (λ (k : ℕ). get_or l k Unknown) (add_comm n i) in
+    rw at (same ∙ told (i + n) (omega arith))
+
+-- a line with another part
+abbrev pub with_cells : ℕ → List Cell → List Cell → List Cell
+with_cells n p l = take n l ++ (p ++ drop (n + length p) l)
+
+pub length-with : (n : ℕ) (p l : List Cell) → n + length p ≤ length l → length (with_cells n p l) ≡ length l
+length-with n p l within =
+    omega (arith, length-append (take n l) (p ++ drop (n + length p) l), length-append p (drop (n + length p) l), length-take-le n l, length-drop (n + length p) l)
+
+-- its cells
+with_inside : (n i : ℕ) (p l : List Cell) → n + length p ≤ length l → i < length p → get_or (with_cells n p l) (n + i) Unknown ≡ get_or p i Unknown
+with_inside n i p l within h = grind (arith, common_steps)
+
+with_outside : (n i : ℕ) (p l : List Cell) → n + length p ≤ length l → (i < n) ⊎ (n + length p ≤ i)
+    → get_or (with_cells n p l) i Unknown ≡ get_or l i Unknown
+with_outside n i p l within (inl h) = grind (arith, common_steps)
+with_outside n i p l within (inr h) = grind (arith, common_steps)
+
+-- and what a set tells of it
+pub with_told : (φ : Cell → Bool) (l p : List Cell) (n count set places m : ℕ) → count ≡ length p → n + length p ≤ length l
+    → ((i : ℕ) → i < length l → has set i ≡ φ (get_or l i Unknown)) → ((i : ℕ) → i < length p → has places i ≡ φ (get_or p i Unknown))
+    → ((i : ℕ) → i < n → has m i ≡ has set i) → ((i : ℕ) → i < count → has m (n + i) ≡ has places i)
+    → ((i : ℕ) → n + count ≤ i → has m i ≡ has set i) → (i : ℕ) → i < length l → has m i ≡ φ (get_or (with_cells n p l) i Unknown)
+with_told φ l p n count set places m e within told there before at after i h = elim (cases_lt i n) [
+  | inl low ↦ rw (with_outside n i p l within (inl low)) (before i low ∙ told i h)
+  | inr high ↦ elim (cases_lt (i - n) (length p)) [
+    | inl low ↦
+        (let is : i ≡ n + (i - n) = omega arith in
+        rw (is, with_inside n (i - n) p l within low) (at (i - n) (omega arith) ∙ there (i - n) low))
+    | inr far ↦ rw (with_outside n i p l within (inr (omega arith))) (after i (omega arith) ∙ told i h)
+  ]
+]
+
+-- ---- the deduced line
+
+known_colour : (c : Cell) → is_known c ≡ true → colour (is_filled c) ≡ c
+known_colour c e = search rules
+
+-- the colours of settled cells
+settled_colours : (l : List Cell) (n : ℕ) → IsSettled l n → map colour (filled_first n l) ≡ take n l
+settled_colours l n settled =
+    let long = length-map (filled_first n l) colour ∙ length-map (take n l) is_filled in
+    ext_get_or Unknown _ _ long (λ k h.
+    let low : k < n = omega (arith, long, length-take-le n l settled.within) in
+    rw (get_or-map_colour (filled_first n l) k (omega (arith, length-map (filled_first n l) colour)), filled_at n k l low, get_or-take n l k Unknown low)
+    (known_colour _ (settled.known k low)))
+
+map_reverse : (x : List Bool) → map colour (reverse x) ≡ reverse (map colour x)
+map_reverse [] = refl
+map_reverse (b ∷ x) = grind (arith, common_steps, map_reverse x)
+
+drop_turned : (n : ℕ) (xs : List Cell) → reverse (take n (reverse xs)) ≡ drop (length xs - n) xs
+drop_turned n xs = ext_get_or Unknown _ _ (grind (arith, common_steps, length-reverse)) (λ k h. grind (arith, common_steps, get_or-reverse))
+
+module _ (l : List Cell) (n m : ℕ) (front : IsSettled l n) (back : IsSettled (reverse l) m) (some : n + m < length l) (clue : List ℕ) where
+  -- the cells between settled ones
+  abbrev middle : List Cell
+  middle = take (length l - n - m) (drop n l)
+
+  pub length-middle : length middle ≡ length l - n - m
+  length-middle = omega (arith, length-take-le (length l - n - m) (drop n l), length-drop n l)
+
+  -- others in their place
+  with_between : (d : List Cell) → length d ≡ length middle → with_cells n d l ≡ between (filled_first n l) (reverse (filled_first m (reverse l))) d
+  with_between d long =
+      let at : length l - m ≡ n + length d = omega (arith, length-middle) in
+      rw (settled_colours l n front, map_reverse, settled_colours (reverse l) m back, drop_turned, at) refl
+
+  deduced_is : deduced l clue ≡ deduced (between (filled_first n l) (reverse (filled_first m (reverse l))) middle) clue
+  deduced_is =
+      let itself : with_cells n middle l ≡ l = rw (length-middle, ← drop-drop (length l - n - m) n l, take-append-drop, take-append-drop) refl in
+      ap (λ (w : List Cell). deduced w clue) (sym itself ∙ with_between middle refl)
+
+  -- if no numbers are left for the cells between, the line is dead
+  pub open_dead : AreLeft (filled_first n l) (filled_first m (reverse l)) clue None → None ≡ deduced l clue
+  open_dead none =
+      sym (deduced_is ∙ dead_between (filled_first n l) (reverse (filled_first m (reverse l))) middle clue none)
+
+  module _ (ns : List ℕ) (left : (y : List Bool) → (runs (filled_first n l ++ (y ++ reverse (filled_first m (reverse l)))) ≡ clue) ↔ (runs y ≡ ns)) where
+    deduced_as : (o : Option (List Cell)) → o ≡ deduced middle ns
+        → option_map (between (filled_first n l) (reverse (filled_first m (reverse l)))) o ≡ deduced l clue
+    deduced_as o e =
+        let f = filled_first n l in
+        let g = reverse (filled_first m (reverse l)) in
+        ap (option_map (between f g)) e ∙ sym (deduced_is ∙ deduced_between f g middle clue ns left)
+
+    -- what is certain of them is certain of the line
+    pub open_none : None ≡ deduced middle ns → None ≡ deduced l clue
+    open_none e = deduced_as None e
+
+    pub open_some : (d : List Cell) → Some d ≡ deduced middle ns → Some (with_cells n d l) ≡ deduced l clue
+    open_some d e = ap (λ (w : List Cell). Some w) (with_between d (length-deduced middle d ns e)) ∙ deduced_as (Some d) e

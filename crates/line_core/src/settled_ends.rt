@@ -1,0 +1,134 @@
+//! The settled cells at both ends of a line, which can be cut off before it is deduced.
+
+ghost use Rattle.std.specs.Prelude.{◌≡◌, ◌+◌, ◌-◌, ◌<◌, ◌≤◌, ◌++◌, ℕ, length, reverse, take, drop};
+ghost use Rattle.place_sets.specs.Masks.{has};
+ghost use Rattle.line_core.specs.steps.Full.{ArePassed, turned};
+ghost use Rattle.line_core.specs.steps.Pairs.{seen};
+ghost use Rattle.line_core.specs.steps.Reach.{AreLengths};
+ghost use Rattle.line_core.specs.steps.SettledEnds.{AreKnown, AreLeft, IsSettled, filled_first};
+
+use crate::full::passed_runs;
+use grid_core::LineOf;
+use place_sets::{PlaceSet, first_places, reversed_within};
+
+/// So many settled cells at an end, and no fewer, are worth cutting off.
+const WORTH_CUTTING: u16 = 16;
+
+/// A set of places of a line of `len` cells, seen from the line's other end or not.
+fn seen_set<W: PlaceSet, const TURNED: bool>(set: W, len: u16) -> W
+    requires { (0 < len) × (len ≤ W.WIDTH) }
+    ensures { (i : ℕ) → i < len → has (W.number result) i ≡ has (W.number set) (seen TURNED len i) }
+{
+    if TURNED {
+        reversed_within(set, len)
+    } else {
+        set
+    }
+}
+
+/// How many settled cells at an end can be cut off, if that is worth it: of the outer `known` ones, which are known,
+/// those up to the last blank one.
+fn settled_cells<W: PlaceSet, const TURNED: bool>(line: &LineOf<W>, known: u16) -> u16
+    requires { (known ≤ length line.now) × AreKnown (turned TURNED line.now) known }
+    ensures settled { IsSettled (turned TURNED line.now) result }
+    ensures within { result ≤ known }
+{
+    if known < WORTH_CUTTING {
+        return 0;
+    }
+    let seen = seen_set::<W, TURNED>(line.blank(), line.len());
+    let blank = seen.intersection(first_places(known));
+    if blank.is_empty() {
+        return 0;
+    }
+    blank.last_place() + 1
+}
+
+/// How many settled cells can be cut off in front and behind, if that is worth it. Some cell is left.
+pub fn settled_ends<W: PlaceSet>(line: &LineOf<W>) -> (u16, u16)
+    ensures front { IsSettled line.now result.0 }
+    ensures back { IsSettled (reverse line.now) result.1 }
+    ensures open { result.0 + result.1 < length line.now }
+{
+    let len = line.len();
+    let unknown = line.unknown_cells();
+    if unknown.is_empty() {
+        return (0, 0);
+    }
+    (
+        settled_cells::<W, false>(line, unknown.first_place()),
+        settled_cells::<W, true>(line, len - 1 - unknown.last_place()),
+    )
+}
+
+/// How many of a clue's numbers are the runs of settled cells at an end, or none if these aren't how it begins there.
+fn end_runs<W: PlaceSet, const TURNED: bool>(
+    line: &LineOf<W>,
+    cells: u16,
+    clue: &[u16],
+) -> Option<usize>
+    requires cells { cells ≤ length line.now }
+    requires clue { AreLengths W.WIDTH clue.now }
+    ensures { ArePassed (filled_first cells (turned TURNED line.now)) (turned TURNED clue.now) result }
+{
+    if cells == 0 {
+        return Some(0);
+    }
+    let seen = seen_set::<W, TURNED>(line.filled(), line.len());
+    passed_runs::<W, TURNED>(seen.intersection(first_places(cells)), clue)
+}
+
+/// Which of a clue's numbers are left for the cells between settled ones, from which one on and up to which one;
+/// none if the settled ones leave no placing.
+pub fn open_numbers<W: PlaceSet>(
+    line: &LineOf<W>,
+    front: u16,
+    back: u16,
+    clue: &[u16],
+) -> Option<(usize, usize)>
+    requires front { IsSettled line.now front }
+    requires back { IsSettled (reverse line.now) back }
+    requires clue { AreLengths W.WIDTH clue.now }
+    ensures { AreLeft (filled_first front line.now) (filled_first back (reverse line.now)) clue.now result }
+{
+    let from = end_runs::<W, false>(line, front, clue)?;
+    let runs = end_runs::<W, true>(line, back, &clue[from..])?;
+    Some((from, clue.len() - runs))
+}
+
+/// The cells of a line between so many at its front and at its back.
+pub fn part<W: PlaceSet>(line: &LineOf<W>, front: u16, back: u16) -> LineOf<W>
+    requires { front + back < length line.now }
+    ensures { result ≡ take (length line.now - front - back) (drop front line.now) }
+{
+    let len = line.len() - front - back;
+    let cells = first_places::<W>(len);
+    let filled = line.filled().shifted_down(front).intersection(cells);
+    let blank = line.blank().shifted_down(front).intersection(cells);
+    LineOf::of_sets(len, filled, blank.difference(filled))
+}
+
+/// A set that has at the `len` places from one on the places of another.
+fn with_places<W: PlaceSet>(set: W, from: u16, len: u16, places: W) -> W
+    requires { (0 < len) × (from + len ≤ W.WIDTH) }
+    ensures before { (i : ℕ) → i < from → has (W.number result) i ≡ has (W.number set) i }
+    ensures there { (i : ℕ) → i < len → has (W.number result) (from + i) ≡ has (W.number places) i }
+    ensures after { (i : ℕ) → from + len ≤ i → has (W.number result) i ≡ has (W.number set) i }
+{
+    let first = first_places::<W>(len);
+    let others = set.difference(first.shifted_up(from));
+    others.union(places.intersection(first).shifted_up(from))
+}
+
+/// A line with other cells from a place on.
+pub fn with_part<W: PlaceSet>(line: &LineOf<W>, from: u16, part: &LineOf<W>) -> LineOf<W>
+    requires { from + length part.now ≤ length line.now }
+    ensures { result ≡ take from line.now ++ (part.now ++ drop (from + length part.now) line.now) }
+{
+    let len = line.len();
+    let count = part.len();
+    let cells = first_places::<W>(len);
+    let filled = with_places(line.filled(), from, count, part.filled()).intersection(cells);
+    let blank = with_places(line.blank(), from, count, part.blank()).intersection(cells);
+    LineOf::of_sets(len, filled, blank.difference(filled))
+}
