@@ -152,6 +152,50 @@ fn a_line_is_deduced_in_its_own_sets(rt: HostRuntime) -> Result<(), Fail> {
     Ok(())
 }
 
+/// A line of 100 cells of which the first 20 and the last 20 are known.
+fn settled_at_both_ends() -> LineOf<u128> {
+    let mut line = LineOf::unknown(100);
+    for i in 0..line.len() {
+        let cell = match i {
+            0 | 99 => Cell::Filled,
+            1..=19 | 80..=98 => Cell::Blank,
+            _ => Cell::Unknown,
+        };
+        line.set(i, cell);
+    }
+    line
+}
+
+#[test]
+fn a_long_line_is_deduced_between_its_settled_ends(rt: HostRuntime) -> Result<(), Fail> {
+    let mut tables = Tables::new(rt.alloc(), 100)?;
+    let clue = Clue::from_numbers(rt.alloc(), &[1, 40, 1])?;
+    let Some(answer) = u128::deduce(&mut tables, &settled_at_both_ends(), &clue) else {
+        return Err(Fail::new("it is alive"));
+    };
+    for i in 0..answer.len() {
+        let wanted = match i {
+            0 | 99 | 40..=59 => Cell::Filled,
+            1..=19 | 80..=98 => Cell::Blank,
+            _ => Cell::Unknown,
+        };
+        assert!(rt; answer.get(i) == wanted, "{i}");
+    }
+    Ok(())
+}
+
+#[test]
+fn a_long_line_with_other_settled_runs_is_dead(rt: HostRuntime) -> Result<(), Fail> {
+    let mut tables = Tables::new(rt.alloc(), 100)?;
+    let clues: [&[u16]; 5] = [&[2, 40, 1], &[1, 40, 2], &[1, 61, 1], &[1], &[]];
+    for numbers in &clues {
+        let clue = Clue::from_numbers(rt.alloc(), numbers)?;
+        let answer = u128::deduce(&mut tables, &settled_at_both_ends(), &clue);
+        assert!(rt; answer.is_none(), "dead");
+    }
+    Ok(())
+}
+
 #[test]
 fn cells_of_both_halves_are_kept_apart(rt: HostRuntime) -> Result<(), Fail> {
     let mut line = Line::unknown(256);
