@@ -1,14 +1,14 @@
 //! Lines, kept as two sets of places of one width.
 
-ghost use Rattle.std.specs.Prelude.{◌≡◌, ◌≢◌, ℕ, ◌<◌, ◌≤◌, ◌↔◌, IsTrue, length, replicate, slice_index_or, slice_set, true};
+ghost use Rattle.std.specs.Prelude.{◌≡◌, ◌≢◌, ℕ, ◌+◌, ◌<◌, ◌≤◌, ◌↔◌, ◌++◌, IsTrue, length, replicate, slice_index_or, slice_set, take, drop, true};
 ghost use Rattle.grid_core.specs.declared.cells.Cell.TheVariants.{Unknown};
-ghost use Rattle.grid_core.specs.Cells.{is_filled, is_known};
+ghost use Rattle.grid_core.specs.Cells.{Extends, is_filled, is_known};
 ghost use Rattle.grid_core.specs.declared.limits.TheConstants.{LONGEST_SIDE};
 ghost use Rattle.place_sets.specs.Masks.{Has, IsMaskOf, has};
 ghost use Rattle.grid_core.specs.Lines.{IsChanged, IsUnknownCell, IsUnknownFrom, is_blank, line_cells, unlearned};
 
 use crate::Cell;
-use place_sets::{PlaceSet, Wide, complement_within, first_from};
+use place_sets::{PlaceSet, Wide, complement_within, first_from, first_places};
 use std::marker::Model;
 
 /// The cells of a line, as many as its sets have places at most, seen as the list of its cells.
@@ -187,6 +187,36 @@ impl<W: PlaceSet> LineOf<W> {
             len: self.len,
             filled: self.filled.difference(places),
             blank: self.blank.difference(places),
+        }
+    }
+
+    /// The `len` cells from a place on.
+    #[tactic(auto, using(crate::proofs::LineCells::length_seen))]
+    pub fn part(&self, from: u16, len: u16) -> LineOf<W>
+        requires { (1 ≤ len) × (from + len ≤ length self.now) }
+        ensures { result ≡ take len (drop from self.now) }
+    {
+        let filled = self.filled.shifted_down(from);
+        let blank = self.blank.shifted_down(from);
+        let places = first_places(len);
+        LineOf {
+            len: usize::from(len),
+            filled: filled.intersection(places),
+            blank: blank.intersection(places),
+        }
+    }
+
+    /// The same line with more known of the cells from a place on: what another line tells.
+    #[tactic(auto, using(crate::proofs::LineCells::length_seen))]
+    pub fn with_part(&self, from: u16, part: &LineOf<W>) -> LineOf<W>
+        requires within { from + length part.now ≤ length self.now }
+        requires more { Extends (take (length part.now) (drop from self.now)) part.now }
+        ensures { result ≡ take from self.now ++ (part.now ++ drop (from + length part.now) self.now) }
+    {
+        LineOf {
+            len: self.len,
+            filled: self.filled.union(part.filled.shifted_up(from)),
+            blank: self.blank.union(part.blank.shifted_up(from)),
         }
     }
 

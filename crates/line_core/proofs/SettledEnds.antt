@@ -1,13 +1,11 @@
 -- Settled cells at both ends of a line: what is certain of the line is certain of the cells between them.
-use Rattle.line_core.proofs.Names.{seen, has_true, true_has, add_comm, get_or-take, get_or-drop, cases_lt, inl, inr, ◌⊎◌, mask_same, not, ◌&&◌, has, common_steps, rules, ◌≡◌, ◌↔◌, ℕ, zero, suc, ◌+◌, ◌-◌, ◌<◌, ◌≤◌, Bool, true, false, List, [], ◌∷◌, ◌++◌, length, map, Option, Some, None, refl, sym, ap, ◌∙◌, arith, take, drop, reverse, append_assoc, get_or, append-nil, length-append, length-map, length-drop, length-take-le, map-append, Has, IsMaskOf, get_or-reverse, AreLengths, take_all, length-reverse, reverse-reverse, ext_get_or, Cell, Unknown, Blank, Extends, colour, is_filled, runs, runs_after, deduced, runs_after-zero, runs_after-true, runs_after-false, runs_after-close, runs_after-nil}
+use Rattle.line_core.proofs.Names.{seen, has_true, true_has, get_or-take, mask_same, has, common_steps, rules, ◌≡◌, ◌↔◌, ℕ, zero, suc, ◌+◌, ◌-◌, ◌<◌, ◌≤◌, Bool, true, false, List, [], ◌∷◌, ◌++◌, length, map, Option, Some, None, refl, sym, ap, ◌∙◌, arith, take, drop, reverse, append_assoc, get_or, append-nil, length-map, length-drop, length-take-le, map-append, Has, IsMaskOf, get_or-reverse, AreLengths, length-reverse, reverse-reverse, ext_get_or, Cell, Unknown, Blank, Extends, colour, is_filled, runs, runs_after, deduced, runs_after-zero, runs_after-true, runs_after-false, runs_after-close, runs_after-nil}
 use Rattle.std.specs.Option.{option_map}
-use Rattle.std.proofs.lemmas.List.{append_cancel_left, drop-drop, map-id, take-append-drop, reverse-append}
+use Rattle.std.proofs.lemmas.List.{append_cancel_left, drop-drop, take_rest, map-id, take-append-drop, reverse-append}
 use Rattle.std.proofs.lemmas.List.Elements.{All-drop, All-take}
 use Rattle.std.proofs.Math.Seq.{take-suc}
-use Rattle.line_core.proofs.Telling.{less_at}
-use Rattle.grid_core.proofs.LineCells.{line_is}
 use Rattle.grid_core.specs.Cells.{is_known}
-use Rattle.grid_core.specs.Lines.{IsUnknownCell, cell_with, is_blank, line_cells}
+use Rattle.grid_core.specs.Lines.{IsUnknownCell, is_blank}
 use Rattle.line_core.specs.steps.SettledEnds.{AreKnown, AreLeft, IsSettled, filled_first}
 use Rattle.line_core.specs.steps.Full.{ArePassed, IsFilled, turned}
 use Rattle.line_core.specs.Order.{AtMost}
@@ -198,10 +196,6 @@ turned_back xs ys = search (rules, reverse-reverse)
 take_turned : (n : ℕ) (xs : List ℕ) → reverse (drop n (reverse xs)) ≡ take (length xs - n) xs
 take_turned n xs = ext_get_or 0 _ _ (grind (arith, common_steps, length-reverse)) (λ k h. grind (arith, common_steps, get_or-reverse))
 
--- what is left of a list after some elements
-rest_is : (n : ℕ) (xs : List ℕ) → take (length xs - n) (drop n xs) ≡ drop n xs
-rest_is n xs = take_all _ _ (omega (arith, length-drop n xs))
-
 module _ (l : List Cell) (n m : ℕ) (front : IsSettled l n) (back : IsSettled (reverse l) m) (clue : List ℕ) where
   pub none_front : ArePassed (filled_first n l) clue None → AreLeft (filled_first n l) (filled_first m (reverse l)) clue None
   none_front dead y is = dead _ (sym (settled_apart l n front (y ++ reverse (filled_first m (reverse l)))) ∙ is)
@@ -220,14 +214,14 @@ module _ (l : List Cell) (n m : ℕ) (front : IsSettled l n) (back : IsSettled (
   pub none_back : (from : ℕ) → ArePassed (filled_first n l) clue (Some from)
       → ArePassed (filled_first m (reverse l)) (reverse (take (length clue - from) (drop from clue))) None
       → AreLeft (filled_first n l) (filled_first m (reverse l)) clue None
-  none_back from passed dead y is = dead (reverse (runs y)) (rw rest_is ((after_front from y passed).0 is))
+  none_back from passed dead y is = dead (reverse (runs y)) (rw take_rest ((after_front from y passed).0 is))
 
   pub some_left : (from count : ℕ) → ArePassed (filled_first n l) clue (Some from)
       → ArePassed (filled_first m (reverse l)) (reverse (take (length clue - from) (drop from clue))) (Some count)
       → AreLeft (filled_first n l) (filled_first m (reverse l)) clue (Some (from, length clue - count))
   some_left from count passed last =
       let r = drop from clue in
-      let (within, are) = rw rest_is at last in
+      let (within, are) = rw take_rest at last in
       let count_is : length r - count ≡ length clue - count - from = omega (arith, length-drop from clue) in
       let left = rw count_is at (take_turned count r) in (
         omega (arith, passed.0, within, length-reverse r, length-drop from clue),
@@ -244,62 +238,11 @@ pub lengths_part : (width n m : ℕ) (clue : List ℕ) → AreLengths width clue
 lengths_part width n m clue are =
     record { positive = search (rules, All-take, All-drop, are.positive); short = search (rules, All-take, All-drop, are.short) }
 
--- ---- the cells between
-
-cell_told : (c : Cell) (f b nb : Bool) → f ≡ is_filled c → b ≡ is_blank c → nb ≡ (b && not f) → cell_with f nb ≡ c
-cell_told c f b nb e d n = search rules
-
--- the line that two sets tell, of which the second one's places in the first are left out
-pub line_told : (w : List Cell) (len f b nb : ℕ) → length w ≡ len → ((i : ℕ) → i < len → has f i ≡ is_filled (get_or w i Unknown))
-    → ((i : ℕ) → i < len → has b i ≡ is_blank (get_or w i Unknown)) → IsMaskOf (λ i. Has b i × (has f i ≡ false)) nb → line_cells len f nb ≡ w
-line_told w len f b nb e filled blank m = line_is len f nb w e (λ i h. sym (cell_told _ _ _ _ (filled i h) (blank i h) (less_at b f nb i m)))
-
--- what a set tells of a part of a line
--- a set without what is beyond a place
-pub cut_at : (len set all m i : ℕ) → i < len → IsMaskOf (λ i. i < len) all → IsMaskOf (λ i. Has set i × Has all i) m → has m i ≡ has set i
-cut_at len set all m i h a p = search rules
-
-pub part_told : (φ : Cell → Bool) (l : List Cell) (n len set m : ℕ) → n + len ≤ length l
-    → ((i : ℕ) → i < length l → has set i ≡ φ (get_or l i Unknown)) → IsMaskOf (λ i. Has set (i + n)) m
-    → (i : ℕ) → i < len → has m i ≡ φ (get_or (take len (drop n l)) i Unknown)
-part_told φ l n len set m within told shifted i h =
-    let same : has m i ≡ has set (i + n) = search rules in
-    let at = get_or-take len (drop n l) i Unknown h ∙ get_or-drop n l i Unknown ∙ ap (λ (k : ℕ). get_or l k Unknown) (add_comm n i) in
-    rw at (same ∙ told (i + n) (omega arith))
+-- ---- the deduced line
 
 -- a line with another part
 abbrev pub with_cells : ℕ → List Cell → List Cell → List Cell
 with_cells n p l = take n l ++ (p ++ drop (n + length p) l)
-
-pub length-with : (n : ℕ) (p l : List Cell) → n + length p ≤ length l → length (with_cells n p l) ≡ length l
-length-with n p l within =
-    omega (arith, length-append (take n l) (p ++ drop (n + length p) l), length-append p (drop (n + length p) l), length-take-le n l, length-drop (n + length p) l)
-
--- its cells
-with_inside : (n i : ℕ) (p l : List Cell) → n + length p ≤ length l → i < length p → get_or (with_cells n p l) (n + i) Unknown ≡ get_or p i Unknown
-with_inside n i p l within h = grind (arith, common_steps)
-
-with_outside : (n i : ℕ) (p l : List Cell) → n + length p ≤ length l → (i < n) ⊎ (n + length p ≤ i)
-    → get_or (with_cells n p l) i Unknown ≡ get_or l i Unknown
-with_outside n i p l within (inl h) = grind (arith, common_steps)
-with_outside n i p l within (inr h) = grind (arith, common_steps)
-
--- and what a set tells of it
-pub with_told : (φ : Cell → Bool) (l p : List Cell) (n count set places m : ℕ) → count ≡ length p → n + length p ≤ length l
-    → ((i : ℕ) → i < length l → has set i ≡ φ (get_or l i Unknown)) → ((i : ℕ) → i < length p → has places i ≡ φ (get_or p i Unknown))
-    → ((i : ℕ) → i < n → has m i ≡ has set i) → ((i : ℕ) → i < count → has m (n + i) ≡ has places i)
-    → ((i : ℕ) → n + count ≤ i → has m i ≡ has set i) → (i : ℕ) → i < length l → has m i ≡ φ (get_or (with_cells n p l) i Unknown)
-with_told φ l p n count set places m e within told there before at after i h = elim (cases_lt i n) [
-  | inl low ↦ rw (with_outside n i p l within (inl low)) (before i low ∙ told i h)
-  | inr high ↦ elim (cases_lt (i - n) (length p)) [
-    | inl low ↦
-        (let is : i ≡ n + (i - n) = omega arith in
-        rw (is, with_inside n (i - n) p l within low) (at (i - n) (omega arith) ∙ there (i - n) low))
-    | inr far ↦ rw (with_outside n i p l within (inr (omega arith))) (after i (omega arith) ∙ told i h)
-  ]
-]
-
--- ---- the deduced line
 
 known_colour : (c : Cell) → is_known c ≡ true → colour (is_filled c) ≡ c
 known_colour c e = search rules
@@ -356,5 +299,12 @@ module _ (l : List Cell) (n m : ℕ) (front : IsSettled l n) (back : IsSettled (
     pub open_none : None ≡ deduced middle ns → None ≡ deduced l clue
     open_none e = deduced_as None e
 
-    pub open_some : (d : List Cell) → Some d ≡ deduced middle ns → Some (with_cells n d l) ≡ deduced l clue
-    open_some d e = ap (λ (w : List Cell). Some w) (with_between d (length-deduced middle d ns e)) ∙ deduced_as (Some d) e
+    module _ (d : List Cell) (e : Some d ≡ deduced middle ns) where
+      pub open_some : Some (with_cells n d l) ≡ deduced l clue
+      open_some = ap (λ (w : List Cell). Some w) (with_between d (length-deduced middle d ns e)) ∙ deduced_as (Some d) e
+
+      pub open_within : n + length d ≤ length l
+      open_within = omega (arith, some, length-middle, length-deduced middle d ns e)
+
+      pub open_more : Extends (take (length d) (drop n l)) d
+      open_more = rw (length-deduced middle d ns e, length-middle) (rw (sym e) at (deduced-above middle ns))

@@ -18,7 +18,7 @@ use crate::pairs::Pair;
 use crate::passes::Pass;
 use crate::reach::{GAPS, gap_ahead, inner_ends, whole_ends, write_gaps_ahead};
 use crate::rooms::{Rooms, make_ready};
-use crate::settled_ends::{open_numbers, part, settled_ends, with_part};
+use crate::settled_ends::{open_numbers, settled_ends};
 use crate::spans::{Span, padded};
 use crate::widths::{Width, places_needed};
 use grid_core::{Clue, LONGEST_SIDE, LineOf, MOST_RUNS, NoMemory};
@@ -131,39 +131,6 @@ fn deduce_numbers<W: PlaceSet>(
     certain(span.len, fillable, blankable)
 }
 
-/// What is certain of a line, in sets of another width that has room for the line and for the clue's numbers.
-fn deduce_at<W: PlaceSet, V: PlaceSet>(
-    room: &mut Vec<[V::Kept; GAPS]>,
-    line: &LineOf<W>,
-    clue: &[u16],
-) -> Option<LineOf<W>>
-    requires line { length line.now ≤ V.WIDTH }
-    requires clue { AreLengths V.WIDTH clue.now }
-    requires count { length clue.now ≤ MOST_RUNS }
-    requires room { 0 < vec_capacity room.old }
-    ensures answer { result ≡ deduced line.now clue.now }
-    ensures room { 0 < vec_capacity room.new }
-{
-    let _fits = line.len();
-    match deduce_numbers::<V>(room, &line.resized(), clue) {
-        None => None,
-        Some(certain) => Some(certain.resized()),
-    }
-}
-
-/// What is certain of a line, by the narrowest sets that have room for it and for the clue's numbers.
-fn deduce_with<W: PlaceSet>(line: &LineOf<W>, clue: &[u16], rooms: &mut Rooms) -> Option<LineOf<W>>
-    requires clue { AreLengths LONGEST_SIDE clue.now }
-    requires count { length clue.now ≤ MOST_RUNS }
-    ensures { result ≡ deduced line.now clue.now }
-{
-    match Width::of(places_needed(line.len(), clue)) {
-        Width::Narrow => deduce_at::<W, u64>(&mut rooms.narrow, line, clue),
-        Width::Middle => deduce_at::<W, u128>(&mut rooms.middle, line, clue),
-        Width::Wide => deduce_at::<W, Wide>(&mut rooms.wide, line, clue),
-    }
-}
-
 /// What is certain of a part of a line, by sets of 64 places if they have room for it and for the clue's numbers.
 fn deduce_part<W: PlaceSet>(
     narrow: &mut Vec<[u64; GAPS]>,
@@ -179,10 +146,12 @@ fn deduce_part<W: PlaceSet>(
     ensures narrow { 0 < vec_capacity narrow.new }
     ensures room { 0 < vec_capacity room.new }
 {
-    if places_needed(line.len(), clue) <= 64 {
-        deduce_at::<W, u64>(narrow, line, clue)
-    } else {
-        deduce_numbers(room, line, clue)
+    if places_needed(line.len(), clue) > 64 {
+        return deduce_numbers(room, line, clue);
+    }
+    match deduce_numbers::<u64>(narrow, &line.resized(), clue) {
+        None => None,
+        Some(certain) => Some(certain.resized()),
     }
 }
 
@@ -206,9 +175,10 @@ fn deduce_open<W: PlaceSet>(
         return deduce_numbers(room, line, clue);
     }
     let (from, to) = open_numbers(line, front, back, clue)?;
-    match deduce_part(narrow, room, &part(line, front, back), &clue[from..to]) {
+    let open = line.part(front, line.len() - front - back);
+    match deduce_part(narrow, room, &open, &clue[from..to]) {
         None => None,
-        Some(certain) => Some(with_part(line, front, &certain)),
+        Some(certain) => Some(line.with_part(front, &certain)),
     }
 }
 
@@ -237,18 +207,6 @@ impl Tables {
             longest,
             rooms: Rooms::new(alloc)?,
         })
-    }
-}
-
-/// What is certain of a line, given its clue: what all placings share, or none if there is no placing.
-pub fn deduce(tables: &mut Tables, line: &Line, clue: &Clue) -> Option<Line>
-    requires { length line.now ≤ tables.old }
-    ensures answer { result ≡ deduced line.now clue.now }
-    ensures room { tables.new ≡ tables.old }
-{
-    match deduce_with(&line.cells, clue.numbers(), &mut tables.rooms) {
-        None => None,
-        Some(cells) => Some(Line { cells }),
     }
 }
 
@@ -364,5 +322,34 @@ impl LineSet for Wide {
         pairs: &mut [Pair<Wide>],
     ) {
         write_pairs_within(&mut tables.rooms.wide, room, line, clue, pairs);
+    }
+}
+
+/// What is certain of a line, by sets that have room for it and for the clue's numbers.
+fn deduce_as<W: LineSet>(tables: &mut Tables, line: &Line, clue: &Clue) -> Option<Line>
+    requires line { length line.now ≤ W.WIDTH }
+    requires clue { All (λ number. number ≤ W.WIDTH) clue.now }
+    ensures answer { result ≡ deduced line.now clue.now }
+    ensures room { tables.new ≡ tables.old }
+{
+    match W::deduce(tables, &line.cells.resized(), clue) {
+        None => None,
+        Some(cells) => Some(Line {
+            cells: cells.widened(),
+        }),
+    }
+}
+
+/// What is certain of a line, given its clue: what all placings share, or none if there is no placing.
+/// It is found by the narrowest sets that have room for both.
+pub fn deduce(tables: &mut Tables, line: &Line, clue: &Clue) -> Option<Line>
+    requires { length line.now ≤ tables.old }
+    ensures answer { result ≡ deduced line.now clue.now }
+    ensures room { tables.new ≡ tables.old }
+{
+    match Width::of(places_needed(line.len(), clue.numbers())) {
+        Width::Narrow => deduce_as::<u64>(tables, line, clue),
+        Width::Middle => deduce_as::<u128>(tables, line, clue),
+        Width::Wide => deduce_as::<Wide>(tables, line, clue),
     }
 }

@@ -1,6 +1,6 @@
 //! The settled cells at both ends of a line, which can be cut off before it is deduced.
 
-ghost use Rattle.std.specs.Prelude.{◌≡◌, ◌+◌, ◌-◌, ◌<◌, ◌≤◌, ◌++◌, ℕ, length, reverse, take, drop};
+ghost use Rattle.std.specs.Prelude.{◌≡◌, ◌+◌, ◌<◌, ◌≤◌, ℕ, length, reverse};
 ghost use Rattle.place_sets.specs.Masks.{has};
 ghost use Rattle.line_core.specs.steps.Full.{ArePassed, turned};
 ghost use Rattle.line_core.specs.steps.Pairs.{seen};
@@ -94,41 +94,4 @@ pub fn open_numbers<W: PlaceSet>(
     let from = end_runs::<W, false>(line, front, clue)?;
     let runs = end_runs::<W, true>(line, back, &clue[from..])?;
     Some((from, clue.len() - runs))
-}
-
-/// The cells of a line between so many at its front and at its back.
-pub fn part<W: PlaceSet>(line: &LineOf<W>, front: u16, back: u16) -> LineOf<W>
-    requires { front + back < length line.now }
-    ensures { result ≡ take (length line.now - front - back) (drop front line.now) }
-{
-    let len = line.len() - front - back;
-    let cells = first_places::<W>(len);
-    let filled = line.filled().shifted_down(front).intersection(cells);
-    let blank = line.blank().shifted_down(front).intersection(cells);
-    LineOf::of_sets(len, filled, blank.difference(filled))
-}
-
-/// A set that has at the `len` places from one on the places of another.
-fn with_places<W: PlaceSet>(set: W, from: u16, len: u16, places: W) -> W
-    requires { (0 < len) × (from + len ≤ W.WIDTH) }
-    ensures before { (i : ℕ) → i < from → has (W.number result) i ≡ has (W.number set) i }
-    ensures there { (i : ℕ) → i < len → has (W.number result) (from + i) ≡ has (W.number places) i }
-    ensures after { (i : ℕ) → from + len ≤ i → has (W.number result) i ≡ has (W.number set) i }
-{
-    let first = first_places::<W>(len);
-    let others = set.difference(first.shifted_up(from));
-    others.union(places.intersection(first).shifted_up(from))
-}
-
-/// A line with other cells from a place on.
-pub fn with_part<W: PlaceSet>(line: &LineOf<W>, from: u16, part: &LineOf<W>) -> LineOf<W>
-    requires { from + length part.now ≤ length line.now }
-    ensures { result ≡ take from line.now ++ (part.now ++ drop (from + length part.now) line.now) }
-{
-    let len = line.len();
-    let count = part.len();
-    let cells = first_places::<W>(len);
-    let filled = with_places(line.filled(), from, count, part.filled()).intersection(cells);
-    let blank = with_places(line.blank(), from, count, part.blank()).intersection(cells);
-    LineOf::of_sets(len, filled, blank.difference(filled))
 }

@@ -1,0 +1,9 @@
+-- `deduce`: neither the line nor a number is longer than the longest side.
+use Rattle.line_core.proofs.Names.{rules, arith, All, ◌≤◌}
+use Rattle.std.proofs.lemmas.List.Sums.{AllPass-from_list_all}
+use Rattle.line_core.proofs.deduction.deduce.Goals as goal
+
+pub of-requires : goal.of-requires
+of-requires c =
+    let short : All (λ n. n ≤ 256) c.numbers.result.now = search (rules, AllPass-from_list_all) in
+    c.places_needed.ensures.least 256 (omega (arith, c.len.ensures)) short
