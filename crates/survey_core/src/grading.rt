@@ -11,7 +11,7 @@ ghost use Rattle.survey_core.specs.steps.Graded.{AreAnswersAt, graded_of, puzzle
 
 use crate::Settings;
 use crate::collecting::{CollectFault, collect};
-use crate::parts::{Work, in_parts, let_go, parts_of};
+use crate::parts::{Work, in_parts, parts_of};
 use crate::readings::{Readings, read_entries};
 use grid_core::NoMemory;
 use lane_core::{Answer, Gate};
@@ -95,7 +95,5 @@ pub(crate) fn survey_text<H: Threads + Wait + Sync, G: Gate + Sync>(
         faults: &faults,
         answers: &answers,
     };
-    let printed = in_parts(rt, &printing, entries, parts)?;
-    let_go(rt, answers, parts);
-    Ok(printed.finish()?)
+    Ok(in_parts(rt, &printing, entries, parts)?.finish()?)
 }

@@ -7,6 +7,7 @@ mod collecting;
 mod collecting_one;
 mod faults;
 mod grading;
+mod heap_room;
 mod job_order;
 mod lane_context;
 mod lane_lists;

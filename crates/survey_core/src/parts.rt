@@ -90,31 +90,6 @@ fn by_halves<R: Threads + Sync, T: Sync, W: Work<T, Output = X> + Sync, X: Send 
     work.both(front?, behind?)
 }
 
-/// Lets go of a list in so many parts, the left half of them in a thread of its own, or in this thread if the
-/// parts find no memory.
-#[cycle(let_go)]
-pub fn let_go<R: Threads + Sync, T: Send + Drop>(rt: &R, items: Vec<T>, parts: usize) {
-    if parts < 2 {
-        return;
-    }
-    let mut items = items;
-    let fewer = parts / 2;
-    let others = parts - fewer;
-    let count = front_of(items.len(), fewer, parts);
-    let Ok(behind) = items.split_off(count) else {
-        return;
-    };
-    join(
-        rt,
-        move || -> ()
-            requires { IsSync R.row × IsSend T.row }
-        { let_go(rt, items, fewer) },
-        move || -> ()
-            requires { IsSync R.row × IsSend T.row }
-        { let_go(rt, behind, others) },
-    );
-}
-
 /// How many of `count` items the first `some` of `parts` parts have.
 fn front_of(count: usize, some: usize, parts: usize) -> usize
     requires { (some ≤ parts) × (0 < parts) }

@@ -5,6 +5,7 @@ ghost use Rattle.puzzle_text.specs.declared.collections.Entry.{Entry};
 ghost use Rattle.survey_core.specs.Guessing.{guessing};
 ghost use Rattle.survey_core.specs.steps.Readings.{IsReadingOf, fault_of, job_of, reading, shown_job};
 
+use crate::heap_room::HeapRoom;
 use crate::parts::{Work, in_parts};
 use crate::settings::Settings;
 use grid_core::NoMemory;
@@ -120,7 +121,9 @@ fn read_part(
         jobs: Vec::with_capacity(alloc, entries.len())?,
         faults: Vec::with_capacity(alloc, entries.len())?,
     };
+    let mut room = HeapRoom::new(alloc);
     for (place, entry) in entries.iter().enumerate() {
+        room.make();
         read.add(alloc, entry, first + place as u32, settings)?;
     }
     Ok(read)

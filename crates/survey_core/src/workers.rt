@@ -5,6 +5,7 @@ ghost use Rattle.lane_core.specs.Lane.{IsFinished};
 ghost use Rattle.lane_core.specs.Ends.{back_lists, SameBack};
 
 use crate::bells::WorkerBells;
+use crate::heap_room::HeapRoom;
 use crate::lane_context::LaneContext;
 use lane_core::{Gate, LaneBack, Step};
 use std::alloc::Global;
@@ -34,9 +35,13 @@ pub fn run_worker<R: Wait, G: Gate>(
 {
     let mut back = back;
     let mut bells = bells;
+    let mut room = HeapRoom::new(alloc);
     for _ in rt.forever() {
         match back.step(alloc, gate) {
-            Step::Graded => bells.tell_later(),
+            Step::Graded => {
+                bells.tell_later();
+                room.make();
+            }
             Step::Idle | Step::Waiting => bells.sleep(rt),
             Step::Done => {
                 bells.tell();

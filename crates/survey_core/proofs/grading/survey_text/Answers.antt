@@ -13,4 +13,4 @@ returns g c =
     let graded_so = are_graded (guessing c.args.settings.now) 1 (readings entries) c.in_ok-jobs.field-0.jobs.items c.deref-2.result.now read.jobs
     (rw c.deref-2.ensures.value c.in_ok-answers.ensures.answers) in
     c.in_ok-finish.ensures c.args.settings.now.show _
-    (c.in_ok-printed.ensures (all_answered _ entries c.requires (c.deref.ensures.value ∙ read.faults) graded_so))
+    (c.in_ok-in_parts.ensures (all_answered _ entries c.requires (c.deref.ensures.value ∙ read.faults) graded_so))
