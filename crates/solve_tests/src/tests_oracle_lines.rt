@@ -139,3 +139,92 @@ fn drawn_lines_are_deduced_alike(rt: HostRuntime) -> Result<(), Fail> {
     }
     Ok(())
 }
+
+/// Adds known cells, of which the lowest bits of a number tell the filled ones.
+fn push_known(cells: &mut Cells, len: u16, bits: u64) -> Result<(), AllocError> {
+    let mut rest = bits;
+    for _ in 0..len {
+        cells.push(Cell::of_colour(rest % 2 == 1))?;
+        rest /= 2;
+    }
+    Ok(())
+}
+
+/// The known cells at an end of a line but the innermost, which is blank: how many there are, and a number whose
+/// lowest bits tell the filled ones.
+#[derive(Clone, Copy)]
+struct End(u16, u64);
+
+/// A pseudorandom end.
+fn drawn_end(draws: &mut Draws) -> End {
+    End((draws.draw() % 80) as u16, draws.draw())
+}
+
+/// Cells between two ends.
+fn between(alloc: Global, front: End, cells: &[Cell], back: End) -> Result<Cells, AllocError> {
+    let mut all = Vec::new(alloc);
+    push_known(&mut all, front.0, front.1)?;
+    all.push(Cell::Blank)?;
+    for cell in cells {
+        all.push(*cell)?;
+    }
+    all.push(Cell::Blank)?;
+    push_known(&mut all, back.0, back.1)?;
+    Ok(all)
+}
+
+/// The clue of cells between two ends, given their own.
+fn clue_between(alloc: Global, front: End, clue: &Clue, back: End) -> Result<Clue, Fail> {
+    let mut numbers = Vec::new(alloc);
+    let before = numbered_clue(alloc, front.0, front.1)?;
+    let behind = numbered_clue(alloc, back.0, back.1)?;
+    for part in [&before, clue, &behind] {
+        for number in part.numbers() {
+            numbers.push(*number)?;
+        }
+    }
+    Ok(Clue::from_numbers(alloc, &numbers)?)
+}
+
+/// Whether a pseudorandom line between two ends is deduced alike.
+fn drawn_open_part_is_deduced_alike(
+    alloc: Global,
+    len: u16,
+    full_lines: &[Cells],
+    draws: &mut Draws,
+) -> Result<bool, Fail> {
+    let mut tables = Tables::new(alloc, 256)?;
+    let (front, back) = (drawn_end(draws), drawn_end(draws));
+    let bits = draws.draw();
+    let clue = numbered_clue(alloc, len, bits)?;
+    let lines_of_clue = lines_of_clue(alloc, full_lines, clue.numbers())?;
+    let mut open = Vec::new(alloc);
+    push_partly_known(&mut open, usize::from(len), bits, 32, draws)?;
+    let wanted = match deduced(alloc, &open, &lines_of_clue)? {
+        None => None,
+        Some(cells) => Some(between(alloc, front, &cells, back)?),
+    };
+    let cells = between(alloc, front, &open, back)?;
+    if cells.is_empty() || cells.len() > 256 {
+        return Ok(false);
+    }
+    let line = line_with(cells.len() as u16, &cells);
+    let answer = deduce(&mut tables, &line, &clue_between(alloc, front, &clue, back)?);
+    Ok(is_deduced(alloc, &answer, &wanted)?)
+}
+
+#[test]
+fn drawn_lines_between_settled_ends_are_deduced_alike(rt: HostRuntime) -> Result<(), Fail> {
+    let alloc = rt.alloc();
+    let mut draws = Draws(2);
+    for len in 7..11u16 {
+        let full_lines = full_lines(alloc, usize::from(len))?;
+        for round in 0..500u32 {
+            assert!(rt;
+                drawn_open_part_is_deduced_alike(alloc, len, &full_lines, &mut draws)?,
+                "{len}: {round}"
+            );
+        }
+    }
+    Ok(())
+}
