@@ -56,7 +56,7 @@ fn help_says_how_to_call(rt: HostRuntime) -> Result<(), Fail> {
 fn version_is_printed(rt: HostRuntime) -> Result<(), Fail> {
     let ending = ended(&rt, "--version", b"")?;
     assert!(rt; ending.status == 0);
-    assert!(rt; ending.printed.as_slice() == b"nonograde 2026.11.28\n".as_slice());
+    assert!(rt; ending.printed.as_slice() == b"nonograde 2026.11.29\n".as_slice());
     Ok(())
 }
 

@@ -6,7 +6,7 @@ mod converting;
 mod reports;
 
 /// The version: the day of the newest change that users see.
-pub const VERSION: &str = "2026.11.28";
+pub const VERSION: &str = "2026.11.29";
 
 pub use converting::{ConvertFault, convert};
 pub use reports::{lines_report, solve_report};
