@@ -134,6 +134,17 @@ settled_is l known last within are blank low = record {
   closed = λ some. let e : last + 1 - 1 ≡ last = omega arith in rw e (blank_is _ blank);
 }
 
+-- known cells, seen from the line's other end, of which one is blank, if it is among them
+pub settled_behind : (l : List Cell) (known first : ℕ) → known ≤ length l → AreKnown (reverse l) known
+    → (first < known → is_blank (get_or l (first + (length l - known)) Unknown) ≡ true) → IsSettled (reverse l) (known - first)
+settled_behind l known first within are blank = record {
+  within = omega (arith, length-reverse l);
+  known = λ i h. are i (omega arith);
+  closed = λ some.
+      let e : length l - 1 - (known - first - 1) ≡ first + (length l - known) = omega arith in
+      rw (get_or-reverse l (known - first - 1) Unknown (omega arith), e) (blank_is _ (blank (omega arith)));
+}
+
 -- what a set tells of a line that is seen from its other end
 pub seen_told : (t : Bool) (φ : Cell → Bool) (l : List Cell) (len set m : ℕ) → len ≡ length l
     → ((i : ℕ) → i < length l → has set i ≡ φ (get_or l i Unknown)) → ((i : ℕ) → i < len → has m i ≡ has set (seen t len i))

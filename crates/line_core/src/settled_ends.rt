@@ -26,22 +26,39 @@ fn seen_set<W: PlaceSet, const TURNED: bool>(set: W, len: u16) -> W
     }
 }
 
-/// How many settled cells at an end can be cut off, if that is worth it: of the outer `known` ones, which are known,
+/// How many settled cells in front can be cut off, if that is worth it: of the first `known` ones, which are known,
 /// those up to the last blank one.
-fn settled_cells<W: PlaceSet, const TURNED: bool>(line: &LineOf<W>, known: u16) -> u16
-    requires { (known ≤ length line.now) × AreKnown (turned TURNED line.now) known }
-    ensures settled { IsSettled (turned TURNED line.now) result }
+fn settled_front<W: PlaceSet>(line: &LineOf<W>, known: u16) -> u16
+    requires known { (known ≤ length line.now) × AreKnown line.now known }
+    requires fits { known < W.WIDTH }
+    ensures settled { IsSettled line.now result }
     ensures within { result ≤ known }
 {
     if known < WORTH_CUTTING {
         return 0;
     }
-    let seen = seen_set::<W, TURNED>(line.blank(), line.len());
-    let blank = seen.intersection(first_places(known));
+    let blank = line.blank().intersection(first_places(known));
     if blank.is_empty() {
         return 0;
     }
     blank.last_place() + 1
+}
+
+/// How many settled cells behind can be cut off, if that is worth it: of the last `known` ones, which are known,
+/// those from the first blank one on.
+fn settled_back<W: PlaceSet>(line: &LineOf<W>, known: u16) -> u16
+    requires { (known ≤ length line.now) × AreKnown (reverse line.now) known }
+    ensures settled { IsSettled (reverse line.now) result }
+    ensures within { result ≤ known }
+{
+    if known < WORTH_CUTTING {
+        return 0;
+    }
+    let blank = line.blank().shifted_down(line.len() - known);
+    if blank.is_empty() {
+        return 0;
+    }
+    known.saturating_sub(blank.first_place())
 }
 
 /// How many settled cells can be cut off in front and behind, if that is worth it. Some cell is left.
@@ -56,8 +73,8 @@ pub fn settled_ends<W: PlaceSet>(line: &LineOf<W>) -> (u16, u16)
         return (0, 0);
     }
     (
-        settled_cells::<W, false>(line, unknown.first_place()),
-        settled_cells::<W, true>(line, len - 1 - unknown.last_place()),
+        settled_front(line, unknown.first_place()),
+        settled_back(line, len - 1 - unknown.last_place()),
     )
 }
 

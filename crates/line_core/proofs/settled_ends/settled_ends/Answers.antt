@@ -2,8 +2,8 @@
 use Rattle.line_core.proofs.SettledEnds.{known_before, known_after}
 use Rattle.line_core.proofs.settled_ends.settled_ends.Goals as goal
 
-pub settled_cells-requires : goal.settled_cells-requires
-settled_cells-requires g c = known_before c.args.line.now _ c.unknown_cells-unknown.ensures.cells _ c.first_place.ensures.in_mask c.first_place.ensures.least
+pub settled_front-requires-clause-known : goal.settled_front-requires-clause-known
+settled_front-requires-clause-known g c = known_before c.args.line.now _ c.unknown_cells-unknown.ensures.cells _ c.first_place.ensures.in_mask c.first_place.ensures.least
 
-pub settled_cells-requires-2 : goal.settled_cells-requires-2
-settled_cells-requires-2 g c = known_after c.args.line.now _ c.unknown_cells-unknown.ensures.cells _ _ c.len-len.ensures.len c.last_place.ensures.greatest
+pub settled_back-requires : goal.settled_back-requires
+settled_back-requires g c = known_after c.args.line.now _ c.unknown_cells-unknown.ensures.cells _ _ c.len-len.ensures.len c.last_place.ensures.greatest

@@ -1,0 +1,10 @@
+-- `settled_front`: the last blank one of known cells.
+use Rattle.line_core.proofs.Names.{◌∙◌, sym, has_true, arith}
+use Rattle.line_core.proofs.SettledEnds.{settled_is}
+use Rattle.line_core.proofs.settled_ends.settled_front.Goals as goal
+
+pub returns-clause-settled : goal.returns-clause-settled
+returns-clause-settled g c =
+    let last = c.intersection-blank.ensures.to _ c.last_place.ensures.in_mask in
+    let low = c.first_places.ensures.to _ last.1 in
+    settled_is c.args.line.now _ _ c.requires.known.0 c.requires.known.1 (sym (c.blank.ensures _ (omega (arith, low, c.requires.known.0))) ∙ has_true _ _ last.0) low
