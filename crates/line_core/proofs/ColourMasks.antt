@@ -1,5 +1,5 @@
 -- Masks of both colours: what they have, and what they have once others are added.
-use Rattle.line_core.proofs.Names.{rules, ◌≡◌, ◌↔◌, ℕ, ◌+◌, ◌<◌, Bool, true, false, List, length, get_or, ◌⊎◌, cases_lt, none_has, get_or_read, ColourMasks, no_colours, AreMasks, AreMore, HasColour}
+use Rattle.line_core.proofs.Names.{rules, ◌≡◌, ◌↔◌, ℕ, ◌+◌, ◌<◌, Bool, true, false, List, length, get_or, ◌⊎◌, cases_lt, get_or_read, ColourMasks, no_colours, AreMasks, AreMore, HasColour}
 
 -- what the masks have, colour by colour
 pub masks_are : (P : Bool → ℕ → Type 0) (m : ColourMasks) → AreMasks P m → (d : Bool) (k : ℕ) → HasColour m d k ↔ P d k
@@ -31,9 +31,6 @@ read_at table i p read same there is = rw same at (get_or_read table i read ther
 -- something holds of one of the first `count` numbers
 abbrev pub Below : ℕ → (ℕ → Bool → ℕ → Type 0) → Bool → ℕ → Type 0
 Below count P filled k = (j : ℕ) × (j < count) × P j filled k
-
-pub no_below : (P : ℕ → Bool → ℕ → Type 0) (m : ColourMasks) → m ≡ no_colours → AreMasks (Below 0 P) m
-no_below P m e = rw e (masks_of (Below 0 P) no_colours (λ d k. search (rules, none_has)))
 
 pub one_below : (P : ℕ → Bool → ℕ → Type 0) (j : ℕ) (old new : ColourMasks) → AreMasks (Below j P) old → AreMore (P j) old new
     → AreMasks (Below (j + 1) P) new

@@ -1,7 +1,7 @@
 -- What can be on a line with a cell coloured, told by what can be before and after that cell, or the run that covers it.
 use Rattle.line_core.proofs.Names.{AreMore, allows, rules, ap, sym, cases_eq, get_or-set_same, true≢false, not, mask_same, get_or-drop, IsShifted, nat_eq, ◌≡◌, ℕ, zero, suc, ◌+◌, ◌-◌, ◌*◌, ◌<◌, ◌≤◌, Bool, true, false, List, ◌∷◌, length, length_at, get_or, set, take, drop, reverse, refl, ◌∙◌, arith, add-one, ◌⊎◌, inl, inr, ◌↔◌, cases_lt, and_from, and_parts, length-set, ext_get_or, get_or-reverse, Has, IsMarked, IsMaskOf, Cell, Unknown, agrees, runs, behind, MayBe, IsGapAhead, IsWholeEnd, ArePositive, get_or-set_other, get_or-set_at, get_or_default, length-reverse, reverse-reverse, drop-set-lt, colour, ColourMasks, PairMasks, no_colours, no_pair, masks_if, coloured, AreColours, AreLengths, CanBeBefore, IsWholeGap, AreMasks, ArePairsMore, AreToldOf, IsLineWithin, CanBeAfter, CanBeBesideGap, CanBeBesideRun, CanBeUpTo, CanBeWithBlank, CanBeWithFilled, HasColour, IsEndOver}
 use Rattle.line_core.specs.steps.Pairs.{ArePairs}
-use Rattle.line_core.proofs.ColourMasks.{Below, masks_are, masks_same, more_more, read_at, more_same, no_below, one_below}
+use Rattle.line_core.proofs.ColourMasks.{Below, masks_are, masks_same, more_more, read_at, more_same, one_below}
 use Rattle.line_core.proofs.ColouredGaps.{colour_is, coloured_less, coloured_other, behind_coloured, gap_less, end_less, end_step_to, end_step_from, whole_before_end}
 use Rattle.line_core.proofs.Certain.{CanBe}
 use Rattle.line_core.proofs.GapRows.{mask_less, part_is, part_long}
@@ -274,10 +274,6 @@ pub record AreGathered (l : List Cell) (clue : List ℕ) (gaps runs : ℕ) (pair
   pub room : length l ≤ length pairs
   pub blank : (x : ℕ) → x < length l → AreMasks (Below gaps (CanBeWithBlank l clue x)) (get_or pairs x no_pair).if_blank
   pub filled : (x : ℕ) → x < length l → AreMasks (Below runs (CanBeWithFilled l clue x)) (get_or pairs x no_pair).if_filled
-
-pub gathered_none : (l : List Cell) (clue : List ℕ) (pairs : List PairMasks) → length l ≤ length pairs
-    → ((x : ℕ) → x < length l → get_or pairs x no_pair ≡ no_pair) → AreGathered l clue 0 0 pairs
-gathered_none l clue pairs room none = search (rules, no_below, none)
 
 pub gathered_gaps : (l : List Cell) (clue : List ℕ) (j runs : ℕ) (old new : List PairMasks) → AreGathered l clue j runs old
     → ArePairsMore false (λ x. CanBeWithBlank l clue x j) old new → AreGathered l clue (j + 1) runs new

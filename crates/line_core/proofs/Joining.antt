@@ -117,10 +117,6 @@ run_agrees l (suc n) s y h =
     let first = drop_past l s true (replicate n true ++ y) h in
     let rest = run_agrees l n (suc s) y first.1 in (λ z b. grind (arith, first.0, rest.0 (z - 1)), search rules)
 
--- the cells of a run are filled
-pub get_or-run : (n : ℕ) (y : List Bool) (z : ℕ) → z < n → get_or (replicate n true ++ y) z false ≡ true
-get_or-run n y z h = grind (arith, common_steps)
-
 -- a line begins with a run of `count` cells, or none, that does not go on
 pub record Begins (y : List Bool) : Type 0 where
   pub count : ℕ

@@ -13,9 +13,6 @@ either_first f b m p = grind (arith, p.to 0, p.from 0, has_true, true_has, has_b
 pub told_dead : (len f b m : ℕ) → IsMaskOf (λ i. Has f i ⊎ Has b i) m → has m 0 ≡ false → None ≡ told_by len f b
 told_dead len f b m p none = rw (either_first f b m p, none) refl
 
-pub less_at : (f b n i : ℕ) → IsMaskOf (λ i. Has f i × (has b i ≡ false)) n → has n i ≡ (has f i && not (has b i))
-less_at f b n i p = search rules
-
 without_at : (len f b all d n i : ℕ) → i < len → IsMaskOf (λ i. i < len) all → IsMaskOf (λ i. Has f i × (has b i ≡ false)) d
     → IsMaskOf (λ i. Has d i × Has all i) n → has n i ≡ (has f i && not (has b i))
 without_at len f b all d n i l pa pd p = search rules

@@ -1,8 +1,8 @@
 -- What one step on a word comes to, as a set of places.
-use Rattle.std.proofs.Common.{◌≡◌, ℕ, zero, suc, ◌+◌, ◌-◌, ◌*◌, ◌/◌, ◌%◌, ◌^◌, ◌<◌, ◌≤◌, ◌⊎◌, inl, inr, ◌∙◌, arith, min, cond, nat_eq}
+use Rattle.std.proofs.Common.{◌≡◌, ℕ, zero, suc, ◌+◌, ◌-◌, ◌*◌, ◌/◌, ◌%◌, ◌^◌, ◌<◌, ◌≤◌, inl, inr, ◌∙◌, arith, min, cond, nat_eq}
 use Rattle.std.specs.Int.{bit_at, w64, w128, trailing_zeros, Width}
 use mir.Val.{bits}
-use Rattle.std.specs.Int.RustNames.{bit_and, bit_or}
+use Rattle.std.specs.Int.RustNames.{bit_and}
 use Rattle.std.proofs.lemmas.Bool.{cases_eq}
 use Rattle.std.proofs.lemmas.Bool.Decides.{nat_tests}
 use Rattle.std.proofs.lemmas.Nat.Bits.{bit_at_and, bit_at_or, bit_at_above, bit_at_xor, bit_at_not, bit_at-lt, bit_at-zero, bit_at_ones, bit_at_ones_above, bit_at-pow_same, bit_at-pow_other, bit_at_lowest, bit_at-suc, bit_at-trailing_zeros}
@@ -19,14 +19,6 @@ one_is = grind (arith, low_ones 1)
 
 pub none_is : (P : ℕ → Type 0) → ((i : ℕ) → P i → ⊥) → IsMaskOf P 0
 none_is P f = grind (arith, bit_at-zero)
-
--- the places in both
-pub meet_is : (a b : ℕ) → IsMaskOf (λ i. Has a i × Has b i) (bit_and a b)
-meet_is a b = grind (arith, bit_at_and, bit_at-lt)
-
--- the places in either
-pub join_is : (a b : ℕ) → IsMaskOf (λ i. Has a i ⊎ Has b i) (bit_or a b)
-join_is a b = grind (arith, bit_at_or, bit_at-lt)
 
 -- no place is above that of the greatest power of two
 pub none_above : (m r : ℕ) → 2 ^ r ≤ m → m < 2 * 2 ^ r → (i : ℕ) → Has m i → i ≤ r

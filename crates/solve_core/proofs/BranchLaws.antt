@@ -1,5 +1,5 @@
 -- The branches of a search: what settled cells, a filled guess and a blank one make of them.
-use Rattle.solve_core.proofs.Names.{◌≡◌, ℕ, zero, suc, ◌+◌, ◌<◌, ◌≤◌, List, [], ◌∷◌, ◌++◌, length, set, take, drop, refl, sym, ap, ◌∙◌, arith, length-append, append-nil, append_assoc, Option, Some, AllByRecursion, drop-length, drop-append-le, drop-append_seam, take-append_seam, length-take-le, take-append-drop, Cell, Filled, Blank, GridLine, Branch, Guess, events, TrailStep, TrailedGrid, cleared, IsTrailed, cells_before, IsNext, IsBranch, AreInOrder, AreBefore, IsWork, pending, open_events, ready_events, rules}
+use Rattle.solve_core.proofs.Names.{◌≡◌, ℕ, zero, suc, ◌+◌, ◌<◌, ◌≤◌, List, [], ◌∷◌, ◌++◌, length, set, take, drop, refl, sym, ap, ◌∙◌, arith, length-append, append-nil, append_assoc, Option, Some, AllByRecursion, drop-length, drop-append-le, length-take-le, take-append-drop, Cell, Filled, Blank, GridLine, Branch, Guess, events, TrailStep, TrailedGrid, cleared, IsTrailed, cells_before, IsNext, IsBranch, AreInOrder, AreBefore, IsWork, pending, open_events, ready_events, rules}
 use Rattle.solve_core.proofs.TrailSteps.{cleared-append, all_append}
 
 drop_take : {X : Type 0} (m n : ℕ) (xs : List X) → m ≤ n → drop m (take n xs) ++ drop n xs ≡ drop m xs
@@ -17,11 +17,6 @@ before_back cells trail earlier mark h =
 -- if the mark is the whole length of the trail, nothing is undone
 before-now : (cells : List Cell) (trail : List TrailStep) → cells_before cells trail (length trail) ≡ cells
 before-now cells trail = ap (cleared cells) (drop-length trail)
-
--- going back over all that was settled since gives the board as it was
-pub back_to : (old new back : TrailedGrid) → IsTrailed old new →
-    back ≡ record new { cells = cells_before new.cells new.trail (length old.trail); trail = take (length old.trail) new.trail } → back ≡ old
-back_to old new back t e = search (rules, drop-append_seam, take-append_seam)
 
 pub before-more : (limit more : ℕ) (branches : List Branch) → limit ≤ more → AreBefore limit branches → AreBefore more branches
 before-more limit more [] l h = tt

@@ -147,15 +147,6 @@ pub line_dead : (lines : List GridLine) (g : List Cell) (line : GridLine) → Is
     deduced (cells_at Unknown g line.places) line.clue ≡ None → closure lines g ≡ None
 line_dead lines g line m e = search (rules, step_within, closure-IsLeastClosed, option_map)
 
--- each place of a list is a different one
-pub distinct_same : (places : List ℕ) (k i : ℕ) → AreDistinct places → k < length places → i < length places →
-    get_or places k 0 ≡ get_or places i 0 → k ≡ i
-distinct_same [] k i d l m e = absurd (omega arith)
-distinct_same (p ∷ ps) zero zero d l m e = refl
-distinct_same (p ∷ ps) zero (suc i) d l m e = absurd (d.0 i (omega arith) (sym e))
-distinct_same (p ∷ ps) (suc k) zero d l m e = absurd (d.0 k (omega arith) e)
-distinct_same (p ∷ ps) (suc k) (suc i) d l m e = ap suc (distinct_same ps k i d.1 (omega arith) (omega arith) e)
-
 -- a cell that learned something was unknown
 pub learned_cell : (old new : Cell) → CellExtends old new → new ≢ old → (old ≡ Unknown) × (is_known new ≡ true)
 learned_cell old new h k = search rules

@@ -22,11 +22,6 @@ column_within w h x i a b = omega (arith, place-within w h x i a b)
 pub by_side : (P : Side → Type 0) (side : Side) → P side → P (crossing side) → (s : Side) → P s
 by_side P side h k s = search rules
 
--- a cell of a line is in the grid
-pub cell_within : (side : Side) (w h i k : ℕ) → i < count_on side w h → k < count_on (crossing side) w h → place_on side w i k < w * h
-cell_within Rows w h i k l m = place-within w h k i m l
-cell_within Columns w h i k l m = place-within w h i k l m
-
 -- its column and its row are those of the grid
 pub cell_in : (side : Side) (w h i k : ℕ) → i < count_on side w h → k < count_on (crossing side) w h →
     (column_on side i k < w) × (row_on side i k < h)
