@@ -323,14 +323,15 @@ can_forget side w h i cells lines are li k lk =
     }
 
 -- what a line of a grid forgets, in a grid that is seen as it
-pub forgets_at : (side own : Side) (i m : ℕ) (new : List Cell) (b g : PartialGrid) → 0 < b.width → length b.cells ≡ b.width * b.height → b ≡ g →
-    side ≡ own → i < count_on side g.width g.height → ((k : ℕ) → Has m k → k < count_on (crossing side) g.width g.height) →
-    new ≡ unlearned m (cells_at Unknown g.cells (places_on side g.width g.height i)) →
+pub forgets_at : {side : Side} {i m : ℕ} {new line : List Cell} {b g : PartialGrid} (own : Side) → b ≡ g → 0 < b.width →
+    length b.cells ≡ b.width * b.height → side ≡ own → i < count_on side g.width g.height →
+    ((k : ℕ) → Has m k → k < count_on (crossing side) g.width g.height) → new ≡ unlearned m line →
+    line ≡ cells_at Unknown g.cells (places_on side g.width g.height i) →
     Writes own b.width b.height i m b.cells new × ((k : ℕ) → Has m k → get_or new k Unknown ≡ Unknown) ×
     ((k : ℕ) → Has m k → k < count_on (crossing own) b.width b.height) ×
     (new ≡ unlearned m (cells_at Unknown b.cells (places_on own b.width b.height i)))
-forgets_at side own i m new b g some count seen same line within e =
-    rw (e, ← seen, ← same) (
+forgets_at {side = side} {i = i} {m = m} {b = b} own seen some count same line within e f =
+    rw (e, f, ← seen, ← same) (
       forgotten_is b.width b.height (record { side = side; line = i; changes = m }) b.cells some count
           (rw seen (record { line_in = line; within = within })),
       unlearned_at m _,

@@ -33,5 +33,6 @@ returns-in-None-clause-answer g c =
 pub returns-in-Some-clause-answer : goal.returns-in-Some-clause-answer
 returns-in-Some-clause-answer g c =
     let ends = c.settled_ends-front.ensures in
-    rw c.with_part.ensures (open_some c.args.line.now _ _ ends.front ends.back ends.open c.args.clue.now _ c.in_ok-from.ensures.2 c.in-Some.certain
-    (rw (c.part-open.ensures, c.len.ensures.len) at c.in-Some.ensures.answer))
+    let answer = rw (c.part-open.ensures, c.len.ensures.len) at c.in-Some.ensures.answer in
+    rw c.with_part.ensures
+    (open_some c.args.line.now _ _ ends.front ends.back ends.open c.args.clue.now _ c.in_ok-from.ensures.2 c.in-Some.certain answer)

@@ -3,7 +3,9 @@ use Rattle.line_core.proofs.SettledEnds.{known_before, known_after}
 use Rattle.line_core.proofs.settled_ends.settled_ends.Goals as goal
 
 pub settled_front-requires-clause-known : goal.settled_front-requires-clause-known
-settled_front-requires-clause-known g c = known_before c.args.line.now _ c.unknown_cells-unknown.ensures.cells _ c.first_place.ensures.in_mask c.first_place.ensures.least
+settled_front-requires-clause-known g c =
+    let first = c.first_place.ensures in known_before c.args.line.now _ c.unknown_cells-unknown.ensures.cells _ first.in_mask first.least
 
 pub settled_back-requires : goal.settled_back-requires
-settled_back-requires g c = known_after c.args.line.now _ c.unknown_cells-unknown.ensures.cells _ _ c.len-len.ensures.len c.last_place.ensures.greatest
+settled_back-requires g c =
+    known_after c.args.line.now _ c.unknown_cells-unknown.ensures.cells _ _ c.len-len.ensures.len c.last_place.ensures.greatest

@@ -7,4 +7,5 @@ pub returns-clause-settled : goal.returns-clause-settled
 returns-clause-settled g c =
     let last = c.intersection-blank.ensures.to _ c.last_place.ensures.in_mask in
     let low = c.first_places.ensures.to _ last.1 in
-    settled_is c.args.line.now _ _ c.requires.known.0 c.requires.known.1 (sym (c.blank.ensures _ (omega (arith, low, c.requires.known.0))) ∙ has_true _ _ last.0) low
+    let (within, known) = c.requires.known in
+    settled_is c.args.line.now _ _ within known (sym (c.blank.ensures _ (omega (arith, low, within))) ∙ has_true _ _ last.0) low

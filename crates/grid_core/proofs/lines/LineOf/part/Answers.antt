@@ -1,5 +1,5 @@
 -- `LineOf::part`: the masks shifted down, without what lies behind the part.
-use Rattle.grid_core.proofs.Names.{◌≡◌, ℕ, ◌+◌, ◌<◌, ◌≤◌, List, length, take, drop, arith, nat_tests, get_or-drop, get_or-take, length-drop, length-take-le, Cell, Has, IsMaskOf, line_cells}
+use Rattle.grid_core.proofs.Names.{◌≡◌, ◌∙◌, ℕ, ◌+◌, ◌<◌, ◌≤◌, List, length, take, drop, arith, nat_tests, get_or-drop, get_or-take, length-drop, length-take-le, Cell, Unknown, Has, IsMaskOf, line_cells}
 use Rattle.grid_core.proofs.LineCells.{line_is, seen_at}
 use Rattle.grid_core.proofs.lines.LineOf.part.Goals as goal
 
@@ -9,7 +9,8 @@ cells-part : (len f b n count places sf sb nf nb : ℕ) (l : List Cell) → line
     → line_cells count nf nb ≡ take count (drop n l)
 cells-part len f b n count places sf sb nf nb l e within pp qf qb pf pb =
     line_is count nf nb (take count (drop n l)) (omega (arith, length-take-le count (drop n l), length-drop n l)) (λ i h.
-    grind (arith, nat_tests, get_or-take count (drop n l) i, get_or-drop n l i, seen_at len f b (i + n) l e, pp.from i, qf.to i, qf.from i, qb.to i, qb.from i, pf.to i, pf.from i, pb.to i, pb.from i))
+    let at = get_or-take count (drop n l) i Unknown h ∙ get_or-drop n l i Unknown in
+    grind (arith, nat_tests, at, seen_at len f b (n + i) l e, pp.from i, qf.to i, qf.from i, qb.to i, qb.from i, pf.to i, pf.from i, pb.to i, pb.from i))
 
 pub returns : goal.returns
 returns g c =

@@ -1,7 +1,7 @@
 -- `LineOf::with_part`: the part adds to the masks, and takes nothing from them.
 use Rattle.std.proofs.Common.{rules}
 use Rattle.std.specs.Prelude.{◌&&◌, ◌||◌, Bool, true, nat_le, nat_lt}
-use Rattle.grid_core.proofs.Names.{◌≡◌, sym, ℕ, ◌+◌, ◌-◌, ◌<◌, ◌≤◌, ◌⊎◌, List, ◌++◌, cond, get_or, length, take, drop, arith, nat_tests, common_steps, length-append, length-drop, length-take-le, Cell, Unknown, Has, has, IsMaskOf, cell_with, line_cells}
+use Rattle.grid_core.proofs.Names.{◌≡◌, ℕ, ◌+◌, ◌-◌, ◌<◌, ◌≤◌, ◌⊎◌, List, ◌++◌, cond, get_or, length, take, drop, arith, nat_tests, common_steps, Cell, Unknown, Has, has, IsMaskOf, cell_with, line_cells}
 use Rattle.std.proofs.lemmas.List.Elements.{AllZip-get_or}
 use Rattle.place_sets.specs.Masks.{IsShifted}
 use Rattle.grid_core.specs.Cells.{CellExtends, Extends}
@@ -10,54 +10,73 @@ use Rattle.grid_core.proofs.LineCells.{length_seen, line_is, seen_at}
 use Rattle.grid_core.proofs.lines.LineOf.with_part.Goals as goal
 
 -- the cells of a line with those of a part
+abbrev joined_cells : ℕ → List Cell → List Cell → List Cell
+joined_cells n p l = take n l ++ (p ++ drop (n + length p) l)
+
+abbrev is_in : ℕ → List Cell → ℕ → Bool
+is_in n p i = nat_le n i && nat_lt i (n + length p)
+
 at_part : (n i : ℕ) (p l : List Cell) → n + length p ≤ length l
-    → get_or (take n l ++ (p ++ drop (n + length p) l)) i Unknown ≡ cond (nat_le n i && nat_lt i (n + length p)) (get_or p (i - n) Unknown) (get_or l i Unknown)
+    → get_or (joined_cells n p l) i Unknown ≡ cond (is_in n p i) (get_or p (i - n) Unknown) (get_or l i Unknown)
 at_part n i p l within = grind (arith, common_steps)
 
 -- each cell that the line knows is one that the part knows
 known_there : (n i : ℕ) (p l : List Cell) → n + length p ≤ length l → Extends (take (length p) (drop n l)) p → n ≤ i → i < n + length p
     → CellExtends (get_or l i Unknown) (get_or p (i - n) Unknown)
-known_there n i p l within more low high = grind (arith, common_steps, AllZip-get_or CellExtends (take (length p) (drop n l)) p (i - n) Unknown Unknown more)
+known_there n i p l within more low high =
+    let there = AllZip-get_or CellExtends (take (length p) (drop n l)) p (i - n) Unknown Unknown more in grind (arith, common_steps, there)
 
 -- a mask with the places of another one from a place on
-with_at : (width n count f p s m i : ℕ) → IsMaskOf (IsShifted width (Has p) n) s → IsMaskOf (λ i. Has f i ⊎ Has s i) m
-    → ((k : ℕ) → Has p k → k < count) → i < width
-    → has m i ≡ (has f i || (nat_le n i && nat_lt i (n + count) && has p (i - n)))
-with_at width n count f p s m i q r inside h = grind (arith, nat_tests, q.to i, q.from i, r.to i, r.from i, inside (i - n))
+with_at : (width n f q s m i : ℕ) (p : List Cell) → IsMaskOf (IsShifted width (Has q) n) s → IsMaskOf (λ i. Has f i ⊎ Has s i) m
+    → ((k : ℕ) → Has q k → k < length p) → i < width → has m i ≡ (has f i || (is_in n p i && has q (i - n)))
+with_at width n f q s m i p shifted both inside h =
+    grind (arith, nat_tests, shifted.to i, shifted.from i, both.to i, both.from i, inside (i - n))
 
 -- what is known of a cell with more, by tests
-cell_more : (t f b pf pb : Bool) → (f ≡ true → b ≡ true → ⊥) → (pf ≡ true → pb ≡ true → ⊥) → (t ≡ true → CellExtends (cell_with f b) (cell_with pf pb))
-    → cond t (cell_with pf pb) (cell_with f b) ≡ cell_with (f || (t && pf)) (b || (t && pb))
+cell_more : (t f b pf pb : Bool) → (f ≡ true → b ≡ true → ⊥) → (pf ≡ true → pb ≡ true → ⊥)
+    → (t ≡ true → CellExtends (cell_with f b) (cell_with pf pb))
+    → (cond t (cell_with pf pb) (cell_with f b) ≡ cell_with (f || (t && pf)) (b || (t && pb)))
+    × (f || (t && pf) ≡ true → b || (t && pb) ≡ true → ⊥)
 cell_more t f b pf pb n m e = search rules
 
 module _ (width len f b n count pf pb sf sb nf nb : ℕ) (l p : List Cell) (e : line_cells len f b ≡ l) (d : line_cells count pf pb ≡ p)
-    (own : IsLine width len f b) (far : IsLine width count pf pb) (within : n + length p ≤ length l) (more : Extends (take (length p) (drop n l)) p)
+    (own : IsLine width len f b) (far : IsLine width count pf pb) (within : n + length p ≤ length l)
+    (more : Extends (take (length p) (drop n l)) p)
     (qf : IsMaskOf (IsShifted width (Has pf) n) sf) (qb : IsMaskOf (IsShifted width (Has pb) n) sb)
     (rf : IsMaskOf (λ i. Has f i ⊎ Has sf i) nf) (rb : IsMaskOf (λ i. Has b i ⊎ Has sb i) nb) where
-  apart : (i : ℕ) → Has nf i → Has nb i → ⊥
-  apart i x y = grind (arith, nat_tests, rf.to i, rb.to i, qf.to i, qb.to i, own.apart i, far.apart (i - n), far.filled_in (i - n), far.blank_in (i - n), known_there n i p l within more, seen_at len f b i l e, seen_at count pf pb (i - n) p d, length_seen count pf pb p d)
+  long : length l ≡ len
+  long = length_seen len f b l e
 
-  told : (i : ℕ) → i < len → get_or (take n l ++ (p ++ drop (n + length p) l)) i Unknown ≡ cell_with (has nf i) (has nb i)
-  told i h =
+  there : length p ≡ count
+  there = length_seen count pf pb p d
+
+  each : (i : ℕ) → i < len
+      → (get_or (joined_cells n p l) i Unknown ≡ cell_with (has nf i) (has nb i)) × (has nf i ≡ true → has nb i ≡ true → ⊥)
+  each i h =
       let k = i - n in
-      let t = nat_le n i && nat_lt i (n + length p) in
-      let long = length_seen count pf pb p d in
       let wide : i < width = omega (arith, own.short, h) in
-      rw (at_part n i p l within, with_at width n count f pf sf nf i qf rf far.filled_in wide, with_at width n count b pb sb nb i qb rb far.blank_in wide, sym long)
-      (grind (arith, nat_tests, cell_more t (has f i) (has b i) (has pf k) (has pb k), known_there n i p l within more, seen_at len f b i l e, seen_at count pf pb k p d, length_seen len f b l e, own.apart i, far.apart k))
+      let filled = with_at width n f pf sf nf i p qf rf (rw there far.filled_in) wide in
+      let blank = with_at width n b pb sb nb i p qb rb (rw there far.blank_in) wide in
+      let told = cell_more (is_in n p i) (has f i) (has b i) (has pf k) (has pb k) in
+      let known = known_there n i p l within more in
+      rw (at_part n i p l within, filled, blank)
+      (grind (arith, nat_tests, told, known, seen_at len f b i l e, seen_at count pf pb k p d, long, own.apart i, far.apart k))
+
+  filled_in : (i : ℕ) → Has nf i → i < len
+  filled_in i x = grind (arith, rf.to i, qf.to i, own.filled_in i, far.filled_in (i - n), long, there)
 
   is_line : IsLine width len nf nb
   is_line = record {
     some = own.some;
     short = own.short;
     within = own.within;
-    apart = apart;
-    filled_in = λ i x. grind (arith, rf.to i, qf.to i, own.filled_in i, far.filled_in (i - n), length_seen len f b l e, length_seen count pf pb p d);
-    blank_in = λ i x. grind (arith, rb.to i, qb.to i, own.blank_in i, far.blank_in (i - n), length_seen len f b l e, length_seen count pf pb p d);
+    apart = λ i x y. grind (arith, nat_tests, each i (filled_in i x));
+    filled_in = filled_in;
+    blank_in = λ i x. grind (arith, rb.to i, qb.to i, own.blank_in i, far.blank_in (i - n), long, there);
   }
 
-  joined : line_cells len nf nb ≡ take n l ++ (p ++ drop (n + length p) l)
-  joined = line_is len nf nb _ (omega (arith, length_seen len f b l e, length-append (take n l) (p ++ drop (n + length p) l), length-append p (drop (n + length p) l), length-take-le n l, length-drop (n + length p) l)) told
+  joined : line_cells len nf nb ≡ joined_cells n p l
+  joined = line_is len nf nb _ (grind (arith, common_steps, long)) (λ i h. (each i h).0)
 
 pub invariant_of-result : goal.invariant_of-result
 invariant_of-result g c =
