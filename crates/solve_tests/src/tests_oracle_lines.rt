@@ -209,7 +209,11 @@ fn drawn_open_part_is_deduced_alike(
         return Ok(false);
     }
     let line = line_with(cells.len() as u16, &cells);
-    let answer = deduce(&mut tables, &line, &clue_between(alloc, front, &clue, back)?);
+    let answer = deduce(
+        &mut tables,
+        &line,
+        &clue_between(alloc, front, &clue, back)?,
+    );
     Ok(is_deduced(alloc, &answer, &wanted)?)
 }
 
