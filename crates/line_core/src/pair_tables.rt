@@ -125,7 +125,7 @@ impl<W: LineSet> PairTable<W> {
 
     /// Whether its line is this one.
     pub fn is_of(&self, line: &LineOf<W>) -> bool
-        ensures { IsTrue result → self.now.line ≡ Some line.now }
+        ensures { IsTrue result ↔ (self.now.line ≡ Some line.now) }
     {
         match &self.line {
             Some(old) => old.is_same(line),
