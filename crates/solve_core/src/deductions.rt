@@ -254,7 +254,7 @@ impl<W: LineSet> Deductions<W> {
         requires i { i < count_on side puzzle.now.width puzzle.now.height }
         requires memory { AreRight W.WIDTH puzzle.now self.old }
         ensures memory { AreRight W.WIDTH puzzle.now self.new }
-        ensures line { IsTrue result → (table_on side i self.new.tables).line ≡ Some line.now }
+        ensures line { IsTrue result ↔ ((table_on side i self.new.tables).line ≡ Some line.now) }
         ensures others { (s : SideValue) (k : ℕ) → (s ≡ side → k ≢ i) → table_on s k self.new.tables ≡ table_on s k self.old.tables }
     {
         self.pairs.write(&mut self.tables, puzzle, side, i, line)

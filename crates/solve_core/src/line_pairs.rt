@@ -1,6 +1,6 @@
 //! Tables of what is certain of a puzzle's lines once one more cell is known.
 
-ghost use Rattle.std.specs.Prelude.{◌≡◌, ◌≢◌, ◌<◌, ◌≤◌, ℕ, Bool, None, length, slice_index_or, IfOk, IfSome, IsTrue};
+ghost use Rattle.std.specs.Prelude.{◌≡◌, ◌↔◌, ◌≢◌, ◌<◌, ◌≤◌, ℕ, Bool, None, length, slice_index_or, IfOk, IfSome, IsTrue};
 ghost use Rattle.grid_core.specs.Nonogram.{Nonogram, crossing, line_on};
 ghost use Rattle.grid_core.specs.declared.sides.Side.{Side as SideValue};
 ghost use Rattle.grid_core.specs.declared.sides.Side.TheVariants.{Rows, Columns};
@@ -165,7 +165,7 @@ impl<W: LineSet> LinePairs<W> {
         requires fits { FitsIn W.WIDTH puzzle.now }
         requires tables { AreTablesOf puzzle.now self.old }
         ensures tables { AreTablesOf puzzle.now self.new }
-        ensures line { IsTrue result → (table_on side i self.new).line ≡ Some line.now }
+        ensures line { IsTrue result ↔ ((table_on side i self.new).line ≡ Some line.now) }
         ensures others { (s : SideValue) (k : ℕ) → (s ≡ side → k ≢ i) → table_on s k self.new ≡ table_on s k self.old }
     {
         self.written = true;

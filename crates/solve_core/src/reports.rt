@@ -52,6 +52,7 @@ fn try_unless_full<W: LineSet>(
     ensures tried { if_alive result board.new.cells ≡ trials_of (lines_of puzzle.now) board.old.cells }
     ensures rest { IsTrue result → IsAtRest puzzle.now trials.new.closer board.new.cells }
     ensures size { IsBoardOf puzzle.now board.new }
+    ensures same { IsTrue full → board.new.cells ≡ board.old.cells }
 {
     full || trials.try_at_rest(puzzle, board)
 }
@@ -107,7 +108,11 @@ fn findings<W: LineSet>(
             spent: 0,
         };
     }
-    let trial_known = board.lines().known();
+    let trial_known = if by_lines {
+        line_known
+    } else {
+        board.lines().known()
+    };
     let grade = grade(by_lines, are_known(board, trial_known));
     let mut solutions = solutions;
     let end = search(

@@ -1,6 +1,6 @@
 //! The tables of the lines of one side of a puzzle.
 
-ghost use Rattle.std.specs.Prelude.{◌≡◌, ◌≢◌, ◌<◌, ◌≤◌, ℕ, Bool, None, length, replicate, slice_index_or, All, IfOk, IfSome, IsTrue};
+ghost use Rattle.std.specs.Prelude.{◌≡◌, ◌↔◌, ◌≢◌, ◌<◌, ◌≤◌, ℕ, Bool, None, length, replicate, slice_index_or, All, IfOk, IfSome, IsTrue};
 ghost use Rattle.place_sets.specs.Masks.{Has, has, IsMarked, IsMaskOf};
 ghost use Rattle.line_core.specs.Pairs.{IsTableOf, neutral_if, no_table};
 ghost use Rattle.solve_core.specs.steps.ColourMasks.{mask_if, no_colours};
@@ -142,7 +142,7 @@ impl<W: LineSet> SideTables<W> {
         requires table { IsTableOf clue.now (slice_index_or self.old i no_table) }
         ensures table { IsTableOf clue.now (slice_index_or self.new i no_table) }
         ensures others { (k : ℕ) → k ≢ i → slice_index_or self.new k no_table ≡ slice_index_or self.old k no_table }
-        ensures line { IsTrue result → (slice_index_or self.new i no_table).line ≡ Some line.now }
+        ensures line { IsTrue result ↔ ((slice_index_or self.new i no_table).line ≡ Some line.now) }
     {
         let place = usize::from(i);
         if place >= self.tables.len() {

@@ -219,8 +219,9 @@ impl<W: LineSet> Trials<W> {
         progress
     }
 
-    /// Tries cells until a pass over all of them changes nothing: after each change first those with three known
-    /// neighbours, then with two and one, since there most colours are refuted. Returns whether the board is alive.
+    /// Tries cells until a pass over all of them changes nothing: first, until that changes nothing, those with
+    /// three known neighbours, then those with two and one too, since there most colours are refuted. Returns
+    /// whether the board is alive.
     fn try_until_same(&mut self, puzzle: &Puzzle, board: &mut Board<W>) -> bool
         requires ready { IsReady puzzle.now self.old board.old.cells }
         requires room { HasRoomFor puzzle.now self.old }
@@ -240,7 +241,7 @@ impl<W: LineSet> Trials<W> {
                     }
                     least -= 1;
                 }
-                Progress::Changed => least = 3,
+                Progress::Changed => {}
             }
         }
     }

@@ -1,7 +1,8 @@
 -- `findings`: the report is the defined one, whether lines end dead, trials end dead, or there is a search.
-use Rattle.solve_core.proofs.Names.{◌∙◌, grade_by, picked, refl, subst, sym, IsAtRest, Some, Tried}
+use Rattle.solve_core.proofs.Names.{◌≡◌, ◌∙◌, ap, count_by, is_known, grade_by, picked, refl, subst, sym, IsAtRest, Some, Tried}
 use Rattle.solve_core.proofs.ReportLaws.{report-told}
 use Rattle.solve_core.proofs.reports.findings.Goals as goal
+use Rattle.solve_core.proofs.reports.findings.Goals.{then-by_lines, else-by_lines}
 
 pub try_unless_full-requires-clause-rest : goal.try_unless_full-requires-clause-rest
 try_unless_full-requires-clause-rest g c = c.if-not-close.ensures.rest refl
@@ -16,7 +17,11 @@ returns g c =
     let p = c.args.puzzle.now in
     let graded = c.grade-grade.ensures ∙ (λ i. grade_by (c.are_known-by_lines.ensures i) (c.are_known.ensures i)) in
     let line_known = rw c.lines.ensures.lines at c.known-line_known.ensures in
-    let trial_known = rw c.lines-2.ensures.lines at c.known-trial_known.ensures in
+    let trial_known : c.if-by_lines.trial_known ≡ count_by is_known c.try_unless_full.new.board.cells = elim c.if-by_lines.branch [
+      | then-by_lines w ↦
+          w.trial_known-is ∙ line_known ∙ ap (count_by is_known) (sym (c.try_unless_full.ensures.same w.if-by_lines.true))
+      | else-by_lines w ↦ w.trial_known-is ∙ rw w.lines-else-by_lines.ensures.lines at w.known-trial_known.ensures
+    ] in
     rw (c.verdict.ensures, graded, line_known, trial_known)
     (rw (← c.search-end.ensures) at (report-told (picked c.args.pick p.width) p c.args.guesses c.args.board.now.cells
     (Some c.close.new.self.cells) (Some c.try_unless_full.new.board.cells) c.requires.unknown c.if-not-close.ensures.closed
