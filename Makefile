@@ -6,6 +6,8 @@ program $(PROGRAM):
 	cd crates/nonograde && rt run -- survey <../../puzzles/collection.txt
 test:
 	tools/gate.sh
+wrong-bodies:
+	tools/wrong_bodies.sh $(CRATES)
 look:
 	cd crates/nonograde && rt try --data heart.non=../../puzzles/heart.non -- solve heart.non
 install: $(PROGRAM)
@@ -14,4 +16,5 @@ uninstall:
 	@tools/install.sh --remove "$(DESTDIR)$(PREFIX)"
 dist: $(PROGRAM)
 	@tools/install.sh --pack out
-.PHONY: program test look install uninstall dist
+# `make wrong-bodies CRATES='line_core solve_core'` tries those of some crates, without names those of all.
+.PHONY: program test wrong-bodies look install uninstall dist
