@@ -78,6 +78,31 @@ ssize_t write(int to, const void *bytes, size_t count) {
 END
 }
 
+# A library under which reads of failing.non fail once READABLE bytes of it were read.
+make_reads() {
+    cc -O2 -shared -fPIC -x c -o reads.so - <<'END'
+#define _GNU_SOURCE
+#include <errno.h>
+#include <stdio.h>
+#include <stdlib.h>
+#include <string.h>
+#include <sys/syscall.h>
+#include <unistd.h>
+
+ssize_t read(int from, void *bytes, size_t count) {
+    static size_t given;
+    char link[40], path[4096] = "";
+    snprintf(link, sizeof link, "/proc/self/fd/%d", from);
+    if (readlink(link, path, sizeof path - 1) < 0 || !strstr(path, "/failing.non")) return syscall(SYS_read, from, bytes, count);
+    size_t left = strtoul(getenv("READABLE"), NULL, 10) - given;
+    if (left == 0) return errno = EIO, -1;
+    ssize_t taken = syscall(SYS_read, from, bytes, count < left ? count : left);
+    given += taken > 0 ? taken : 0;
+    return taken;
+}
+END
+}
+
 # Makes the files that the program is to read.
 make_files() {
     local ones
@@ -92,6 +117,7 @@ make_files() {
     ones=$(repeated 127 1,)1
     non_text 256 256 "$ones" "$ones" >ones.non
     non_text 256 256 256 256 >full.non
+    cp ones.non failing.non
     mkdir folder.non
     mkfifo fifo.non pipe
     ln -s /dev/zero zeros.non
@@ -193,6 +219,13 @@ input_from() {
 # Writes to standard error are slow, and the first COUNT of them fail.
 errors_slow() {
     local limits=(env LD_PRELOAD=./writes.so FAILING="$1")
+    shift
+    ordinary "$@"
+}
+
+# The first COUNT bytes of failing.non are read, and then it can't be read.
+file_failing() {
+    local limits=(env LD_PRELOAD=./reads.so READABLE="$1")
     shift
     ordinary "$@"
 }
@@ -365,6 +398,7 @@ far=$(repeated 1994 ./).//heart.non
 long=$(repeated 4000 n)
 two_lines=$'two\nlines.non'
 make_writes
+make_reads
 make_files
 make_texts
 
@@ -424,6 +458,11 @@ for words in survey 'survey heart.non' lines solve 'convert --to mk'; do
         try ordinary Read - $words "$file"
     done
 done
+for words in 'survey heart.non' lines solve 'convert --to mk'; do
+    for count in 0 5 9000; do
+        try file_failing:$count Read - $words failing.non
+    done
+done
 for words in lines solve 'convert --to mk'; do
     try ordinary TooLong - $words zeros.non
     try ordinary UnknownFormat - $words zeros
@@ -461,6 +500,11 @@ if [ ${#another[@]} -gt 0 ]; then
         try threads:$most Thread - survey --lanes 4
     done
     try threads:5 - survey survey --lanes 4
+    try threads:4 Thread - survey
+    try threads:5 - survey survey
+    try threads:16 Thread - survey --lanes 16
+    try threads:17 - survey survey --lanes 16
+    try threads:2 - survey survey --lanes 1
     try threads:2 Thread - survey --lanes 4 $(lines 300 heart.non)
     try threads:5 - surveyed_300 survey --lanes 4 $(lines 300 heart.non)
 else

@@ -7,7 +7,8 @@
  * standard error, as `swept N`.
  *
  * Another program has the growth refused whose number is in SWEEP_GROWTH, from 1, and the refusal is told on
- * file descriptor 9.
+ * file descriptor 9. With SWEEP_BYTES nothing is refused, and the number of all bytes that were requested so far
+ * stands in the file of descriptor 9.
  *
  * cc -O2 -shared -fPIC sweep.c -o sweep.so -ldl
  * LD_PRELOAD=./sweep.so TESTS NAME
@@ -32,6 +33,9 @@ static atomic_long wanted;
 static atomic_long swept;
 static atomic_int was_refused;
 static int tells;
+static size_t requested;
+static pthread_mutex_t adding = PTHREAD_MUTEX_INITIALIZER;
+static int adds;
 
 static void tell(int to, const char *text) { (void)!write(to, text, strlen(text)); }
 
@@ -65,8 +69,20 @@ static int end(void) {
     return atomic_load(&was_refused);
 }
 
+/* Adds a request to the number of bytes that were requested. */
+static void add(size_t size) {
+    char line[32];
+    if (!adds) return;
+    pthread_mutex_lock(&adding);
+    requested += size;
+    snprintf(line, sizeof line, "%zu\n", requested);
+    (void)!pwrite(9, line, strlen(line), 0);
+    pthread_mutex_unlock(&adding);
+}
+
 __attribute__((constructor)) static void begin_by_number(void) {
     const char *number = getenv("SWEEP_GROWTH");
+    adds = getenv("SWEEP_BYTES") != NULL;
     if (!number) return;
     tells = 1;
     begin(atol(number));
@@ -75,6 +91,7 @@ __attribute__((constructor)) static void begin_by_number(void) {
 void *malloc(size_t size) {
     static void *(*real)(size_t);
     if (!real) real = (void *(*)(size_t))dlsym(RTLD_NEXT, "malloc");
+    add(size);
     if (!tells && size >= SIGN && size - SIGN < MOST) {
         begin((long)(size - SIGN));
         return NULL;
@@ -86,6 +103,7 @@ void *malloc(size_t size) {
 void *realloc(void *old, size_t size) {
     static void *(*real)(void *, size_t);
     if (!real) real = (void *(*)(void *, size_t))dlsym(RTLD_NEXT, "realloc");
+    add(size);
     return refused() ? NULL : real(old, size);
 }
 

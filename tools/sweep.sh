@@ -4,10 +4,14 @@
 # compiler. Its last line is `N passed, M failed`.
 #
 # tools/sweep.txt has a line for each test, its crate, its name and the least number of refusals that is
-# expected of it, and one for each command line, `program`, that number and the words. A test passes if it
-# ends well. A command line passes if each run prints the usual bytes and ends with status 0, or prints
-# nothing, says `nonograde: NoMemory` (of a survey also `nonograde: Thread`) and ends with status 1. Both fail
-# if fewer growths were refused than expected: then the tool wasn't loaded, or the call is another one.
+# expected of it, and one for each command line, `program`, that number and the words; `program:FAULT` stands in
+# place of `program` if the program ends with that fault, `program:refused` if it refuses the words. A test passes if
+# it ends well. A command line passes if each run prints the usual bytes on both streams and ends with the usual
+# status, or prints nothing, says `nonograde: NoMemory` (of a survey also `nonograde: Thread`) and ends with status 1.
+# Both fail if fewer growths were refused than expected: then the tool wasn't loaded, or the call is another one.
+#
+# Last, a survey takes more memory with more lanes, and with greater rings, than with the usual number, and less with
+# less.
 # shellcheck source-path=SCRIPTDIR source=common.sh
 . "$(dirname "$0")/common.sh"
 cd "$tools/.." || exit
@@ -30,37 +34,65 @@ sweep_test() {
     fi
 }
 
-# What is wrong with a run of a command line, whose status is given; nothing if all is well.
+# Makes the files that a command line may name beside puzzles/: a puzzle that has no text in `.nin`, and texts that
+# are too long.
+make_files() {
+    local name
+    ln -s "$top/puzzles" "$room/puzzles"
+    printf '1 2\n1\n#\n1\n2\n' >"$room/flat.mk"
+    for name in long.non long.mk long.nin long; do
+        head -c 1048577 /dev/zero | tr '\0' '\n' >"$room/$name"
+    done
+}
+
+# Runs the program with further variables on its words. Its status is that of the program.
+run() {
+    (cd "$room" && timeout 60 env "$@" <"$top/puzzles/collection.txt" >printed 2>said 9>told)
+}
+
+# What is wrong with how a command line ends with ample memory: how it is to end, and its status.
+wrong_usual() {
+    case "$1" in
+        program) [ "$2" = 0 ] && [ ! -s "$room/said" ] ;;
+        *:refused) [ "$2" = 2 ] && [ ! -s "$room/printed" ] && [ -s "$room/said" ] ;;
+        *) [ "$2" = 1 ] && [ ! -s "$room/printed" ] && [ "$(<"$room/said")" = "nonograde: ${1#*:}" ] ;;
+    esac || echo "status $2 with ample memory, and it said $(<"$room/said")"
+}
+
+# What is wrong with a run of a command line: its status, and the usual one; nothing if all is well.
 wrong_with() {
-    local status=$1 said
+    local said
     said=$(<"$room/said")
-    if [ "$status" = 0 ]; then
+    if [ "$1" = "$2" ] && cmp -s "$room/said" "$room/usual_said"; then
         cmp -s "$room/printed" "$room/usual" || echo "it printed something else"
-        [ -z "$said" ] || echo "it said $said"
         return
     fi
-    [ "$status" = 1 ] || echo "status $status"
-    [ ! -s "$room/printed" ] || echo "it printed something and ended with status $status"
+    [ "$1" = 1 ] || echo "status $1"
+    [ ! -s "$room/printed" ] || echo "it printed something and ended with status $1"
     case "$command $said" in
         *' nonograde: NoMemory' | 'survey nonograde: Thread') ;;
         *) echo "it said $said" ;;
     esac
 }
 
-# Sweeps a command line of the program.
+# Sweeps a command line of the program: how it is to end, the least number of refusals, and the words.
 sweep_program() {
-    local least=$1 command=$2 growth=0 wrong status
-    shift
-    "$program" "$@" <"$input" >"$room/usual" 2>"$room/said" || {
-        count "$*" "status $? with ample memory"
+    local least=$2 command=$3 growth=0 wrong status usual
+    run "$program" "${@:3}"
+    usual=$?
+    wrong=$(wrong_usual "$1" $usual)
+    shift 2
+    if [ -n "$wrong" ]; then
+        count "$*" "$wrong"
         return
-    }
+    fi
+    mv "$room/printed" "$room/usual"
+    mv "$room/said" "$room/usual_said"
     while :; do
         growth=$((growth + 1))
-        timeout 60 env SWEEP_GROWTH=$growth LD_PRELOAD="$room/sweep.so" "$program" "$@" \
-            <"$input" >"$room/printed" 2>"$room/said" 9>"$room/told"
+        run SWEEP_GROWTH=$growth LD_PRELOAD="$room/sweep.so" "$program" "$@"
         status=$?
-        wrong=$(wrong_with $status)
+        wrong=$(wrong_with $status $usual)
         if [ -n "$wrong" ]; then
             count "$*" "with growth $growth refused: $wrong"
             return
@@ -71,28 +103,45 @@ sweep_program() {
     echo "nonograde $*: $growth refused"
     if [ $growth -lt "$least" ]; then
         count "$*" "$growth refused, and not $least"
-    elif [ $status != 0 ]; then
+    elif [ $status != $usual ]; then
         count "$*" "status $status with nothing refused"
     else
         count "$*" ""
     fi
 }
 
+# How many bytes a survey requests with these options.
+bytes_with() {
+    run SWEEP_BYTES=1 LD_PRELOAD="$room/sweep.so" "$program" survey "$@" puzzles/switch.mk || echo "status $?"
+    cat "$room/told"
+}
+
+# Counts whether a survey requests more bytes with each greater number of an option, whose usual number is in the
+# middle.
+compare_bytes() {
+    local option=$1 least=$2 below=$3 above=$4 most=$5 given
+    given=$(bytes_with "$option=$least" && bytes_with "$option=$below" && bytes_with && bytes_with "$option=$above" &&
+        bytes_with "$option=$most")
+    count "bytes by $option" "$([ "$(sort -nu <<<"$given" | grep -c '[0-9]')" = 5 ] && sort -nc <<<"$given" 2>&1 || echo "$given")"
+}
+
 cc -O2 -shared -fPIC tools/sweep.c -o "$room/sweep.so" -ldl || {
     echo "0 passed, 1 failed"
     exit 1
 }
-input=$top/puzzles/collection.txt
+make_files
 while read -r crate name rest; do
     case "$crate" in
         '' | '#') ;;
-        program)
+        program*)
             # shellcheck disable=SC2086 # The words of the command line.
-            sweep_program "$name" $rest
+            sweep_program "$crate" "$name" $rest
             ;;
         *) sweep_test "$crate" "$name" "$rest" ;;
     esac
 done <tools/sweep.txt
+compare_bytes --lanes 1 3 5 16
+compare_bytes --ring 1 7 9 64
 
 # No test of refused growths is left out.
 for tests in crates/*/out/*_tests; do

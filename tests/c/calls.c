@@ -1,5 +1,6 @@
-/* Calls the library as a C program would: each status, rooms of each size, and threads side by side. Prints the number
- * of checks that passed and failed. Linked with --wrap=malloc and --wrap=realloc, so that memory can be refused. */
+/* Calls the library as a C program would: each status, rooms of each size, threads side by side, and each allocation
+ * failing in turn. Prints the number of checks that passed and failed. Linked with --wrap=malloc and --wrap=realloc, so
+ * that memory can be refused. */
 #include "nonograde.h"
 
 #include <pthread.h>
@@ -12,14 +13,20 @@ enum { THREADS = 8, CALLS = 1000, ROOM = 4096 };
 static int passed, failed;
 static _Thread_local int refuses;
 
+/* The number of allocations up to the one that fails, counted from the next one; 0 if none does. */
+static _Thread_local int until_failure;
+
 void *__real_malloc(size_t size);
 void *__real_realloc(void *old, size_t size);
 void *__wrap_malloc(size_t size);
 void *__wrap_realloc(void *old, size_t size);
 
-void *__wrap_malloc(size_t size) { return refuses ? NULL : __real_malloc(size); }
+/* Whether the next allocation fails. */
+static int fails(void) { return refuses || (until_failure > 0 && --until_failure == 0); }
 
-void *__wrap_realloc(void *old, size_t size) { return refuses ? NULL : __real_realloc(old, size); }
+void *__wrap_malloc(size_t size) { return fails() ? NULL : __real_malloc(size); }
+
+void *__wrap_realloc(void *old, size_t size) { return fails() ? NULL : __real_realloc(old, size); }
 
 static void check(int holds, const char *what) {
     if (holds) {
@@ -117,6 +124,85 @@ static void check_rooms(void) {
     }
 }
 
+#define DEMO_CLUES "2\n2,1\n1,1\n3\n1,1\n1,1\n2\n1,1\n1,2\n2\n\ncolumns\n2,1\n2,1,3\n7\n1,3\n2,1\n"
+#define DEMO_GOAL "goal \"01100011010010101110101001010000110010100101111000\"\n"
+#define DEMO "title \"Demo\"\nwidth 5\nheight 10\n\nrows\n" DEMO_CLUES "\n" DEMO_GOAL
+#define DEMO_GRID ".##..\n.##.#\n..#.#\n.###.\n#.#..\n#.#..\n..##.\n.#.#.\n.#.##\n##...\n"
+#define PAIR "2 4\n2\n1 1\n#\n1\n1\n1\n1\n"
+
+enum kind { SOLVE, LINES, CONVERT };
+
+/* A call with its settings, and its answer if no allocation fails. */
+struct call {
+    enum kind kind;
+    uint32_t setting;
+    const char *name, *text, *wanted;
+    uint32_t status;
+};
+
+static nonograde_reply reply_to(const struct call *call, uint8_t *room) {
+    const uint8_t *name = (const uint8_t *)call->name, *text = (const uint8_t *)call->text;
+    size_t name_length = strlen(call->name), text_length = strlen(call->text);
+    switch (call->kind) {
+    case SOLVE:
+        return nonograde_solve(name, name_length, text, text_length, call->setting, NONOGRADE_FIRST, room, ROOM);
+    case LINES:
+        return nonograde_lines(name, name_length, text, text_length, room, ROOM);
+    default:
+        return nonograde_convert(name, name_length, text, text_length, call->setting, room, ROOM);
+    }
+}
+
+/* Each allocation of a call fails in turn. Each time the answer is NoMemory or the usual one, and the next call has the
+ * usual answer. */
+static void check_failures(void) {
+    static const struct call calls[] = {
+        {LINES, 0, "demo.non", DEMO, "one 50\n" DEMO_GRID, NONOGRADE_OK},
+        {SOLVE, 1000, "demo.non", DEMO, "1 5x10 one line 50 50 0 meets demo.non\n" DEMO_GRID "\n", NONOGRADE_OK},
+        {SOLVE, 2, "two.nin", TWO, TWO_SOLVED, NONOGRADE_OK},
+        {CONVERT, NONOGRADE_NON, "demo.non", DEMO, DEMO, NONOGRADE_OK},
+        {CONVERT, NONOGRADE_NIN, "demo.non", DEMO,
+         "5 10\n2\n2 1\n1 1\n3\n1 1\n1 1\n2\n1 1\n1 2\n2\n2 1\n2 1 3\n7\n1 3\n2 1\n", NONOGRADE_OK},
+        {CONVERT, NONOGRADE_MK, "pair.mk", PAIR, PAIR, NONOGRADE_OK},
+        {CONVERT, NONOGRADE_NIN, "flat.mk", "1 2\n1\n#\n1\n2\n", "Ambiguous", NONOGRADE_AMBIGUOUS},
+    };
+    uint8_t room[ROOM];
+    for (size_t i = 0; i < sizeof calls / sizeof *calls; i++) {
+        const struct call *call = &calls[i];
+        int holds = 1, failures = -1, failed_allocation;
+        do {
+            failures++;
+            until_failure = failures + 1;
+            nonograde_reply reply = reply_to(call, room);
+            failed_allocation = until_failure == 0;
+            until_failure = 0;
+            holds = holds && (is(reply, call->status, room, call->wanted) ||
+                              (failed_allocation && is(reply, NONOGRADE_NO_MEMORY, room, "NoMemory")));
+            holds = holds && is(reply_to(call, room), call->status, room, call->wanted);
+        } while (failed_allocation);
+        check(holds && failures > 1, call->name);
+    }
+}
+
+/* With all allocations failing these faults are still reported. */
+static void check_faults_without_memory(void) {
+    static char blank[1048578];
+    memset(blank, '\n', sizeof blank - 1);
+    const struct call calls[] = {
+        {LINES, 0, "a.non", blank, "TooLong", NONOGRADE_TOO_LONG},
+        {SOLVE, 1000, "a.mk", blank, "TooLong", NONOGRADE_TOO_LONG},
+        {CONVERT, NONOGRADE_NON, "a.nin", blank, "TooLong", NONOGRADE_TOO_LONG},
+        {LINES, 0, "a", blank, "UnknownFormat", NONOGRADE_UNKNOWN_FORMAT},
+    };
+    uint8_t room[ROOM];
+    for (size_t i = 0; i < sizeof calls / sizeof *calls; i++) {
+        refuses = 1;
+        nonograde_reply reply = reply_to(&calls[i], room);
+        refuses = 0;
+        check(is(reply, calls[i].status, room, calls[i].wanted), "a fault without memory");
+    }
+}
+
 static void *call_often(void *wrong) {
     uint8_t room[ROOM];
     for (int i = 0; i < CALLS; i++) {
@@ -142,6 +228,8 @@ static void check_threads(void) {
 int main(void) {
     check_statuses();
     check_other_calls();
+    check_failures();
+    check_faults_without_memory();
     check_rooms();
     check_threads();
     printf("%d passed, %d failed\n", passed, failed);

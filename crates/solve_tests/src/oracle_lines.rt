@@ -1,5 +1,7 @@
 //! What `docs/solving.md` says of one line ("Lines", "What is meant"), written a second time, for tests, in
 //! the plainest way: all full lines are listed. Nothing here is shared with the deduction but `Cell`.
+//!
+//! A full line is a number whose bit k says whether cell k is filled.
 
 use grid_core::Cell;
 use std::alloc::{AllocError, Global};
@@ -7,112 +9,81 @@ use std::alloc::{AllocError, Global};
 /// The cells of a line from one end to the other, or those of a grid in row order.
 pub type Cells = Vec<Cell>;
 
-/// Adds a full line with a cell more to some.
-fn push_longer(
-    lines: &mut Vec<Cells>,
-    line: &[Cell],
-    cell: Cell,
-    alloc: Global,
-) -> Result<(), AllocError> {
-    let mut longer = line.to_vec(alloc)?;
-    longer.push(cell)?;
-    lines.push(longer)?;
-    Ok(())
-}
-
-/// Each of some full lines with a filled cell more, and with a blank cell more.
-fn longer_lines(alloc: Global, lines: &[Cells]) -> Result<Vec<Cells>, AllocError> {
-    let mut longer = Vec::new(alloc);
-    for line in lines {
-        push_longer(&mut longer, line, Cell::Filled, alloc)?;
-        push_longer(&mut longer, line, Cell::Blank, alloc)?;
-    }
-    Ok(longer)
-}
-
-/// All full lines of a length.
-pub fn full_lines(alloc: Global, len: usize) -> Result<Vec<Cells>, AllocError> {
-    let mut lines = vec![in alloc; Vec::new(alloc)]?;
+/// Returns the lengths of the runs of filled cells of a full line of `len` cells, in order.
+pub fn runs(alloc: Global, len: u16, full: u64) -> Result<Vec<u16>, AllocError> {
+    let mut lengths = Vec::new(alloc);
+    let mut length = 0u16;
+    let mut rest = full;
     for _ in 0..len {
-        lines = longer_lines(alloc, &lines)?;
+        if rest % 2 == 1 {
+            length = length.wrapping_add(1);
+        } else if length > 0 {
+            lengths.push(length)?;
+            length = 0;
+        }
+        rest /= 2;
+    }
+    if length > 0 {
+        lengths.push(length)?;
+    }
+    Ok(lengths)
+}
+
+/// Returns all full lines of `len` cells whose runs are `clue`.
+pub fn full_lines(alloc: Global, len: u16, clue: &[u16]) -> Result<Vec<u64>, AllocError> {
+    let mut lines = Vec::new(alloc);
+    for full in 0..1u64.wrapping_shl(u32::from(len)) {
+        let runs = runs(alloc, len, full)?;
+        if runs.as_slice() == clue {
+            lines.push(full)?;
+        }
     }
     Ok(lines)
 }
 
-/// Whether the lengths of a full line's runs of filled cells are these numbers, in order.
-pub fn has_runs(full: &[Cell], numbers: &[u16]) -> bool {
-    full.split(|cell| *cell == Cell::Blank)
-        .map(|run| run.len())
-        .filter(|len| *len > 0)
-        .eq(numbers.iter().map(|number| usize::from(*number)))
-}
-
-/// Those of all full lines of a length whose runs are a clue.
-pub fn lines_of_clue(
-    alloc: Global,
-    full_lines: &[Cells],
-    numbers: &[u16],
-) -> Result<Vec<Cells>, AllocError> {
-    full_lines
-        .iter()
-        .filter(|full| has_runs(full, numbers))
-        .map(|full| full.clone())
-        .try_collect(alloc)
-}
-
-/// Whether a full line has a line's colour wherever the line is known.
-fn agrees(full: &[Cell], line: &[Cell]) -> bool {
-    for (colour, cell) in full.iter().zip(line) {
-        if !cell.is_unknown() && cell != colour {
+/// Returns whether a full line has the colour of each known cell of `line`.
+fn agrees(full: u64, line: &[Cell]) -> bool {
+    let mut rest = full;
+    for cell in line {
+        if cell.is_known() && *cell != Cell::of_colour(rest % 2 == 1) {
             return false;
         }
+        rest /= 2;
     }
     true
 }
 
-/// What is certain of the cell at a place: its colour, if all placings give it the same.
-fn certain_cell(placings: &[&[Cell]], place: usize) -> Cell {
-    let filled = placings
-        .iter()
-        .filter(|placing| placing.get(place) == Some(&Cell::Filled))
-        .count();
-    if filled == placings.len() {
-        Cell::Filled
-    } else if filled == 0 {
-        Cell::Blank
-    } else {
-        Cell::Unknown
-    }
-}
-
-/// The placings of a line: those of its clue's full lines that agree with it.
-fn placings<'a>(
-    alloc: Global,
-    line: &[Cell],
-    lines_of_clue: &'a [Cells],
-) -> Result<Vec<&'a [Cell]>, AllocError> {
-    let mut placings = Vec::new(alloc);
-    for full in lines_of_clue {
-        if agrees(full, line) {
-            placings.push(full.as_slice())?;
-        }
-    }
-    Ok(placings)
-}
-
-/// The deduced line: what all placings share. `None` if there is none.
+/// Returns the deduced line: what all placings share, which are those of its clue's full lines that agree
+/// with it. `None` if there is no placing.
 pub fn deduced(
     alloc: Global,
     line: &[Cell],
-    lines_of_clue: &[Cells],
+    full_lines: &[u64],
 ) -> Result<Option<Cells>, AllocError> {
-    let placings = placings(alloc, line, lines_of_clue)?;
-    if placings.is_empty() {
+    let mut has_placing = false;
+    let mut sometimes_filled = 0u64;
+    let mut sometimes_blank = 0u64;
+    for full in full_lines {
+        if agrees(*full, line) {
+            has_placing = true;
+            sometimes_filled = sometimes_filled | *full;
+            sometimes_blank = sometimes_blank | !*full;
+        }
+    }
+    if !has_placing {
         return Ok(None);
     }
-    let mut certain = Vec::new(alloc);
-    for place in 0..line.len() {
-        certain.push(certain_cell(&placings, place))?;
+    let mut cells = Vec::new(alloc);
+    for _ in 0..line.len() {
+        cells.push(
+            match (sometimes_filled % 2 == 1, sometimes_blank % 2 == 1) {
+                (true, false) => Cell::Filled,
+                (false, true) => Cell::Blank,
+                _ => Cell::Unknown,
+            },
+        )?;
+        sometimes_filled /= 2;
+        sometimes_blank /= 2;
     }
-    Ok(Some(certain))
+    Ok(Some(cells))
 }

@@ -1,75 +1,264 @@
-//! Tests of single lines: of their cells, and of what differs between two.
+//! Tests of single lines.
 
 ghost use Rattle.std.specs.Prelude.{◌≤◌};
 
-use crate::test_draws::Draws;
-use grid_core::{Cell, Clue};
-use line_core::{Line, LineOf, LineSet, Tables};
-use place_sets::{PlaceSet, Wide, spread, starts_within};
-use std::alloc::Global;
+use crate::oracle_lines::{Cells, deduced, full_lines, runs};
+use crate::test_puzzles::{Draws, numbered_cells, push_partly_known};
+use grid_core::{Cell, Clue, LONGEST_SIDE};
+use line_core::*;
+use place_sets::{PlaceSet, Wide};
+use std::alloc::{AllocError, Global};
 use std::test::Fail;
 
-/// Whether these are the places at which two lines of 256 cells differ.
-fn are_changes(line: &LineOf<Wide>, other: &LineOf<Wide>, places: &[u16]) -> bool {
-    if line.len() != other.len() {
-        return false;
+/// Returns the line with these cells, of which there are 1 to 256.
+fn line_with(cells: &[Cell]) -> Option<Line> {
+    if cells.is_empty() || cells.len() > 256 {
+        return None;
     }
-    let changes = line.changes(other);
-    (0..line.len()).all(|i| changes.contains(i) == places.contains(&i))
+    let mut line = Line::unknown(cells.len() as u16);
+    for i in 0..line.len() {
+        if i < line.len() {
+            let cell = cells.get(usize::from(i)).copied().unwrap_or(Cell::Unknown);
+            line.set(i, cell);
+        }
+    }
+    Some(line)
 }
 
+/// Returns whether these are the cells of a line.
+pub(crate) fn has_cells(line: &Line, cells: &[Cell]) -> bool {
+    for i in 0..line.len() {
+        if cells.get(usize::from(i)).copied() != Some(line.get(i)) {
+            return false;
+        }
+    }
+    cells.len() == usize::from(line.len())
+}
+
+/// Returns whether what is deduced of the line with these cells is what is wanted, which is `None` if it is
+/// dead.
+fn is_deduced(
+    alloc: Global,
+    cells: &[Cell],
+    numbers: &[u16],
+    wanted: Option<&Cells>,
+) -> Result<bool, Fail> {
+    let Some(line) = line_with(cells) else {
+        return Ok(false);
+    };
+    let mut tables = Tables::new(alloc, line.len())?;
+    let clue = Clue::from_numbers(alloc, numbers)?;
+    Ok(match (deduce(&mut tables, &line, &clue), wanted) {
+        (Some(answer), Some(cells)) => has_cells(&answer, cells),
+        (None, None) => true,
+        _ => false,
+    })
+}
+
+/// Lengths, how many full lines of two cells more there are, and how many lines.
+static LENGTHS: [(u16, u64, u32); 6] = [
+    (1, 8, 3),
+    (2, 16, 9),
+    (3, 32, 27),
+    (4, 64, 81),
+    (5, 128, 243),
+    (6, 256, 729),
+];
+
+/// All lines of up to 6 cells, with the clues of all full lines of two cells more: those that fit, and
+/// others.
 #[test]
-fn changes_are_found(rt: HostRuntime) -> Result<(), Fail> {
-    let line = LineOf::<Wide>::unknown(256);
-    let mut other = line.copy();
-    assert!(rt; are_changes(&line, &other, &[]), "no change");
-    other.set(0, Cell::Filled);
-    other.set(127, Cell::Blank);
-    other.set(128, Cell::Filled);
-    other.set(255, Cell::Blank);
-    assert!(rt; are_changes(&line, &other, &[0, 127, 128, 255]), "changes");
-    other.set(127, Cell::Unknown);
-    assert!(rt; are_changes(&line, &other, &[0, 128, 255]), "one less");
-    let mut filled = other.copy();
-    filled.set(255, Cell::Filled);
-    assert!(rt; are_changes(&other, &filled, &[255]), "another colour");
+fn short_lines_are_deduced_alike(rt: HostRuntime) -> Result<(), Fail> {
+    let alloc = rt.alloc();
+    for &(len, clues, lines) in &LENGTHS {
+        for full in 0..clues {
+            let numbers = runs(alloc, len.wrapping_add(2), full)?;
+            let full_lines = full_lines(alloc, len, &numbers)?;
+            for number in 0..lines {
+                let cells = numbered_cells(alloc, usize::from(len), number)?;
+                let wanted = deduced(alloc, &cells, &full_lines)?;
+                assert!(rt;
+                    is_deduced(alloc, &cells, &numbers, wanted.as_ref())?,
+                    "{len}: {full}, {number}"
+                );
+            }
+        }
+    }
     Ok(())
 }
 
-/// Whether a line, which another is not, becomes that, and their hashes are one.
-fn becomes(line: &mut LineOf<u128>, other: &LineOf<u128>) -> bool {
-    if line.len() != other.len() || line.is_same(other) {
-        return false;
-    }
-    line.copy_from(other);
-    line.is_same(other) && line.hash() == other.hash()
-}
+/// The known cells at an end of a line but the innermost, which is blank: how many there are, and a full
+/// line of them.
+type End = (u16, u64);
 
-#[test]
-fn a_line_becomes_another(rt: HostRuntime) -> Result<(), Fail> {
-    let mut line = LineOf::<u128>::unknown(100);
-    line.set(99, Cell::Blank);
-    let mut other = LineOf::<u128>::unknown(100);
-    other.set(0, Cell::Filled);
-    assert!(rt; becomes(&mut line, &other));
-    assert!(rt; line.len() == 100, "its length");
-    assert!(rt;
-        line.get(0) == Cell::Filled && line.get(99) == Cell::Unknown,
-        "its cells"
-    );
+/// Appends the cells of an end.
+fn push_end(cells: &mut Cells, end: End) -> Result<(), AllocError> {
+    let (len, full) = end;
+    let mut rest = full;
+    for _ in 0..len {
+        cells.push(Cell::of_colour(rest % 2 == 1))?;
+        rest /= 2;
+    }
     Ok(())
 }
 
-/// The next state of a cell, of three.
-fn next_cell(cell: Cell) -> Cell {
-    match cell {
-        Cell::Unknown => Cell::Filled,
-        Cell::Filled => Cell::Blank,
-        Cell::Blank => Cell::Unknown,
+/// Returns cells between two ends.
+fn between(alloc: Global, front: End, cells: &[Cell], back: End) -> Result<Cells, AllocError> {
+    let mut all = Vec::new(alloc);
+    push_end(&mut all, front)?;
+    all.push(Cell::Blank)?;
+    for cell in cells {
+        all.push(*cell)?;
     }
+    all.push(Cell::Blank)?;
+    push_end(&mut all, back)?;
+    Ok(all)
 }
 
-/// How many hashes 1,000 lines have, each of which differs from the one before in one cell.
+/// Returns whether a line is deduced alike once it stands between two known ends.
+fn is_deduced_between(
+    alloc: Global,
+    front: End,
+    cells: &[Cell],
+    numbers: &[u16],
+    back: End,
+    wanted: Option<&Cells>,
+) -> Result<bool, Fail> {
+    let all = between(alloc, front, cells, back)?;
+    let wanted = match wanted {
+        None => None,
+        Some(cells) => Some(between(alloc, front, cells, back)?),
+    };
+    let mut all_numbers = runs(alloc, front.0, front.1)?;
+    for number in numbers {
+        all_numbers.push(*number)?;
+    }
+    for number in &runs(alloc, back.0, back.1)? {
+        all_numbers.push(*number)?;
+    }
+    is_deduced(alloc, &all, &all_numbers, wanted.as_ref())
+}
+
+/// Pseudorandom lines of 7 to 12 cells, alone and between known ends.
+#[test]
+fn drawn_lines_are_deduced_alike(rt: HostRuntime) -> Result<(), Fail> {
+    let alloc = rt.alloc();
+    let mut draws = Draws(1);
+    for round in 0..3_000u32 {
+        let len = (draws.draw() % 6) as u16 + 7;
+        let full = draws.draw();
+        let numbers = runs(alloc, len, full)?;
+        let full_lines = full_lines(alloc, len, &numbers)?;
+        let mut cells = Vec::new(alloc);
+        push_partly_known(&mut cells, usize::from(len), full, 32, &mut draws)?;
+        let wanted = deduced(alloc, &cells, &full_lines)?;
+        assert!(rt;
+            is_deduced(alloc, &cells, &numbers, wanted.as_ref())?,
+            "{round}"
+        );
+        let front = ((draws.draw() % 120) as u16, draws.draw());
+        let back = ((draws.draw() % 120) as u16, draws.draw());
+        assert!(rt;
+            is_deduced_between(alloc, front, &cells, &numbers, back, wanted.as_ref())?,
+            "{round}, between ends"
+        );
+    }
+    Ok(())
+}
+
+/// Returns whether these are the starts of the leftmost and of the rightmost placing, whatever starts were
+/// left before, or whether there is no placing, if `is_alive` is false.
+fn start_at(
+    line: &Line,
+    clue: &Clue,
+    starts: &mut Starts,
+    is_alive: bool,
+    left: &[u16],
+    right: &[u16],
+) -> bool {
+    let is_left = leftmost(line, clue, starts) == is_alive && starts.list() == left;
+    let is_right = rightmost(line, clue, starts) == is_alive && starts.list() == right;
+    is_left && is_right
+}
+
+/// Returns the cells that a text stands for: `#` filled, `.` blank, and all others unknown.
+fn cells_drawn(alloc: Global, text: &[u8]) -> Result<Cells, AllocError> {
+    let mut cells = Vec::new(alloc);
+    for byte in text {
+        cells.push(match *byte {
+            b'#' => Cell::Filled,
+            b'.' => Cell::Blank,
+            _ => Cell::Unknown,
+        })?;
+    }
+    Ok(cells)
+}
+
+/// Returns whether runs at both ends of a line start where they should and are deduced, and runs that don't
+/// fit start nowhere.
+fn ends_start_well(alloc: Global, len: u16, starts: &mut Starts) -> Result<bool, Fail>
+    requires { (10 ≤ len) × (len ≤ LONGEST_SIDE) }
+{
+    let mut line = Line::unknown(len);
+    let pair = Clue::from_numbers(alloc, &[2, 2])?;
+    let is_free = start_at(&line, &pair, starts, true, &[0, 3], &[len - 5, len - 2]);
+    let long = Clue::from_numbers(alloc, &[len - 1, 1])?;
+    let is_dead = start_at(&line, &long, starts, false, &[], &[]);
+    line.set(0, Cell::Filled);
+    line.set(len - 1, Cell::Filled);
+    let is_held = start_at(&line, &pair, starts, true, &[0, len - 2], &[0, len - 2]);
+    let mut tables = Tables::new(alloc, len)?;
+    let Some(answer) = deduce(&mut tables, &line, &pair) else {
+        return Ok(false);
+    };
+    for i in 0..answer.len() {
+        let is_filled = i < 2 || len - 2 <= i;
+        if answer.get(i) != Cell::of_colour(is_filled) {
+            return Ok(false);
+        }
+    }
+    Ok(is_free && is_dead && is_held)
+}
+
+/// A line, a clue, whether there is a placing, and the starts of the leftmost and of the rightmost one.
+type Row = (
+    &'static [u8],
+    &'static [u16],
+    bool,
+    &'static [u16],
+    &'static [u16],
+);
+
+static ROWS: [Row; 8] = [
+    (b"?????", &[3], true, &[0], &[2]),
+    (b"??#??", &[1, 1], true, &[0, 2], &[2, 4]),
+    (b"???", &[2, 2], false, &[], &[]),
+    (b"???", &[], true, &[], &[]),
+    (b"?#?", &[], false, &[], &[]),
+    (b"?.?#??.", &[1, 2], true, &[0, 2], &[0, 3]),
+    (b"#", &[1], true, &[0], &[0]),
+    (b"??????????", &[3, 4], true, &[0, 4], &[2, 6]),
+];
+
+#[test]
+fn starts_come_out(rt: HostRuntime) -> Result<(), Fail> {
+    let alloc = rt.alloc();
+    let mut starts = Starts::new(alloc)?;
+    for (number, (text, numbers, is_alive, left, right)) in ROWS.iter().enumerate() {
+        let clue = Clue::from_numbers(alloc, numbers)?;
+        let line = line_with(&cells_drawn(alloc, text)?).ok_or("line")?;
+        assert!(rt;
+            start_at(&line, &clue, &mut starts, *is_alive, left, right),
+            "row {number}"
+        );
+    }
+    for len in [63u16, 256, 64, 255, 65, 129, 127, 128] {
+        assert!(rt; ends_start_well(alloc, len, &mut starts)?, "{len}");
+    }
+    Ok(())
+}
+
+/// Returns how many hashes 1,000 lines have, each of which differs from the one before in one cell.
 fn hashes<W: PlaceSet>(alloc: Global, len: u16) -> Result<usize, Fail>
     requires { (1 ≤ len) × (len ≤ W.WIDTH) }
 {
@@ -77,8 +266,13 @@ fn hashes<W: PlaceSet>(alloc: Global, len: u16) -> Result<usize, Fail>
     let mut line = LineOf::<W>::unknown(len);
     let mut hashes = Vec::new(alloc);
     for _ in 0..1000 {
-        let place = (draws.draw() % u64::from(line.len())) as u16;
-        line.set(place, next_cell(line.get(place)));
+        let i = (draws.draw() % u64::from(line.len())) as u16;
+        let cell = match line.get(i) {
+            Cell::Unknown => Cell::Filled,
+            Cell::Filled => Cell::Blank,
+            Cell::Blank => Cell::Unknown,
+        };
+        line.set(i, cell);
         let hash = line.hash();
         if !hashes.contains(&hash) {
             hashes.push(hash)?;
@@ -96,138 +290,26 @@ fn unlike_lines_seldom_share_a_hash(rt: HostRuntime) -> Result<(), Fail> {
     Ok(())
 }
 
+/// Returns whether a lookahead table of five unknown cells with the clue 2 1 knows which cells are inert.
+/// The placings are `##.#.`, `##..#` and `.##.#`, so only the second cell, filled, deduces nothing else.
+fn knows_inert_cells<W: LineSet>(alloc: Global) -> Result<bool, Fail>
+    requires { 5 ≤ W.WIDTH }
+{
+    let mut tables = Tables::new(alloc, 256)?;
+    let mut room = PairRoom::new(alloc, 2)?;
+    let mut table = PairTable::<W>::new(alloc)?;
+    let clue = Clue::from_numbers(alloc, &[2, 1])?;
+    table.write(&mut tables, &mut room, &LineOf::unknown(5), &clue);
+    let filled = table.neutral_cells(true);
+    let blank = table.neutral_cells(false);
+    Ok(filled.contains(1) && filled.marked(1, false).is_empty() && blank.is_empty())
+}
+
 #[test]
-fn windows_and_spreads_of_one_length(rt: HostRuntime) -> Result<(), Fail> {
-    assert!(rt; starts_within(0b0111_0110u64, 3) == 0b0001_0000, "windows");
-    assert!(rt; spread(0b0100_0001u64, 3) == 0b0111_0001, "a spread");
+fn tables_know_inert_cells(rt: HostRuntime) -> Result<(), Fail> {
+    let alloc = rt.alloc();
+    assert!(rt; knows_inert_cells::<u64>(alloc)?, "64");
+    assert!(rt; knows_inert_cells::<u128>(alloc)?, "128");
+    assert!(rt; knows_inert_cells::<Wide>(alloc)?, "256");
     Ok(())
-}
-
-#[test]
-fn lists_keep_128_places_in_two_words(rt: HostRuntime) -> Result<(), Fail> {
-    let words = 0x0005_0000_0000_0000_0003u128.kept();
-    assert!(rt; words.low == 3 && words.high == 5, "its words");
-    assert!(rt;
-        u128::of_kept(words) == 0x0005_0000_0000_0000_0003,
-        "the set"
-    );
-    let all = u128::reversed_kept(words, 128);
-    assert!(rt;
-        all.low == 0xa000_0000_0000_0000 && all.high == 0xc000_0000_0000_0000,
-        "all places reversed"
-    );
-    let first = u128::reversed_kept(words, 67);
-    assert!(rt; first.low == 5 && first.high == 6, "the first 67 reversed");
-    Ok(())
-}
-
-#[test]
-fn unknown_cells_are_settled(rt: HostRuntime) -> Result<(), Fail> {
-    let mut line = LineOf::<u64>::unknown(3);
-    line.settle(0, Cell::Filled);
-    line.settle(2, Cell::Blank);
-    assert!(rt;
-        line.get(0) == Cell::Filled && line.get(1) == Cell::Unknown && line.get(2) == Cell::Blank,
-        "its cells"
-    );
-    Ok(())
-}
-
-/// Whether this is a line of five cells of which the middle one is filled, and nothing else is known.
-fn is_middle_filled(answer: Option<LineOf<u64>>) -> bool {
-    let mut wanted = LineOf::unknown(5);
-    wanted.set(2, Cell::Filled);
-    match answer {
-        Some(line) => line.len() == 5 && line.is_same(&wanted),
-        None => false,
-    }
-}
-
-#[test]
-fn a_line_is_deduced_in_its_own_sets(rt: HostRuntime) -> Result<(), Fail> {
-    let mut tables = Tables::new(rt.alloc(), 64)?;
-    let clue = Clue::from_numbers(rt.alloc(), &[3])?;
-    let answer = u64::deduce(&mut tables, &LineOf::unknown(5), &clue);
-    assert!(rt; is_middle_filled(answer));
-    Ok(())
-}
-
-/// A line of 100 cells of which the first 20 and the last 20 are known.
-fn settled_at_both_ends() -> LineOf<u128> {
-    let mut line = LineOf::unknown(100);
-    for i in 0..100 {
-        let cell = match i {
-            0 | 99 => Cell::Filled,
-            1..=19 | 80..=98 => Cell::Blank,
-            _ => Cell::Unknown,
-        };
-        if i < line.len() {
-            line.set(i, cell);
-        }
-    }
-    line
-}
-
-#[test]
-fn a_long_line_is_deduced_between_its_settled_ends(rt: HostRuntime) -> Result<(), Fail> {
-    let mut tables = Tables::new(rt.alloc(), 100)?;
-    let clue = Clue::from_numbers(rt.alloc(), &[1, 40, 1])?;
-    let Some(answer) = u128::deduce(&mut tables, &settled_at_both_ends(), &clue) else {
-        return Err(Fail::new("it is alive"));
-    };
-    for i in 0..answer.len() {
-        let wanted = match i {
-            0 | 99 | 40..=59 => Cell::Filled,
-            1..=19 | 80..=98 => Cell::Blank,
-            _ => Cell::Unknown,
-        };
-        assert!(rt; answer.get(i) == wanted, "{i}");
-    }
-    Ok(())
-}
-
-#[test]
-fn a_long_line_with_other_settled_runs_is_dead(rt: HostRuntime) -> Result<(), Fail> {
-    let mut tables = Tables::new(rt.alloc(), 100)?;
-    let clues: [&[u16]; 5] = [&[2, 40, 1], &[1, 40, 2], &[1, 61, 1], &[1], &[]];
-    for numbers in &clues {
-        let clue = Clue::from_numbers(rt.alloc(), numbers)?;
-        let answer = u128::deduce(&mut tables, &settled_at_both_ends(), &clue);
-        assert!(rt; answer.is_none(), "dead");
-    }
-    Ok(())
-}
-
-#[test]
-fn cells_of_both_halves_are_kept_apart(rt: HostRuntime) -> Result<(), Fail> {
-    let mut line = Line::unknown(256);
-    line.set(0, Cell::Filled);
-    line.set(127, Cell::Filled);
-    line.set(128, Cell::Blank);
-    line.set(255, Cell::Blank);
-    line.set(1, Cell::Filled);
-    line.set(1, Cell::Unknown);
-    for i in 0..line.len() {
-        let wanted = match i {
-            0 | 127 => Cell::Filled,
-            128 | 255 => Cell::Blank,
-            _ => Cell::Unknown,
-        };
-        assert!(rt; line.get(i) == wanted, "{i}");
-    }
-    Ok(())
-}
-
-#[test]
-fn unknown_cells_are_found(rt: HostRuntime) {
-    // The line `#.?#?`.
-    let mut line = LineOf::<u64>::unknown(5);
-    line.set(0, Cell::Filled);
-    line.set(1, Cell::Blank);
-    line.set(3, Cell::Filled);
-    for (from, found) in [(0u16, Some(2)), (2, Some(2)), (3, Some(4)), (5, None)] {
-        assert!(rt; line.first_unknown(from) == found, "from {from}");
-    }
-    line.set(4, Cell::Blank);
-    assert!(rt; line.first_unknown(3).is_none(), "none behind");
 }

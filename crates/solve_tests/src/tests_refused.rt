@@ -10,59 +10,44 @@ use std::test::Fail;
 
 const ONE: &[u16] = &[1];
 
-/// The puzzle whose cells trials settle, all eight of them, and lines none.
-fn knot(alloc: Global) -> Option<Puzzle> {
-    puzzle_with(alloc, &[&[2], &[1, 1]], &[ONE, ONE, ONE, ONE])
-}
-
-/// The puzzle of two cells that lines settle.
-fn pair(alloc: Global) -> Option<Puzzle> {
-    puzzle_with(alloc, &[&[2]], &[ONE, ONE])
-}
-
-/// How many cells of a puzzle lines settle, by a solver and on a grid that are made for it.
-fn settled_by_lines(alloc: Global, puzzle: &Puzzle) -> Result<u32, NoMemory> {
+/// Returns how many cells of a puzzle are known by a solver and on a grid that are made for it.
+fn known_by_lines(alloc: Global, puzzle: &Puzzle) -> Result<u32, NoMemory> {
     let mut grid = Grid::unknown(alloc, puzzle.width(), puzzle.height())?;
     let mut solver = Solver::new(alloc, puzzle)?;
     solver.close_lines(&mut grid);
     Ok(grid.known())
 }
 
-fn told_of_count(answer: Result<u32, NoMemory>, wanted: u32) -> Told {
-    match answer {
-        Ok(count) => told_if(count == wanted),
-        Err(NoMemory) => Told::NoMemory,
-    }
-}
-
 #[test]
 fn solvers_are_made_or_refused(rt: HostRuntime) -> Result<(), Fail> {
     let alloc = rt.alloc();
-    let puzzle = pair(alloc).ok_or("puzzle")?;
-    sweep(alloc, || told_of_count(settled_by_lines(alloc, &puzzle), 2))?;
-    Ok(())
-}
-
-fn told_of_grid(answer: Result<Option<Grid>, NoMemory>, wanted: u32) -> Told {
-    match answer {
-        Ok(Some(grid)) => told_if(grid.known() == wanted),
-        Ok(None) => Told::Other,
+    let puzzle = puzzle_with(alloc, &[&[2]], &[ONE, ONE]).ok_or("puzzle")?;
+    sweep(alloc, || match known_by_lines(alloc, &puzzle) {
+        Ok(known) => told_if(known == 2),
         Err(NoMemory) => Told::NoMemory,
-    }
+    })?;
+    Ok(())
 }
 
 #[test]
 fn line_grids_are_made_or_refused(rt: HostRuntime) -> Result<(), Fail> {
     let alloc = rt.alloc();
-    let puzzle = pair(alloc).ok_or("puzzle")?;
-    sweep(alloc, || told_of_grid(line_grid(alloc, &puzzle), 2))?;
+    let puzzle = puzzle_with(alloc, &[&[2]], &[ONE, ONE]).ok_or("puzzle")?;
+    sweep(alloc, || match line_grid(alloc, &puzzle) {
+        Ok(Some(grid)) => told_if(grid.known() == 2),
+        Ok(None) => Told::Other,
+        Err(NoMemory) => Told::NoMemory,
+    })?;
     Ok(())
 }
 
-/// Whether a verdict on the puzzle with the clue 1 in each of three rows and columns is that with this limit
-/// on guesses.
-fn is_found(verdict: &Verdict, puzzle: &Puzzle, guesses: u32) -> bool {
-    match verdict {
+/// Returns whether a report on the puzzle with the clue 1 in each of three rows and columns is the one with
+/// this limit on guesses.
+fn is_found(findings: &Findings, puzzle: &Puzzle, guesses: u32) -> bool {
+    if findings.spent != guesses || findings.grade != Grade::Search {
+        return false;
+    }
+    match &findings.verdict {
         Verdict::Unsettled(None) => guesses == 0,
         Verdict::Unsettled(Some(grid)) => guesses == 2 && puzzle.solved_by(grid),
         Verdict::Several(first, second) => {
@@ -72,23 +57,14 @@ fn is_found(verdict: &Verdict, puzzle: &Puzzle, guesses: u32) -> bool {
     }
 }
 
-/// Whether a report on it is the one with this limit.
-fn told_of_report(answer: Result<Findings, NoMemory>, puzzle: &Puzzle, guesses: u32) -> Told {
-    match answer {
-        Ok(findings) => told_if(
-            is_found(&findings.verdict, puzzle, guesses)
-                && findings.spent == guesses
-                && findings.grade == Grade::Search,
-        ),
-        Err(NoMemory) => Told::NoMemory,
-    }
-}
-
-/// How many growths of a report with this limit on guesses are refused.
+/// Returns how many growths of a report with this limit on guesses are refused.
 fn growths_with(alloc: Global, puzzle: &Puzzle, guesses: u32) -> Result<usize, Unswept> {
     sweep(
         alloc,
-        || told_of_report(report(alloc, puzzle, guesses, Pick::First), puzzle, guesses),
+        || match report(alloc, puzzle, guesses, Pick::First) {
+            Ok(findings) => told_if(is_found(&findings, puzzle, guesses)),
+            Err(NoMemory) => Told::NoMemory,
+        },
     )
 }
 
@@ -97,7 +73,7 @@ fn reports_are_made_or_refused(rt: HostRuntime) -> Result<(), Fail> {
     let alloc = rt.alloc();
     let puzzle = puzzle_with(alloc, &[ONE, ONE, ONE], &[ONE, ONE, ONE]).ok_or("puzzle")?;
     let growths = growths_with(alloc, &puzzle, 0)?;
-    // A report makes all its room before it deduces its first line.
+    // A report allocates all its buffers before it deduces its first line.
     for guesses in [2, 3] {
         assert!(rt;
             growths_with(alloc, &puzzle, guesses)? == growths,
@@ -107,10 +83,11 @@ fn reports_are_made_or_refused(rt: HostRuntime) -> Result<(), Fail> {
     Ok(())
 }
 
+/// Closes the puzzle whose cells trials assign, all eight of them, and lines none.
 #[test]
 fn closing_takes_no_memory(rt: HostRuntime) -> Result<(), Fail> {
     let alloc = rt.alloc();
-    let puzzle = knot(alloc).ok_or("puzzle")?;
+    let puzzle = puzzle_with(alloc, &[&[2], &[1, 1]], &[ONE, ONE, ONE, ONE]).ok_or("puzzle")?;
     let mut grid = Grid::unknown(alloc, puzzle.width(), puzzle.height())?;
     let mut solver = Solver::new(alloc, &puzzle)?;
     refuse(alloc, 0);

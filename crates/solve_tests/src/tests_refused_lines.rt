@@ -3,24 +3,34 @@
 
 ghost use Rattle.std.specs.Prelude.{◌≤◌};
 
-use crate::tests_deduced::is_line;
+use crate::tests_lines::has_cells;
 use grid_core::{Cell, Clue, NoMemory};
 use line_core::*;
 use refusals::{Told, is_heeded, refuse, sweep, told_if, was_refused};
 use std::alloc::Global;
 use std::test::Fail;
 
-/// What is deduced of ten unknown cells by tables that are made for it.
-fn deduced(alloc: Global, clue: &Clue) -> Result<Option<Line>, NoMemory> {
-    let mut tables = Tables::new(alloc, 256)?;
-    Ok(deduce(&mut tables, &Line::unknown(10), clue))
-}
+/// What is deduced of ten unknown cells with a run of eight.
+static DEDUCED: [Cell; 10] = [
+    Cell::Unknown,
+    Cell::Unknown,
+    Cell::Filled,
+    Cell::Filled,
+    Cell::Filled,
+    Cell::Filled,
+    Cell::Filled,
+    Cell::Filled,
+    Cell::Unknown,
+    Cell::Unknown,
+];
 
-fn told_of_deduced(answer: Result<Option<Line>, NoMemory>) -> Told {
-    match answer {
-        Ok(Some(line)) => told_if(is_line(&line, b"??######??")),
-        Ok(None) => Told::Other,
-        Err(NoMemory) => Told::NoMemory,
+/// Returns whether a run of eight cells is deduced on ten unknown ones as it should be.
+fn is_deduced_well(tables: &mut Tables, clue: &Clue) -> bool
+    requires { 10 ≤ tables.old }
+{
+    match deduce(tables, &Line::unknown(10), clue) {
+        Some(line) => has_cells(&line, &DEDUCED),
+        None => false,
     }
 }
 
@@ -28,30 +38,35 @@ fn told_of_deduced(answer: Result<Option<Line>, NoMemory>) -> Told {
 fn tables_are_made_or_refused(rt: HostRuntime) -> Result<(), Fail> {
     let alloc = rt.alloc();
     let clue = Clue::from_numbers(alloc, &[8])?;
-    sweep(alloc, || told_of_deduced(deduced(alloc, &clue)))?;
+    sweep(alloc, || match Tables::new(alloc, 256) {
+        Ok(mut tables) => told_if(is_deduced_well(&mut tables, &clue)),
+        Err(NoMemory) => Told::NoMemory,
+    })?;
     Ok(())
 }
 
-fn told_of_starts(answer: Result<Starts, NoMemory>, clue: &Clue) -> Told {
-    match answer {
-        Ok(mut starts) => told_if(
-            starts.list().is_empty()
-                && rightmost(&Line::unknown(10), clue, &mut starts)
-                && starts.list() == [2].as_slice(),
-        ),
-        Err(NoMemory) => Told::NoMemory,
-    }
+/// Returns whether the outermost starts of that run are as they should be.
+fn are_starts_well(starts: &mut Starts, clue: &Clue) -> bool {
+    let line = Line::unknown(10);
+    let left = leftmost(&line, clue, starts) && starts.list() == [0].as_slice();
+    let right = rightmost(&line, clue, starts) && starts.list() == [2].as_slice();
+    left && right
 }
 
 #[test]
 fn starts_are_made_or_refused(rt: HostRuntime) -> Result<(), Fail> {
     let alloc = rt.alloc();
     let clue = Clue::from_numbers(alloc, &[8])?;
-    sweep(alloc, || told_of_starts(Starts::new(alloc), &clue))?;
+    sweep(alloc, || match Starts::new(alloc) {
+        Ok(mut starts) => {
+            told_if(starts.list().is_empty() && are_starts_well(&mut starts, &clue))
+        }
+        Err(NoMemory) => Told::NoMemory,
+    })?;
     Ok(())
 }
 
-/// Whether lines are set, copied and compared as they should be.
+/// Returns whether lines are set, copied and compared as they should be.
 fn are_lines_well() -> bool {
     let mut line = LineOf::<u64>::unknown(10);
     line.set(3, Cell::Filled);
@@ -60,22 +75,6 @@ fn are_lines_well() -> bool {
     let changed = line.changes(&copy) == 1 << 9;
     line.copy_from(&copy);
     changed && line.is_same(&copy) && line.hash() == copy.hash()
-}
-
-/// Whether a run of eight cells is deduced on ten unknown ones as it should be.
-fn is_deduced_well(tables: &mut Tables, clue: &Clue) -> bool
-    requires { 10 ≤ tables.old }
-{
-    let answer = deduce(tables, &Line::unknown(10), clue);
-    told_of_deduced(Ok(answer)) == Told::Wanted
-}
-
-/// Whether its outermost starts there are as they should be.
-fn are_starts_well(starts: &mut Starts, clue: &Clue) -> bool {
-    let line = Line::unknown(10);
-    let left = leftmost(&line, clue, starts) && starts.list() == [0].as_slice();
-    let right = rightmost(&line, clue, starts) && starts.list() == [2].as_slice();
-    left && right
 }
 
 #[test]

@@ -1,4 +1,4 @@
-//! Tests of `streams`, `survey_text` and `survey_core`.
+//! Tests of `streams`, `survey_text` and `survey_core`, and of the faults of `reports`.
 #![tactic(auto)]
 
 #[cfg(test)]
@@ -15,8 +15,6 @@ mod tests_parts;
 mod tests_progress;
 #[cfg(test)]
 mod tests_refused;
-#[cfg(test)]
-mod tests_rules;
 #[cfg(test)]
 mod tests_samples;
 #[cfg(test)]

@@ -5,6 +5,7 @@ use lane_core::{Gate, Job, OpenGate, grade};
 use puzzle_text::{
     CollectionFault, Entry, EntryFault, MOST_ENTRIES, TextFault, entries, read_entry,
 };
+use reports::ConvertFault;
 use solve_core::Pick;
 use std::alloc::Global;
 use std::fmt::Display;
@@ -69,14 +70,6 @@ fn surveys_ten_entries(rt: HostRuntime) {
     }
 }
 
-#[test]
-fn surveys_collections(rt: HostRuntime) {
-    let stray = Err(RunFault::Collection(CollectionFault::Stray(2)));
-    let settings = settings(1, 1, false);
-    assert_survey(&rt, b"", &settings, Ok(()), NOTHING);
-    assert_survey(&rt, b"@ a.mk\n@\n", &settings, stray, "");
-}
-
 /// A line, `count` times over.
 pub(crate) fn repeated(alloc: Global, line: &[u8], count: usize) -> Result<Vec<u8>, Fail> {
     let mut text = Vec::new(alloc);
@@ -84,18 +77,6 @@ pub(crate) fn repeated(alloc: Global, line: &[u8], count: usize) -> Result<Vec<u
         text.extend_from_slice(line)?;
     }
     Ok(text)
-}
-
-#[test]
-fn refuses_large_collections(rt: HostRuntime) -> Result<(), Fail> {
-    let settings = settings(1, 1, false);
-    let many = repeated(rt.alloc(), b"@ a.mk\n", 10_001)?;
-    let too_many = Err(RunFault::Collection(CollectionFault::TooMany));
-    assert_survey(&rt, &many, &settings, too_many, "");
-    let long = vec![in rt.alloc(); b'\n'; 16_777_217]?;
-    let too_long = Err(RunFault::Collection(CollectionFault::TooLong));
-    assert_survey(&rt, &long, &settings, too_long, "");
-    Ok(())
 }
 
 /// How the survey of the most entries ends, each of them refused.
@@ -168,18 +149,6 @@ fn prints_ten_entries(rt: HostRuntime) -> Result<(), Fail> {
         assert!(rt; survey.as_slice() == text.as_bytes());
     }
     assert!(rt; sixth_shown(rt.alloc())?.as_slice() == SIXTH_SHOWN);
-    Ok(())
-}
-
-#[test]
-fn long_names_pass(rt: HostRuntime) -> Result<(), Fail> {
-    let name = String::from_utf8(repeated(rt.alloc(), b"n", 65_536)?)?;
-    let named = format!(in rt.alloc(); "@ {name}\n")?;
-    let text = format!(in rt.alloc();
-        "1 refused UnknownFormat {name}\n\
-        entries 1 refused 1 none 0 one 0 several 0 unsettled 0 line 0 trials 0 search 0\n"
-    )?;
-    assert_survey(&rt, named.as_bytes(), &settings(1, 1, false), Ok(()), &text);
     Ok(())
 }
 
@@ -274,6 +243,14 @@ fn faults_in_sentences(rt: HostRuntime) -> Result<(), Fail> {
     let sentences = [
         (CollectFault::NoMemory, "out of memory"),
         (CollectFault::Thread, "a thread was not started"),
+    ];
+    assert_told(&rt, &sentences)?;
+    let entry = ConvertFault::Entry(EntryFault::Text(TextFault::BadLine(3)));
+    let ambiguous = "the text would be read with the sizes the other way round";
+    let sentences = [
+        (entry, "line 3 belongs nowhere or is too long"),
+        (ConvertFault::Ambiguous, ambiguous),
+        (ConvertFault::NoMemory, "out of memory"),
     ];
     assert_told(&rt, &sentences)
 }

@@ -56,9 +56,6 @@ pub const DEMO: &str =
 pub const DEMO_SURVEY: &str = "1 5x10 one line 50 50 0 meets demo.non\n\
     entries 1 refused 0 none 0 one 1 several 0 unsettled 0 line 1 trials 0 search 0\n";
 
-/// A collection of one entry: two switches, and each rule for guesses turns another one.
-pub const TWIN: &str = "@ twin.mk\n8 5\n1\n1\n0\n5\n5\n0\n1\n1\n#\n1 2\n1 2\n2 1\n2\n2 1\n";
-
 /// Settings with 1,000 guesses by the first rule, the others drawn into their ranges.
 pub fn settings(lanes: u16, ring: u16, show: bool) -> Settings {
     Settings {

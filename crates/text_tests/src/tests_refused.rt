@@ -1,11 +1,7 @@
 //! Calls whose growths of memory are refused, each in turn, and calls that take no memory
 //! with every growth refused.
 
-use crate::tests::{are_two, repeated};
-use crate::tests_slow::{Said, agree};
-use crate::tests_slow_mk::slow_mk;
-use crate::tests_slow_nin::slow_nin;
-use crate::tests_slow_non::slow_non;
+use crate::tests::{are_same, repeated};
 use grid_core::{NoMemory, Puzzle};
 use puzzle_text::*;
 use refusals::{Told, Unswept, is_heeded, refuse, sweep, told_if, was_refused};
@@ -52,26 +48,88 @@ static READ: [(Format, &[u8]); 20] = [
     (Format::Nin, b"1 1\n1\n1 1 1 1 1 1 1 1 1 1 0\n"),
 ];
 
-/// What a reader told, beside what the slow reader says.
-fn told_of_read(answer: Result<Puzzle, TextFault>, slow: &Result<Said<'_>, TextFault>) -> Told {
-    match &answer {
-        Err(TextFault::NoMemory) => Told::NoMemory,
-        _ => told_if(agree(&answer, slow)),
+/// A call that allocates memory, with its arguments and its expected answer.
+#[derive(Clone, Copy)]
+enum Call<'a> {
+    Read(Format, &'a [u8], &'a Result<Puzzle, TextFault>),
+    ReadEntry(Entry<'a>, &'a Result<Puzzle, TextFault>),
+    /// `Format::write`, which is to return this text, or `Ambiguous` if there is none.
+    Write(&'a Puzzle, Format, Option<&'a [u8]>),
+    /// `entries`, of a collection with two.
+    Cut,
+    Word(EntryFault, &'a [u8]),
+}
+
+/// Classifies an answer of a reader, given its answer with ample memory.
+fn told_of_read(answer: &Result<Puzzle, TextFault>, usual: &Result<Puzzle, TextFault>) -> Told {
+    match (answer, usual) {
+        (Err(TextFault::NoMemory), _) => Told::NoMemory,
+        (Ok(puzzle), Ok(other)) => told_if(are_same(puzzle, other)),
+        (Err(fault), Err(other)) => told_if(fault == other),
+        _ => Told::Other,
     }
 }
 
-/// What the slow reader of a format says.
-fn slow(alloc: Global, format: Format, text: &[u8]) -> Result<Said<'_>, TextFault> {
-    match format {
-        Format::Non => slow_non(alloc, text),
-        Format::Mk => slow_mk(alloc, text),
-        Format::Nin => slow_nin(alloc, text),
+/// Classifies an answer of `read_entry`.
+fn told_of_entry(answer: Result<Puzzle, EntryFault>, usual: &Result<Puzzle, TextFault>) -> Told {
+    match answer {
+        Ok(puzzle) => told_of_read(&Ok(puzzle), usual),
+        Err(EntryFault::Text(fault)) => told_of_read(&Err(fault), usual),
+        Err(EntryFault::UnknownFormat) => Told::Other,
     }
 }
 
+fn told_of_written(answer: Result<Vec<u8>, WriteFault>, wanted: Option<&[u8]>) -> Told {
+    match answer {
+        Ok(text) => told_if(wanted == Some(text.as_slice())),
+        Err(WriteFault::NoMemory) => Told::NoMemory,
+        Err(WriteFault::Ambiguous) => told_if(wanted.is_none()),
+    }
+}
+
+fn told_of_entries(answer: Result<Vec<Entry<'_>>, CollectionFault>) -> Told {
+    match answer {
+        Ok(found) => match found.as_slice() {
+            [first, second] => told_if(
+                first.name == b"a".as_slice()
+                    && first.body == b"1\n".as_slice()
+                    && second.name == b"b".as_slice()
+                    && second.body.is_empty(),
+            ),
+            _ => Told::Other,
+        },
+        Err(CollectionFault::NoMemory) => Told::NoMemory,
+        Err(_) => Told::Other,
+    }
+}
+
+fn told_of_text(answer: Result<Vec<u8>, NoMemory>, wanted: &[u8]) -> Told {
+    match answer {
+        Ok(text) => told_if(text.as_slice() == wanted),
+        Err(NoMemory) => Told::NoMemory,
+    }
+}
+
+/// Makes the call and classifies its answer.
+fn told_of(alloc: Global, call: Call<'_>) -> Told {
+    match call {
+        Call::Read(format, text, usual) => told_of_read(&format.read(alloc, text), usual),
+        Call::ReadEntry(entry, usual) => told_of_entry(read_entry(alloc, &entry), usual),
+        Call::Write(puzzle, format, wanted) => told_of_written(format.write(alloc, puzzle), wanted),
+        Call::Cut => told_of_entries(entries(alloc, b"\n@ a\n1\n@ b\n")),
+        Call::Word(fault, wanted) => told_of_text(fault_text(alloc, &fault), wanted),
+    }
+}
+
+/// Makes the call with each of its allocations refused in turn.
+fn sweep_call(alloc: Global, call: Call<'_>) -> Result<usize, Unswept> {
+    sweep(alloc, || told_of(alloc, call))
+}
+
+/// Reads the text with each allocation refused in turn.
 fn sweep_read(alloc: Global, format: Format, text: &[u8]) -> Result<usize, Unswept> {
-    let slow = slow(alloc, format, text);
-    sweep(alloc, || told_of_read(format.read(alloc, text), &slow))
+    let usual = format.read(alloc, text);
+    sweep_call(alloc, Call::Read(format, text, &usual))
 }
 
 #[test]
@@ -102,15 +160,6 @@ fn usual_texts_grow_by_lists(rt: HostRuntime) -> Result<(), Fail> {
     Ok(())
 }
 
-/// What `read_entry` told, of an entry in .mk.
-fn told_of_entry(answer: Result<Puzzle, EntryFault>, slow: &Result<Said<'_>, TextFault>) -> Told {
-    match answer {
-        Ok(puzzle) => told_of_read(Ok(puzzle), slow),
-        Err(EntryFault::Text(fault)) => told_of_read(Err(fault), slow),
-        Err(EntryFault::UnknownFormat) => Told::Other,
-    }
-}
-
 #[test]
 fn entries_are_read_or_refused(rt: HostRuntime) -> Result<(), Fail> {
     let alloc = rt.alloc();
@@ -118,24 +167,9 @@ fn entries_are_read_or_refused(rt: HostRuntime) -> Result<(), Fail> {
         name: b"a.mk",
         body: MK,
     };
-    let slow = slow_mk(alloc, MK);
-    sweep(alloc, || told_of_entry(read_entry(alloc, &entry), &slow))?;
+    let usual = read_mk(alloc, MK);
+    sweep_call(alloc, Call::ReadEntry(entry, &usual))?;
     Ok(())
-}
-
-pub(crate) fn told_of_text(answer: Result<Vec<u8>, NoMemory>, wanted: &[u8]) -> Told {
-    match answer {
-        Ok(text) => told_if(text.as_slice() == wanted),
-        Err(NoMemory) => Told::NoMemory,
-    }
-}
-
-pub(crate) fn told_of_written(answer: Result<Vec<u8>, WriteFault>, wanted: Option<&[u8]>) -> Told {
-    match answer {
-        Ok(text) => told_if(wanted == Some(text.as_slice())),
-        Err(WriteFault::NoMemory) => Told::NoMemory,
-        Err(WriteFault::Ambiguous) => told_if(wanted.is_none()),
-    }
 }
 
 const WRITTEN_NON: &[u8] =
@@ -145,26 +179,16 @@ const WRITTEN_MK: &[u8] = b"3 2\n1\n0\n1 1 1 1 1 1 1 1 1 1\n#\n2\n1\n";
 
 const WRITTEN_NIN: &[u8] = b"2 3\n1\n0\n1 1 1 1 1 1 1 1 1 1\n2\n1\n";
 
-/// Sweeps the writing of a puzzle in a format, which gives this text, or refuses an ambiguous one.
-fn sweep_written(
-    alloc: Global,
-    puzzle: &Puzzle,
-    format: Format,
-    wanted: Option<&[u8]>,
-) -> Result<usize, Unswept> {
-    sweep(
-        alloc,
-        || told_of_written(format.write(alloc, puzzle), wanted),
-    )
-}
-
 #[test]
 fn puzzles_are_written_or_refused(rt: HostRuntime) -> Result<(), Fail> {
-    let alloc = rt.alloc();
-    let puzzle = read_non(alloc, NON)?;
-    sweep_written(alloc, &puzzle, Format::Non, Some(WRITTEN_NON))?;
-    sweep_written(alloc, &puzzle, Format::Mk, Some(WRITTEN_MK))?;
-    sweep_written(alloc, &puzzle, Format::Nin, Some(WRITTEN_NIN))?;
+    let puzzle = read_non(rt.alloc(), NON)?;
+    for (format, wanted) in [
+        (Format::Non, WRITTEN_NON),
+        (Format::Mk, WRITTEN_MK),
+        (Format::Nin, WRITTEN_NIN),
+    ] {
+        sweep_call(rt.alloc(), Call::Write(&puzzle, format, Some(wanted)))?;
+    }
     Ok(())
 }
 
@@ -173,38 +197,21 @@ fn ambiguous_puzzles_are_ambiguous_or_refused(rt: HostRuntime) -> Result<(), Fai
     let alloc = rt.alloc();
     let mk = b"1 2\n1\n#\n1\n2\n";
     let flat = read_mk(alloc, mk)?;
-    sweep_written(alloc, &flat, Format::Nin, None)?;
-    sweep_written(alloc, &flat, Format::Mk, Some(mk))?;
+    sweep_call(alloc, Call::Write(&flat, Format::Nin, None))?;
+    sweep_call(alloc, Call::Write(&flat, Format::Mk, Some(mk)))?;
     Ok(())
-}
-
-/// What `entries` told of two entries.
-fn told_of_entries(answer: Result<Vec<Entry<'_>>, CollectionFault>) -> Told {
-    match answer {
-        Ok(found) => told_if(are_two(&found, (b"a", b"1\n"), (b"b", b""))),
-        Err(CollectionFault::NoMemory) => Told::NoMemory,
-        Err(_) => Told::Other,
-    }
 }
 
 #[test]
 fn collections_are_cut_or_refused(rt: HostRuntime) -> Result<(), Fail> {
-    let alloc = rt.alloc();
-    sweep(
-        alloc,
-        || told_of_entries(entries(alloc, b"\n@ a\n1\n@ b\n")),
-    )?;
+    sweep_call(rt.alloc(), Call::Cut)?;
     Ok(())
 }
 
 #[test]
 fn words_are_told_or_refused(rt: HostRuntime) -> Result<(), Fail> {
-    let alloc = rt.alloc();
     let fault = EntryFault::Text(TextFault::BadNumber(1234));
-    sweep(
-        alloc,
-        || told_of_text(fault_text(alloc, &fault), b"BadNumber:1234"),
-    )?;
+    sweep_call(rt.alloc(), Call::Word(fault, b"BadNumber:1234"))?;
     Ok(())
 }
 
@@ -227,8 +234,8 @@ fn is_entry_too_long(alloc: Global, body: &[u8]) -> bool {
 #[test]
 fn long_texts_are_too_long(rt: HostRuntime) -> Result<(), Fail> {
     let alloc = rt.alloc();
-    let text = repeated(alloc, b"", b"\n", LONGEST_PUZZLE + 1)?;
-    let collection = repeated(alloc, b"", b"\n", LONGEST_COLLECTION + 1)?;
+    let text = repeated(alloc, b"\n", LONGEST_PUZZLE + 1)?;
+    let collection = repeated(alloc, b"\n", LONGEST_COLLECTION + 1)?;
     refuse(alloc, 0);
     let long = are_too_long(alloc, &text);
     let entry = is_entry_too_long(alloc, &text);
@@ -263,7 +270,7 @@ fn words_take_no_memory(rt: HostRuntime) {
 #[test]
 fn collections_are_refused_without_memory(rt: HostRuntime) -> Result<(), Fail> {
     let alloc = rt.alloc();
-    let more = repeated(alloc, b"", b"@ a.mk\n", MOST_ENTRIES + 1)?;
+    let more = repeated(alloc, b"@ a.mk\n", MOST_ENTRIES + 1)?;
     refuse(alloc, 0);
     let stray = entries(alloc, b"@ a\n1\n@\n").err();
     let many = entries(alloc, &more).err();

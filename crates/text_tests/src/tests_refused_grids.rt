@@ -1,196 +1,221 @@
 //! Calls whose growths of memory are refused, each in turn, and calls that take no memory with every growth
 //! refused.
 
-use crate::tests_grids::{
-    GOAL, are_same, clues_of, demonstration, drawn, goal_of, is_demonstration, parts,
-};
+use crate::tests::{are_same, clues};
 use grid_core::*;
-use refusals::{Told, is_heeded, refuse, sweep, told_if, was_refused};
+use puzzle_text::read_non;
+use refusals::{Told, Unswept, is_heeded, refuse, sweep, told_if, was_refused};
 use std::alloc::Global;
-use std::process::Abort;
 use std::test::Fail;
+
+/// The demonstration puzzle.
+const DEMO: &[u8] =
+    b"title \"Demo\"\nwidth 5\nheight 10\n\nrows\n2\n2,1\n1,1\n3\n1,1\n1,1\n2\n1,1\n1,2\n2\n\ncolumns\n2,1\n2,1,3\n7\n1,3\n2,1\n\ngoal \"01100011010010101110101001010000110010100101111000\"\n";
 
 /// More numbers than a clue keeps in place.
 const TWELVE: [u16; 12] = [1, 2, 3, 4, 5, 6, 7, 8, 9, 10, 11, 12];
 
-fn told_of_made(answer: Result<Clue, ClueFault>) -> Told {
-    match answer {
-        Ok(clue) => told_if(clue.numbers() == TWELVE.as_slice()),
-        Err(ClueFault::NoMemory) => Told::NoMemory,
-        Err(ClueFault::BadNumber) => Told::Other,
+/// A call that allocates memory, with its arguments.
+#[derive(Clone, Copy)]
+enum Call<'a> {
+    /// `Clue::from_numbers`, and whether the numbers are a clue.
+    MakeClue(&'a [u16], bool),
+    CopyClue(&'a Clue),
+    CopyPuzzle(&'a Puzzle),
+    MakeGrid,
+    /// `Grid::copy` of the solution of a puzzle.
+    CopyGrid(&'a Grid, &'a Puzzle),
+}
+
+/// Makes the call and returns whether its answer is the expected one.
+fn is_wanted(alloc: Global, call: Call<'_>) -> Result<bool, NoMemory> {
+    match call {
+        Call::MakeClue(numbers, fit) => match Clue::from_numbers(alloc, numbers) {
+            Ok(clue) => Ok(fit && clue.numbers() == numbers),
+            Err(ClueFault::BadNumber) => Ok(!fit),
+            Err(ClueFault::NoMemory) => Err(NoMemory),
+        },
+        Call::CopyClue(clue) => {
+            let copy = clue.copy(alloc)?;
+            Ok(copy.numbers() == clue.numbers())
+        }
+        Call::CopyPuzzle(puzzle) => {
+            let copy = puzzle.copy(alloc)?;
+            Ok(are_same(&copy, puzzle))
+        }
+        Call::MakeGrid => {
+            let grid = Grid::unknown(alloc, 256, 255)?;
+            Ok(grid.width() == 256 && grid.height() == 255 && grid.known() == 0)
+        }
+        Call::CopyGrid(grid, puzzle) => {
+            let copy = grid.copy(alloc)?;
+            Ok(puzzle.solved_by(&copy))
+        }
     }
 }
 
-fn told_of_bad(answer: Result<Clue, ClueFault>) -> Told {
-    match answer {
-        Err(ClueFault::NoMemory) => Told::NoMemory,
-        Err(ClueFault::BadNumber) => Told::Wanted,
-        Ok(_) => Told::Other,
-    }
+/// Makes the call with each of its allocations refused in turn.
+fn sweep_call(alloc: Global, call: Call<'_>) -> Result<usize, Unswept> {
+    sweep(alloc, || match is_wanted(alloc, call) {
+        Ok(wanted) => told_if(wanted),
+        Err(NoMemory) => Told::NoMemory,
+    })
 }
 
 #[test]
 fn clues_are_made_or_refused(rt: HostRuntime) -> Result<(), Fail> {
-    let alloc = rt.alloc();
-    sweep(alloc, || told_of_made(Clue::from_numbers(alloc, &TWELVE)))?;
-    sweep(alloc, || told_of_bad(Clue::from_numbers(alloc, &[0; 12])))?;
+    sweep_call(rt.alloc(), Call::MakeClue(&TWELVE, true))?;
+    sweep_call(rt.alloc(), Call::MakeClue(&[0; 12], false))?;
     Ok(())
-}
-
-fn told_of_clue(answer: Result<Clue, NoMemory>) -> Told {
-    match answer {
-        Ok(clue) => told_if(clue.numbers() == TWELVE.as_slice()),
-        Err(NoMemory) => Told::NoMemory,
-    }
 }
 
 #[test]
 fn clues_are_copied_or_refused(rt: HostRuntime) -> Result<(), Fail> {
-    let alloc = rt.alloc();
-    let clue = Clue::from_numbers(alloc, &TWELVE)?;
-    sweep(alloc, || told_of_clue(clue.copy(alloc)))?;
-    assert!(rt; clue.numbers() == TWELVE.as_slice());
+    let clue = Clue::from_numbers(rt.alloc(), &TWELVE)?;
+    sweep_call(rt.alloc(), Call::CopyClue(&clue))?;
     Ok(())
 }
 
-/// Whether a field's text is what was there before, or what was set, as the answer says.
-fn told_of_set(texts: &Texts, answer: Result<(), TextsFault>) -> Told {
-    match answer {
-        Ok(()) => told_if(has_title(texts, b"after")),
-        Err(TextsFault::NoMemory) if has_title(texts, b"before") => Told::NoMemory,
-        Err(_) => Told::Other,
-    }
-}
-
 fn has_title(texts: &Texts, title: &[u8]) -> bool {
-    texts.get(Field::Title) == Some(title)
-}
-
-fn assert_set(rt: &impl Abort, alloc: Global, growth: usize) -> Result<bool, Fail> {
-    let mut texts = Texts::none();
-    texts.set(alloc, Field::Title, b"before")?;
-    texts.set(alloc, Field::By, b"author")?;
-    refuse(alloc, growth);
-    let answer = texts.set(alloc, Field::Title, b"after");
-    let refused = was_refused(alloc);
-    let told = told_of_set(&texts, answer);
-    assert!(rt;
-        told == Told::Wanted || refused && told == Told::NoMemory,
-        "{told:?}"
-    );
-    assert!(rt;
-        texts.get(Field::By) == Some(b"author".as_slice()),
-        "another text"
-    );
-    texts.set(alloc, Field::Title, b"after")?;
-    assert!(rt; has_title(&texts, b"after"), "the next call");
-    Ok(refused)
+    texts.get(Field::Title) == Some(title) && texts.get(Field::By) == Some(b"author".as_slice())
 }
 
 #[test]
 fn texts_are_set_or_refused(rt: HostRuntime) -> Result<(), Fail> {
-    assert!(rt; !assert_set(&rt, rt.alloc(), 2)?, "two growths");
-    assert_set(&rt, rt.alloc(), 1)?;
-    Ok(())
-}
-
-fn told_of_puzzle(puzzle: &Puzzle, answer: Result<Puzzle, NoMemory>) -> Told {
-    match answer {
-        Ok(copy) => told_if(are_same(&copy, puzzle)),
-        Err(NoMemory) => Told::NoMemory,
+    let alloc = rt.alloc();
+    for growth in [2, 1] {
+        let mut texts = Texts::none();
+        texts.set(alloc, Field::Title, b"before")?;
+        texts.set(alloc, Field::By, b"author")?;
+        refuse(alloc, growth);
+        let answer = texts.set(alloc, Field::Title, b"after");
+        let refused = was_refused(alloc);
+        match answer {
+            Ok(()) => assert!(rt; !refused && has_title(&texts, b"after")),
+            Err(fault) => assert!(rt;
+                refused
+                    && growth == 1
+                    && fault == TextsFault::NoMemory
+                    && has_title(&texts, b"before")
+            ),
+        }
+        texts.set(alloc, Field::Title, b"after")?;
+        assert!(rt; has_title(&texts, b"after"), "the next call");
     }
+    Ok(())
 }
 
 #[test]
 fn puzzles_are_copied_or_refused(rt: HostRuntime) -> Result<(), Fail> {
-    let alloc = rt.alloc();
-    let puzzle = demonstration(alloc, goal_of(alloc, GOAL)).ok_or("puzzle")?;
-    sweep(alloc, || told_of_puzzle(&puzzle, puzzle.copy(alloc)))?;
+    let puzzle = read_non(rt.alloc(), DEMO)?;
+    sweep_call(rt.alloc(), Call::CopyPuzzle(&puzzle))?;
     Ok(())
-}
-
-/// A puzzle whose clues each take a growth of their own.
-fn long_clues(alloc: Global) -> Option<Puzzle> {
-    let rows = clues_of(alloc, &[&TWELVE, &TWELVE])?;
-    let columns = clues_of(alloc, &[&TWELVE])?;
-    Puzzle::new(1, 2, rows, columns, Texts::none(), None).ok()
 }
 
 #[test]
 fn long_clues_are_copied_or_refused(rt: HostRuntime) -> Result<(), Fail> {
     let alloc = rt.alloc();
-    let puzzle = long_clues(alloc).ok_or("puzzle")?;
-    sweep(alloc, || told_of_puzzle(&puzzle, puzzle.copy(alloc)))?;
+    // Each clue needs an allocation of its own.
+    let rows = clues(alloc, &TWELVE, 2)?;
+    let columns = clues(alloc, &TWELVE, 1)?;
+    let puzzle = Puzzle::new(1, 2, rows, columns, Texts::none(), None)?;
+    sweep_call(alloc, Call::CopyPuzzle(&puzzle))?;
     Ok(())
-}
-
-/// Whether a grid is the solution of the demonstration puzzle.
-fn told_of_grid(puzzle: &Puzzle, answer: Result<Grid, NoMemory>) -> Told {
-    match answer {
-        Ok(grid) => told_if(puzzle.solved_by(&grid)),
-        Err(NoMemory) => Told::NoMemory,
-    }
-}
-
-fn told_of_unknown(answer: Result<Grid, NoMemory>) -> Told {
-    match answer {
-        Ok(grid) => told_if(grid.width() == 256 && grid.height() == 255 && grid.known() == 0),
-        Err(NoMemory) => Told::NoMemory,
-    }
 }
 
 #[test]
 fn grids_are_made_or_refused(rt: HostRuntime) -> Result<(), Fail> {
-    let alloc = rt.alloc();
-    sweep(alloc, || told_of_unknown(Grid::unknown(alloc, 256, 255)))?;
+    sweep_call(rt.alloc(), Call::MakeGrid)?;
     Ok(())
+}
+
+/// Returns the grid of the demonstration puzzle's goal, in which each cell is set as the first unknown one.
+fn solution(alloc: Global, puzzle: &Puzzle) -> Result<Option<Grid>, NoMemory> {
+    let Some(goal) = puzzle.goal() else {
+        return Ok(None);
+    };
+    let mut grid = Grid::unknown(alloc, 5, 10)?;
+    for filled in goal {
+        let Some((x, y)) = grid.first_unknown() else {
+            return Ok(None);
+        };
+        if x >= grid.width() || y >= grid.height() {
+            return Ok(None);
+        }
+        grid.set(x, y, Cell::of_colour(*filled));
+    }
+    Ok(Some(grid))
 }
 
 #[test]
 fn grids_are_copied_or_refused(rt: HostRuntime) -> Result<(), Fail> {
     let alloc = rt.alloc();
-    let puzzle = demonstration(alloc, None).ok_or("puzzle")?;
-    let grid = drawn(alloc, GOAL)?.ok_or("grid")?;
-    sweep(alloc, || told_of_grid(&puzzle, grid.copy(alloc)))?;
+    let puzzle = read_non(alloc, DEMO)?;
+    let grid = solution(alloc, &puzzle)?.ok_or("grid")?;
+    sweep_call(alloc, Call::CopyGrid(&grid, &puzzle))?;
     Ok(())
 }
 
-/// Whether a puzzle and its solution, which is set once more cell by cell, tell what they should.
-fn are_well(puzzle: &Puzzle, grid: &mut Grid) -> bool {
+/// Returns whether a puzzle has the parts of the demonstration puzzle.
+fn is_demonstration(puzzle: &Puzzle) -> bool {
+    puzzle.width() == 5
+        && puzzle.height() == 10
+        && puzzle.row_clue(1).numbers() == [2, 1].as_slice()
+        && puzzle.col_clue(2).numbers() == [7].as_slice()
+        && puzzle.texts().get(Field::Title) == Some(b"Demo".as_slice())
+        && puzzle.goal_word() == GoalWord::Meets
+}
+
+/// Clears a cell of a puzzle's solution and sets it again. Returns whether each call on the grid is right.
+fn are_cells_well(puzzle: &Puzzle, grid: &mut Grid) -> bool {
     if grid.width() != 5 || grid.height() != 10 {
         return false;
     }
     grid.set_at(7, Cell::Unknown);
     let first = grid.first_unknown();
+    let early = puzzle.solved_by(grid);
     grid.set(2, 1, Cell::Filled);
     first == Some((2, 1))
+        && !early
         && grid.get(1, 0) == Cell::Filled
         && grid.at(0) == Cell::Blank
         && grid.known() == 50
         && puzzle.solved_by(grid)
-        && puzzle.goal_word() == GoalWord::Meets
-        && is_demonstration(puzzle)
 }
 
-/// Whether a puzzle of these parts, and its solution, tell what they should.
-fn is_made_well(answer: Result<Puzzle, PuzzleFault>, grid: &mut Grid) -> bool {
-    match answer {
-        Ok(puzzle) => are_well(&puzzle, grid),
-        Err(_) => false,
+/// Writes the fifth row of a puzzle's solution over the first. Returns whether each call on the grid is
+/// right.
+fn are_rows_well(puzzle: &Puzzle, grid: &mut Grid) -> bool {
+    if grid.height() != 10 {
+        return false;
     }
+    let row = grid.row(4);
+    if row.len() != grid.width() {
+        return false;
+    }
+    grid.write_row(0, &row);
+    grid.row(0).is_same(&row)
+        && !grid.row(1).is_same(&row)
+        && grid.known() == 50
+        && !puzzle.solved_by(grid)
 }
 
 #[test]
 fn looks_take_no_memory(rt: HostRuntime) -> Result<(), Fail> {
     let alloc = rt.alloc();
-    let (rows, columns, texts) = parts(alloc).ok_or("parts")?;
-    let goal = goal_of(alloc, GOAL);
-    let mut grid = drawn(alloc, GOAL)?.ok_or("grid")?;
+    let puzzle = read_non(alloc, DEMO)?;
+    let mut grid = solution(alloc, &puzzle)?.ok_or("grid")?;
+    let rows = clues(alloc, &TWELVE, 1)?;
+    let columns = clues(alloc, &TWELVE, 1)?;
+    let goal = vec![in alloc; true; 1]?;
     refuse(alloc, 0);
+    let is_made = Puzzle::new(1, 1, rows, columns, Texts::none(), Some(goal)).is_ok();
     let is_none = Texts::none().get(Field::Title).is_none();
-    let well = is_made_well(Puzzle::new(5, 10, rows, columns, texts, goal), &mut grid);
+    let well = is_demonstration(&puzzle)
+        && are_cells_well(&puzzle, &mut grid)
+        && are_rows_well(&puzzle, &mut grid);
     assert!(rt; !was_refused(alloc), "no growth");
-    assert!(rt; well && is_none);
+    assert!(rt; well && is_made && is_none);
     assert!(rt; is_heeded(alloc));
     Ok(())
 }
