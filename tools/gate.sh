@@ -1,8 +1,10 @@
 #!/usr/bin/env bash
-# Passes all tests: ShellCheck over the scripts, what public contracts rest on, `rt ci` (every proof from nothing,
-# the must-fail edits, the tests and the stored run), and the scripts over what that leaves, those that measure no
-# time side by side. It installs what it needs and doesn't find, and stops at the first step that fails. Its last
-# line is `N passed, M failed` over all steps.
+# Passes all tests: `rt ci` (every proof from nothing, the wrong bodies of must-fail/, the tests in Rattle and the
+# stored run) and, beside it, the checks that need no program: ShellCheck over the scripts, and what public contracts
+# rest on. Then come the scripts and the tests in Python over the program and the libraries that `rt ci` left; those
+# that measure no time run side by side. It installs the Debian packages that it needs and doesn't find, and ends at the
+# first step that fails. It prints the time that it took, and its last line is `N passed, M failed` over all steps.
+# shellcheck disable=SC2317 # `step` and `begin` call functions by their names.
 set -u
 cd "$(dirname "$0")/.." || exit
 PATH=$PATH:/usr/sbin
@@ -11,95 +13,103 @@ log=$room/log
 trap 'rm -r "$room"' EXIT
 passed=0 failed=0
 
-# Prints the counts of all steps so far, and ends.
+# Prints what all steps took and counted, and ends.
 finish() {
+    local taken
+    wait
+    times >"$room/times"
+    taken=$(awk -F '[ms ]' '{ all += 60 * ($1 + $4) + $2 + $5 } END { printf "%.0f s", all }' "$room/times")
+    echo "gate: $((SECONDS / 60)) min $((SECONDS % 60)) s with RT_JOBS=$RT_JOBS on $(nproc) processors, $taken of processor time"
+    [ ! -s "$room/costs" ] || echo "gate: for these crates the prover took most: $(paste -sd , "$room/costs")"
     echo "$passed passed, $failed failed"
     exit "$1"
 }
 
-# Installs packages, unless a test shows that what they have is there.
-need() {
-    local test=$1
-    shift
-    $test 2>"$log" && return
-    echo "gate: installing $*"
-    export DEBIAN_FRONTEND=noninteractive
-    if ! { apt-get -q update && apt-get -q install -y --no-install-recommends "$@" && $test; } >"$log" 2>&1; then
-        tail -n 5 "$log"
-        echo "gate: $* can't be installed"
-        failed=1
-        finish 1
-    fi
-}
-
-# Whether there is a C compiler with the headers of the C library.
-# shellcheck disable=SC2317 # `need` calls it.
+# Tests that there is a C compiler with the headers of the C library.
 compiles() {
     echo '#include <stdio.h>' | cc -x c -c -o /dev/null -
 }
 
-# Whether there is GNU parallel.
-# shellcheck disable=SC2317 # `need` calls it.
-spreads() {
-    parallel --version | grep -q '^GNU parallel'
+# Prints the packages of which something is missing.
+lacking() {
+    compiles || echo gcc libc6-dev
+    parallel --version | grep -q '^GNU parallel' || echo parallel
+    hash sshd ssh rsync gawk shellcheck || echo openssh-server openssh-client rsync gawk shellcheck
+    hash make mandoc man zsh || echo make mandoc man-db zsh
+    hash python3 || echo python3
+} 2>/dev/null
+
+# Installs the packages of which something is missing.
+install_packages() {
+    local packages
+    read -r -d '' -a packages < <(lacking)
+    [ ${#packages[@]} -gt 0 ] || return 0
+    echo "gate: installing ${packages[*]}"
+    export DEBIAN_FRONTEND=noninteractive
+    apt-get -q update >"$room/installed" 2>&1 &&
+        apt-get -q install -y --no-install-recommends "${packages[@]}" >>"$room/installed" 2>&1
+    hash -r
+    [ -z "$(lacking)" ] || { tail -n 5 "$room/installed"; echo "gate: they can't be installed"; return 1; }
 }
 
-# How many checks run side by side: one a processor, as far as each has 5 GB of the free memory. Most take 1
-# to 4 GB, and the largest, one at a time, 5.3. By itself `rt` counts up to 8 GB for a check of the larger
-# crates, and leaves processors idle.
+# Checks what needs no program: that ShellCheck finds nothing in any script, that no public contract rests on a
+# definition that only private calls need, and that the page on proofs says how many there are for the headline.
+check_texts() {
+    local scripts=(.ci/run tools/*.sh) said
+    install_packages || return
+    shellcheck "${scripts[@]}" || return
+    said=$(tools/promises.py) || { tail -n 5 <<<"$said"; return 1; }
+    said=$(tools/promises.py headline | tail -n 1)
+    grep -qF "$said" docs/proofs.md || { echo "docs/proofs.md doesn't say $said"; return 1; }
+    echo "$((${#scripts[@]} + 2)) passed, 0 failed"
+}
+
+# Prints how many checks run side by side: one a processor, as far as each has 4 GB of the free memory. Most hold 1 to 3 GB,
+# the largest 3.9. By itself `rt` reserves up to 8 GB for a check of the larger crates, and leaves processors idle.
 lanes() {
     local lanes memory
     lanes=$(nproc)
-    memory=$(awk '/^MemAvailable:/ { print int($2 / 5000000) }' /proc/meminfo)
+    memory=$(awk '/^MemAvailable:/ { print int($2 / 4000000) }' /proc/meminfo)
     [ "$memory" -lt "$lanes" ] && lanes=$memory
     echo $((lanes < 1 ? 1 : lanes))
 }
 
-# Tests that ShellCheck finds nothing in any script.
-# shellcheck disable=SC2317 # `step` calls it.
-check_scripts() {
-    local scripts=(.ci/run tools/*.sh)
-    shellcheck "${scripts[@]}" || return
-    echo "${#scripts[@]} passed, 0 failed"
+# Proves everything, and checks at which goals the named wrong bodies were refused.
+prove() {
+    tools/costs.py "$room/costs" rt ci 2>&1 | tee "$room/proved"
+    [ "${PIPESTATUS[0]}" = 0 ] || return
+    tools/edits.py --named <"$room/proved" >"$room/edits" || { cat "$room/edits"; return 1; }
+    sed '$d' "$room/edits"
+    tail -n 1 "$room/proved"
 }
 
-# Tests that no public contract rests on a definition that only private calls need, and that the page on proofs
-# tells how many there are for the headline.
-# shellcheck disable=SC2317 # `step` calls it.
-check_promises() {
-    local said
-    said=$(tools/promises.py) || { tail -n 5 <<<"$said"; return 1; }
-    said=$(tools/promises.py headline | tail -n 1)
-    if ! grep -qF "$said" docs/proofs.md; then
-        echo "docs/proofs.md doesn't tell of $said"
-        return 1
+# Makes the library for other programs over the crates that `rt ci` has just proved, and tests it. `rt lib` would prove
+# all of them once more, so it is left to checkouts in which `rt check` keeps libraries of its own.
+make_library() {
+    if compgen -G 'crates/*/out/rlib/stamp' >/dev/null; then
+        tools/library.sh
+        return
     fi
-    echo '2 passed, 0 failed'
-}
-
-# Has `rt lib` take the libraries that `rt ci` has just proved: that leaves them without the mark by which they are
-# known to be built.
-keep_libraries() {
-    python3 - "$(dirname "$(rt doc)")/bin" <<'END'
+    python3 - "$(dirname "$(rt doc)")/bin" >"$room/made" 2>&1 <<'END' || { tail -n 5 "$room/made"; return 1; }
 import os
 import sys
 
 sys.path.insert(0, sys.argv[1])
 import rtlib
 
-for crate in rtlib.crates_below(os.getcwd()):
-    if crate.makes_rlib():
-        with open(f"{crate.folder}/out/rlib/stamp", "w") as stamp:
-            stamp.write(crate.stamp())
+[crate] = [it for it in rtlib.crates_below(os.getcwd()) if it.is_static]
+os.chdir(crate.folder)
+sys.exit(crate.build_static(["--jobs", str(os.cpu_count())]))
 END
+    tools/library.sh --made
 }
 
-# Runs a step, and adds what its last line counts. A step that fails ends the gate.
+# Adds what the last line of a step counts. A step that fails ends the gate.
 step() {
     local status counts
     "$@" 2>&1 | tee "$log"
     status=${PIPESTATUS[0]}
-    counts=$(tail -n 1 "$log" | grep -xE '[0-9]+ passed, [0-9]+ failed')
+    counts=$(tail -n 1 "$log")
     if [[ $counts =~ ^([0-9]+)\ passed,\ ([0-9]+)\ failed$ ]]; then
         passed=$((passed + BASH_REMATCH[1]))
         failed=$((failed + BASH_REMATCH[2]))
@@ -113,48 +123,45 @@ step() {
     finish 1
 }
 
-# Gives what a script that ran beside others said, and its status.
-# shellcheck disable=SC2317 # `step` calls it.
+# Prints what a step that ran beside others printed, and returns its status.
 ended() {
     cat "$room/${1##*/}"
     return "$(<"$room/${1##*/}.status")"
 }
 
-# Starts scripts side by side.
+# Starts a step with its words beside others. If it fails, the prover is stopped.
 begin() {
-    local script
-    for script; do
-        {
-            "$script" >"$room/${script##*/}" 2>&1
-            echo $? >"$room/${script##*/}.status"
-        } &
-    done
+    {
+        "$@" >"$room/${1##*/}" 2>&1
+        echo $? >"$room/${1##*/}.status"
+        [ "$(<"$room/${1##*/}.status")" = 0 ] || { tail -n 5 "$room/${1##*/}"; touch "$room/costs.stop"; }
+    } &
 }
 
-# Waits for scripts that were started, and takes each as a step.
+# Waits for steps that were begun, and takes each.
 take() {
-    local script
+    local name
     wait
-    for script; do
-        step ended "$script"
+    for name; do
+        step ended "$name"
     done
 }
 
-need compiles gcc libc6-dev
-need spreads parallel
-need 'hash sshd ssh rsync gawk shellcheck' openssh-server openssh-client rsync gawk shellcheck
-need 'hash make mandoc man zsh' make mandoc man-db zsh
-need 'hash python3' python3
 RT_JOBS=${RT_JOBS:-$(lanes)}
 export RT_JOBS
-step check_scripts
-step check_promises
-step rt ci
-tools/edits.sh <"$log" || { failed=1; finish 1; }
-keep_libraries
-begin tools/library.sh
+begin check_texts
+step prove
+take check_texts
+begin make_library
 step tools/outside.sh
+take make_library
 others=(tools/sweep.sh tools/shards_test.sh tools/machines_test.sh tools/pack_test.sh tools/pages_test.sh)
-begin "${others[@]}"
-take tools/library.sh "${others[@]}"
+for script in "${others[@]}"; do
+    begin "$script"
+done
+compared=(--program crates/nonograde/out/nonograde --library out/library)
+begin tests/texts_test.py "${compared[@]}"
+begin tests/solving_test.py "${compared[@]}"
+begin tests/program_test.py "${compared[@]}"
+take "${others[@]}" tests/texts_test.py tests/solving_test.py tests/program_test.py
 finish 0

@@ -1,14 +1,16 @@
 #!/usr/bin/env bash
 # Makes the library for other programs, and tests it.
 #
-# Usage: library.sh [FOLDER]
+# Usage: library.sh [--made] [FOLDER]
 #
-# Makes libnonograde.a, libnonograde.so, nonograde.h and nonograde.py in FOLDER, out/library if none is named. Then
-# calls them as programs in C and in Python do, and compares what they give with what the program prints. Its last
-# line is `N passed, M failed`.
+# Makes libnonograde.a, libnonograde.so, nonograde.h and nonograde.py in FOLDER, out/library if none is named; with
+# --made, of the archive that is in crates/nonograde_c/out. Then calls them as programs in C and in Python do, and
+# compares what they give with what the program prints. Its last line is `N passed, M failed`.
 # shellcheck source-path=SCRIPTDIR source=common.sh
 . "$(dirname "$0")/common.sh"
 [ "${1-}" = --help ] && { print_head; exit; }
+made=no
+[ "${1-}" = --made ] && { made=yes; shift; }
 [ $# -le 1 ] || refuse 'it takes one FOLDER at most'
 top=$(realpath "$tools/..")
 folder=$(realpath -m "${1-$top/out/library}")
@@ -18,7 +20,7 @@ open_room
 cd "$room" || stop Write
 
 # Makes the two libraries. The calls to malloc are the kit's own small file of C.
-(cd "$top/crates/nonograde_c" && rt lib --jobs "$(nproc)") >made 2>&1 || { tail -n 5 made; stop Library; }
+[ $made = yes ] || (cd "$top/crates/nonograde_c" && rt lib --jobs "$(nproc)") >made 2>&1 || { tail -n 5 made; stop Library; }
 cp "$kit/c/liblibc_c.a" libnonograde.a
 mkdir objects && (cd objects && ar x "$top/crates/nonograde_c/out/libnonograde_c.a")
 ar qs libnonograde.a objects/* || stop Library
