@@ -16,12 +16,14 @@ TOP = Path(__file__).resolve().parent.parent
 LIST = TOP / "tools/wrong-bodies.txt"
 TRIED = re.compile(r"must-fail (\w+)/([\w.-]+)\.edit: (.*)")
 REFUSED = re.compile(
-    r"refused, as it must be: (?:\./)?(?:note: )?([\w/.+-]+):(\d+):\d+: (?:error: |it is not proved that .* \()`([^`]+)"
+    r"refused, as it must be: (?:\./)?(?:note: )?([\w/.+-]+):(\d+):\d+: "
+    r"(?:(?:error: |it is not proved that .* \()`([^`]+)|it is not proved that control never comes here)"
 )
 
 
 def function_at(crate, file, line):
-    """Returns the function of a file in which a line stands, as MODULE::NAME. A wrong body keeps the numbers of lines."""
+    """Returns the function of a file in which a line stands, as MODULE::NAME, or the module alone if no function stands
+    above it: a wrong body keeps the numbers of lines, but may add functions."""
     if file.startswith("proofs/"):
         module, *_, name, _ = file.split("/")[1:]
         return f"{module}::{name}"
@@ -30,7 +32,7 @@ def function_at(crate, file, line):
     while lines[at].lstrip().startswith("#["):
         at += 1
     names = re.findall(r"\bfn (\w+)", "\n".join(lines[: at + 1]))
-    return f"{Path(file).stem}::{names[-1] if names else '?'}"
+    return "::".join([Path(file).stem, *names[-1:]])
 
 
 def refusals(log):
@@ -41,7 +43,7 @@ def refusals(log):
         if tried:
             crate, name, answer = tried.groups()
             place = REFUSED.match(answer)
-            goal = (function_at(crate, place[1], int(place[2])), place[3]) if place else None
+            goal = (function_at(crate, place[1], int(place[2])), place[3] or "unreachable") if place else None
             found[f"{crate}/{name}"] = goal
             print(f"{crate}/{name}: {' '.join(goal) if goal else answer.strip()}")
     return found
