@@ -42,6 +42,16 @@ pass_on() {
     cat 2>/dev/null
 }
 
+# Prints how many checks run side by side: one a processor, as far as each has 4 GB of the free memory. Most hold 1 to 3 GB,
+# the largest 3.9. By itself `rt` reserves up to 8 GB for a check of the larger crates, and leaves processors idle.
+lanes() {
+    local lanes memory
+    lanes=$(nproc)
+    memory=$(awk '/^MemAvailable:/ { print int($2 / 4000000) }' /proc/meminfo)
+    [ "$memory" -lt "$lanes" ] && lanes=$memory
+    echo $((lanes < 1 ? 1 : lanes))
+}
+
 # Counts a result of a test, and tells it if it is bad: its name, and what is wrong with it.
 count() {
     if [ -z "$2" ]; then

@@ -5,16 +5,14 @@
 # that measure no time run side by side. It installs the Debian packages that it needs and doesn't find, and ends at the
 # first step that fails. It prints the time that it took, and its last line is `N passed, M failed` over all steps.
 # shellcheck disable=SC2317 # `step` and `begin` call functions by their names.
-set -u
-cd "$(dirname "$0")/.." || exit
+. "$(dirname "$0")/common.sh"
+cd "$tools/.." || exit
 PATH=$PATH:/usr/sbin
-room=$(mktemp -d)
+open_room
 log=$room/log
-trap 'rm -r "$room"' EXIT
-passed=0 failed=0
 
 # Prints what all steps took and counted, and ends.
-finish() {
+end_gate() {
     local taken
     wait
     times >"$room/times"
@@ -64,16 +62,6 @@ check_texts() {
     echo "$((${#scripts[@]} + 2)) passed, 0 failed"
 }
 
-# Prints how many checks run side by side: one a processor, as far as each has 4 GB of the free memory. Most hold 1 to 3 GB,
-# the largest 3.9. By itself `rt` reserves up to 8 GB for a check of the larger crates, and leaves processors idle.
-lanes() {
-    local lanes memory
-    lanes=$(nproc)
-    memory=$(awk '/^MemAvailable:/ { print int($2 / 4000000) }' /proc/meminfo)
-    [ "$memory" -lt "$lanes" ] && lanes=$memory
-    echo $((lanes < 1 ? 1 : lanes))
-}
-
 # Proves everything, and checks at which goals the named wrong bodies were refused.
 prove() {
     tools/costs.py "$room/costs" rt ci 2>&1 | tee "$room/proved"
@@ -120,7 +108,7 @@ step() {
     [ "$status" = 0 ] && return
     [ $failed -gt 0 ] || failed=1
     echo "gate: $* failed"
-    finish 1
+    end_gate 1
 }
 
 # Prints what a step that ran beside others printed, and returns its status.
@@ -164,4 +152,4 @@ begin tests/texts_test.py "${compared[@]}"
 begin tests/solving_test.py "${compared[@]}"
 begin tests/program_test.py "${compared[@]}"
 take "${others[@]}" tests/texts_test.py tests/solving_test.py tests/program_test.py
-finish 0
+end_gate 0

@@ -3,33 +3,31 @@
 #
 # Usage: tools/wrong_bodies.sh [CRATE..]
 #
-# Works on a copy of the repository, in which they replace those of must-fail/: of the crates that are named, or of all.
-# Prints at which goal each is refused, and how long it took. Its last line is `N passed, M failed`.
+# Works on a copy of the repository without the crates of tests, in which they replace those of must-fail/: of the crates
+# that are named, or of all. What was proved or tried on this machine over the same files isn't done again. Prints at
+# which goal each is refused, and how long it took. Its last line is `N passed, M failed`.
 . "$(dirname "$0")/common.sh"
 [ "${1-}" = --help ] && { print_head; exit; }
 cd "$tools/.." || exit
-for crate; do
-    [ -d "crates/$crate/wrong-bodies" ] || refuse "there is no crates/$crate/wrong-bodies"
+bodies=(crates/*/wrong-bodies)
+[ $# = 0 ] || bodies=("${@/%//wrong-bodies}") bodies=("${bodies[@]/#/crates/}")
+for folder in "${bodies[@]}"; do
+    [ -d "$folder" ] || refuse "there is no $folder"
 done
 open_room
-tar -c --no-wildcards-match-slash --exclude='crates/*/out' --exclude='crates/*/must-fail' --transform='s,/wrong-bodies,/must-fail,' crates crates.txt HANDLES |
+tar -c --no-wildcards-match-slash --exclude='crates/*/out' --exclude='crates/*/must-fail' --exclude='crates/*/wrong-bodies' --exclude='crates/*_tests' crates HANDLES |
     tar -x -C "$room" || stop Write
+grep -v '^[a-z]*_tests:' crates.txt >"$room/crates.txt" || stop Write
+for folder in "${bodies[@]}"; do
+    cp -r "$folder" "$room/${folder%/*}/must-fail" || stop Write
+done
 cd "$room" || exit
-
-# Their proofs are what trying a wrong body begins with.
-prove() {
-    local crate
-    [ $# -gt 0 ] || { rt all check --jobs "$(nproc)"; return; }
-    for crate; do
-        (cd "crates/$crate" && rt check) || return
-    done
-}
-
-prove "$@" >proved 2>&1 || { tail -n 20 proved; stop Proof; }
-rt must-fail "$@" >tried 2>&1
+RT_JOBS=${RT_JOBS:-$(lanes)} rt ci "$@" >tried 2>&1
+proved=$?
 "$tools/edits.py" <tried >said
-status=$?
+tried=$?
+[ $proved = 0 ] || [ $tried != 0 ] || { tail -n 20 tried; stop Proof; }
 sed '$d' said
 echo "wrong bodies: $((SECONDS / 60)) min $((SECONDS % 60)) s on $(nproc) processors"
 tail -n 1 said
-exit $status
+exit $tried
