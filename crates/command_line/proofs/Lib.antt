@@ -1,2 +1,2 @@
--- Lemmas on the words of a command line.
+-- Lemmas about the words of a command line.
 mod WordLemmas

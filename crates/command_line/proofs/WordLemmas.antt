@@ -1,4 +1,4 @@
--- What the entries of a command line say.
+-- The values that `clap` parsed, and the definitions of commands.
 use Rattle.std.proofs.Common.{◌≡◌, ◌∙◌, ◌≤◌, ◌<◌, ◌^◌, ℕ, Bool, List, [], Option, Some, None, Result, Ok, Err, IfOk, ◌||◌, refl, ap, arith, option_map}
 use Rattle.std.specs.Prelude.{unwrap_or}
 use Rattle.std.specs.Borrow.{Bor}
@@ -18,11 +18,11 @@ use Rattle.command_line.specs.Words.{IsNumberIn, text_in, texts_in}
 use Rattle.command_line.specs.steps.Words.{IsArgument, IsCommand}
 use Rattle.std.specs.declared.alloc.AllocError.{AllocError}
 
--- what an unsigned number's `from_str` gives
+-- what `from_str` of an unsigned number returns
 abbrev Gives : ℕ → Text → Result ℕ ParseIntError → Type 0
 Gives bits text r = ParsesUnsigned bits 10 text r × ExplainsUnsignedError 10 text r × HasUnsignedDigitsIfOk text r
 
--- what a typed getter read, as a caller takes it
+-- what a typed getter returned, as a caller uses it
 number_of_text : (bits least most n : ℕ) (text : Option Text) (given : Option ℕ) →
     ((t : Text) → text ≡ Some t → ReadsOne (Gives bits) t given) → most < 2 ^ bits
     → ((v : ℕ) → given ≡ Some v → least ≤ v → v ≤ most → n ≡ v) → IsNumberIn least most text n
@@ -32,7 +32,7 @@ number_of_text bits least most n (Some t) (Some v) reads small kept = λ numeral
     let is : v ≡ digits_value 10 (without_leading_plus t) = (reads t refl).0.1 in
     kept v refl (omega arith) (omega arith) ∙ is
 
--- if a typed getter read a number of the entry, and n is that number in its range, n is what the entry writes
+-- if a typed getter returned a number, and n is it if it is in range, n is the number that the value writes
 pub number_of_entry : (bits least most n : ℕ) (f : Found) (id : Text) (given : Option ℕ) →
     ((t : Text) → one_text f id ≡ Some t → ReadsOne (Gives bits) t given)
     → most < 2 ^ bits → ((v : ℕ) → given ≡ Some v → least ≤ v → v ≤ most → n ≡ v) → IsNumberIn least most (one_of id (rows_of f)) n
@@ -54,21 +54,21 @@ kept_within n v least most other (Some w) is same above below =
     let e : w ≡ v = cc in
     omega arith
 
--- the text that a getter read, or else the empty one, is that of the entry
+-- the text that a getter returned, or else the empty one, is the argument's value
 pub text_of_entry : (f : Found) (id : Text) (given : Option (Bor Text)) (d : Bor Text) →
     option_map (λ s. s.now) given ≡ first_value f id → d.now ≡ []
     → (unwrap_or given d).now ≡ text_in id (rows_of f)
 text_of_entry f id None d reads empty = empty ∙ ap (λ o. unwrap_or o []) (reads ∙ first_value-rows f id)
 text_of_entry f id (Some x) d reads empty = ap (λ o. unwrap_or o []) (reads ∙ first_value-rows f id)
 
--- the texts that a getter read, or else none, are those of the entry
+-- the texts that a getter returned, or else none, are the argument's values
 pub texts_of_entry : (f : Found) (id : Text) (given : Option (Bor (List (Bor Text)))) (d : Bor (List (Bor Text)))
     → option_map (λ s. map (λ v. v.now) s.now) given ≡ option_map raw_values (matched_of f id) → d.now ≡ []
     → map (λ v. v.now) (unwrap_or given d).now ≡ texts_in id (rows_of f)
 texts_of_entry f id None d reads empty = ap (map (λ v. v.now)) empty ∙ ap (λ o. unwrap_or o []) (reads ∙ raw_values-rows f id)
 texts_of_entry f id (Some x) d reads empty = ap (λ o. unwrap_or o []) (reads ∙ raw_values-rows f id)
 
--- if a flag has a value for a word, and the entry has this word, the flag has that value
+-- if a flag has a value for a word, and the argument has this word, the flag has that value
 pub flag_of_entry : (f : Found) (id word : Text) (flag value : Bool) → (one_text f id ≡ Some word → flag ≡ value) →
     one_of id (rows_of f) ≡ Some word → flag ≡ value
 flag_of_entry f id word flag value reads is = reads (one_text-rows f id ∙ is)
@@ -79,7 +79,7 @@ take_end n xs past within =
     let e : n ≡ length xs = omega arith in
     rw e (take-length xs)
 
--- a command with one argument more has its rule, too
+-- adding an argument to a command adds its rule to the definition
 pub added : (app : App) (rule : Rule) (old new : Command) (arg : Arg) →
     IsCommand app old → IsArgument rule arg → AddsArg old arg new → IsCommand (with_rule app rule) new
 added app rule old new arg command argument adds = record {
@@ -87,7 +87,7 @@ added app rule old new arg command argument adds = record {
   local = adds.globals ∙ ap (λ b. b || arg.global) command.local ∙ argument.local;
 }
 
--- the same of an argument that may be added
+-- adding an argument to a command, which can fail, adds its rule to the definition
 pub added_if_ok : (app : App) (rule : Rule) (old : Command) (arg : Arg) (result : Result Command AllocError) →
     IsCommand app old → IsArgument rule arg → IfOk result (AddsArg old arg) → IfOk result (IsCommand (with_rule app rule))
 added_if_ok app rule old arg (Ok new) command argument adds = added app rule old new arg command argument adds

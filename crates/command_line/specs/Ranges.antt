@@ -1,4 +1,4 @@
--- What a command line asks for.
+-- The ranges of the settings of a request.
 use Rattle.std.specs.Prelude.{◌≤◌}
 use Rattle.lane_core.specs.declared.jobs.TheConstants.{MOST_GUESSES}
 use Rattle.survey_core.specs.declared.settings.Settings.{Settings}

@@ -1,4 +1,4 @@
--- The command line: what `clap` reads of the commands, and what its entries ask for.
+-- The command line: the commands as `clap` knows them, and what the values that it parsed ask for.
 use Rattle.std.specs.Prelude.{◌≡◌, ◌≤◌, ℕ, pos, Bool, true, false, List, [], ◌∷◌, ◌++◌, map, codes, decimal, Option, Some, None, unwrap_or, if◌then◌else◌, string_bytes}
 use Rattle.std.specs.Borrow.{Bor}
 use Rattle.std.specs.List.{find}
@@ -20,19 +20,21 @@ use Rattle.command_line.specs.declared.command.Request.{Request}
 use Rattle.command_line.specs.declared.command.SurveyRequest.{SurveyRequest}
 use Rattle.command_line.specs.declared.command.Request.TheVariants.{Survey, Solve, Convert, Lines}
 
--- words that an option takes
+-- the words that an option takes as its value
 abbrev pub Choices : Type 0
 Choices = Bor (List (Bor Text))
 
--- an option with one value, named as its id
+-- an option with one value, whose long name is its id
 abbrev pub option_rule : Text → ValueParser → Rule
-option_rule name parser = record (new_rule name) { long = Some name; value_names = 1; parser = Some parser }
+option_rule name parser =
+    record (new_rule name) { long = Some name; value_names = 1; parser = Some parser }
 
--- an option with a number in a range, and the text that stands for it if it isn't given
+-- an option with a number from `least` to `most`; `default` stands for it if it isn't given
 abbrev pub number_rule : Text → ℕ → ℕ → Text → Rule
-number_rule name least most default = record (option_rule name (Signed (pos least) (pos most))) { defaults = default ∷ [] }
+number_rule name least most default =
+    record (option_rule name (Signed (pos least) (pos most))) { defaults = default ∷ [] }
 
--- the options and the words of the commands
+-- the options and arguments of the commands
 abbrev pub guesses_rule : Rule
 guesses_rule = number_rule (codes "guesses") 0 MOST_GUESSES (decimal DEFAULT_GUESSES)
 
@@ -43,13 +45,15 @@ abbrev pub ring_rule : Rule
 ring_rule = number_rule (codes "ring") 1 LARGEST_RING (decimal DEFAULT_RING)
 
 abbrev pub pick_rule : Choices → Rule
-pick_rule picks = record (option_rule (codes "pick") (Names picks)) { defaults = codes "first" ∷ [] }
+pick_rule picks =
+    record (option_rule (codes "pick") (Names picks)) { defaults = codes "first" ∷ [] }
 
 abbrev pub show_rule : Rule
 show_rule = record (new_rule (codes "show")) { long = Some (codes "show"); action = Some SetTrue }
 
 abbrev pub progress_rule : Rule
-progress_rule = record (new_rule (codes "progress")) { long = Some (codes "progress"); action = Some SetTrue }
+progress_rule =
+    record (new_rule (codes "progress")) { long = Some (codes "progress"); action = Some SetTrue }
 
 abbrev pub to_rule : Choices → Rule
 to_rule formats = record (option_rule (codes "to") (Names formats)) { required = true }
@@ -64,19 +68,23 @@ files_rule = record (new_rule (codes "file")) {
   action = Some Append;
 }
 
--- a command with these options and words
+-- a command with these options and arguments
 abbrev pub command_app : Text → List Rule → App
-command_app name rules = record (new_app name) { top = record (new_app name).top { rules = rules } }
+command_app name rules =
+    record (new_app name) { top = record (new_app name).top { rules = rules } }
 
 -- the options of a survey that say how entries are graded
 abbrev pub grading_rules : Choices → List Rule
 grading_rules picks = lanes_rule ∷ ring_rule ∷ guesses_rule ∷ pick_rule picks ∷ []
 
 abbrev pub survey_app : Choices → App
-survey_app picks = command_app (codes "survey") (grading_rules picks ++ show_rule ∷ progress_rule ∷ files_rule ∷ [])
+survey_app picks =
+    command_app (codes "survey")
+    (grading_rules picks ++ show_rule ∷ progress_rule ∷ files_rule ∷ [])
 
 abbrev pub solve_app : Choices → App
-solve_app picks = command_app (codes "solve") (guesses_rule ∷ pick_rule picks ∷ file_rule ∷ [])
+solve_app picks =
+    command_app (codes "solve") (guesses_rule ∷ pick_rule picks ∷ file_rule ∷ [])
 
 abbrev pub convert_app : Choices → App
 convert_app formats = command_app (codes "convert") (to_rule formats ∷ file_rule ∷ [])
@@ -97,39 +105,46 @@ grading_app picks = record {
   subs = (survey_app picks).top ∷ (solve_app picks).top ∷ [];
 }
 
--- the same, with the command `convert`
+-- the program with the commands that grade puzzles and the command `convert`
 abbrev pub converting_app : Choices → Choices → App
-converting_app formats picks = record { top = (grading_app picks).top; subs = (grading_app picks).subs ++ (convert_app formats).top ∷ [] }
+converting_app formats picks = record {
+  top = (grading_app picks).top;
+  subs = (grading_app picks).subs ++ (convert_app formats).top ∷ [];
+}
 
 -- the program, with its four commands
 abbrev pub program_app : Choices → Choices → App
-program_app formats picks =
-    record { top = (converting_app formats picks).top; subs = (converting_app formats picks).subs ++ lines_app.top ∷ [] }
+program_app formats picks = record {
+  top = (converting_app formats picks).top;
+  subs = (converting_app formats picks).subs ++ lines_app.top ∷ [];
+}
 
--- n is the number that the text writes, if that lies in the range
+-- if `text` is a numeral from `least` to `most`, n is its number
 abbrev pub IsNumberIn : ℕ → ℕ → Option Text → ℕ → Type 0
 IsNumberIn least most None n = Unit {0}
 IsNumberIn least most (Some text) n =
     let digits = without_leading_plus text in
-    IsNumeral 10 digits → least ≤ digits_value 10 digits → digits_value 10 digits ≤ most → n ≡ digits_value 10 digits
+    IsNumeral 10 digits → least ≤ digits_value 10 digits → digits_value 10 digits ≤ most
+    → n ≡ digits_value 10 digits
 
--- whether an option without value was given
+-- `flag` is whether an option without a value was given
 abbrev pub IsFlagIn : Option Text → Bool → Type 0
-IsFlagIn text flag = (text ≡ Some (codes "true") → flag ≡ true) × (text ≡ Some (codes "false") → flag ≡ false)
+IsFlagIn text flag =
+    (text ≡ Some (codes "true") → flag ≡ true) × (text ≡ Some (codes "false") → flag ≡ false)
 
--- the first text of an entry, empty if there is none
+-- the first value of the argument `id`, or an empty text
 abbrev pub text_in : Text → List Row → Text
 text_in id rows = unwrap_or (first_of id rows) []
 
--- all texts of an entry
+-- all values of the argument `id`
 abbrev pub texts_in : Text → List Row → List Text
 texts_in id rows = unwrap_or (all_of id rows) []
 
--- the rule for guesses that a word names
+-- the guess rule that a word names
 abbrev pub pick_of_word : Text → Pick
 pick_of_word text = if bytes_eq text (codes "most") then Most else First
 
--- the settings are those of the entries
+-- the settings are those that the parsed values ask for
 pub record AreSettingsIn (rows : List Row) (settings : Settings) : Type 0 where
   pub lanes : IsNumberIn 1 MOST_LANES (one_of (codes "lanes") rows) settings.lanes
   pub ring : IsNumberIn 1 LARGEST_RING (one_of (codes "ring") rows) settings.ring
@@ -137,13 +152,13 @@ pub record AreSettingsIn (rows : List Row) (settings : Settings) : Type 0 where
   pub pick : settings.pick ≡ pick_of_word (text_in (codes "pick") rows)
   pub show : IsFlagIn (one_of (codes "show") rows) settings.show
 
--- the entries ask for this survey
+-- the parsed values ask for this survey
 pub record AsksSurvey (rows : List Row) (survey : SurveyRequest) : Type 0 where
   pub settings : AreSettingsIn rows survey.settings
   pub progress : IsFlagIn (one_of (codes "progress") rows) survey.progress
   pub files : map string_bytes survey.files.items ≡ texts_in (codes "file") rows
 
--- the command of this name, with these entries, asks for this
+-- the command `name` with these parsed values asks for this request
 abbrev pub Asks : Text → List Row → Request → Type 0
 Asks name rows (Survey survey) = (name ≡ codes "survey") × AsksSurvey rows survey
 Asks name rows (Solve guesses pick file) =
@@ -151,16 +166,19 @@ Asks name rows (Solve guesses pick file) =
     (pick ≡ pick_of_word (text_in (codes "pick") rows))
     × (string_bytes file ≡ text_in (codes "file") rows)
 Asks name rows (Convert format file) =
-    (name ≡ codes "convert") × (find (λ format. bytes_eq (word format) (text_in (codes "to") rows)) all_formats ≡ Some format)
+    (name ≡ codes "convert")
+    × (find (λ format. bytes_eq (word format) (text_in (codes "to") rows)) all_formats
+    ≡ Some format)
     × (string_bytes file ≡ text_in (codes "file") rows)
-Asks name rows (Lines file) = (name ≡ codes "lines") × (string_bytes file ≡ text_in (codes "file") rows)
+Asks name rows (Lines file) =
+    (name ≡ codes "lines") × (string_bytes file ≡ text_in (codes "file") rows)
 
--- the command that `clap` entered, with its entries, asks for this
+-- the command that `clap` found, with its parsed values, asks for this request
 abbrev pub AsksIn : Option (Text × List Row) → Request → Type 0
 AsksIn None request = ⊥
 AsksIn (Some (command, rows)) request = Asks command rows request
 
--- the words after the program's name ask for this: `clap` reads them by the definition of the program's
+-- the words after the program's name ask for this request, as `clap` parses them for the program's
 -- commands
 pub record WordsAsk (words : List Text) (request : Request) : Type 0 where
   pub formats : Choices

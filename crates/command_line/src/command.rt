@@ -1,4 +1,4 @@
-//! The command line: its words, and what they ask for.
+//! Parsing the command line into a request.
 
 ghost use Rattle.std.specs.Prelude.{◌≡◌, ◌≢◌, ◌≤◌, IfOk, IfSome, map, string_bytes, codes};
 ghost use Rattle.clap.specs.Walk.{one_of, rows_of};
@@ -22,7 +22,8 @@ use survey_core::{
     DEFAULT_GUESSES, DEFAULT_LANES, DEFAULT_RING, LARGEST_RING, MOST_LANES, Settings,
 };
 
-/// What the help of a command that grades ends with: what it prints, and further lines.
+/// The end of the help of a command that grades: `$prints`, the meaning of a printed line, and
+/// `$further`.
 macro_rules! grading_help {
     ($prints:literal, $further:literal) => {
         concat!(
@@ -40,7 +41,7 @@ If unsettled, try --guesses 1000000 (mostly still in a fraction of a second), or
     };
 }
 
-/// What the help of `survey` ends with.
+/// The end of the help of `survey`.
 const SURVEY_HELP: &str = grading_help!(
     "It prints a line for each puzzle, and a line of totals.",
     "A collection is one text, each puzzle below a line \"@ NAME\". As FILE it is refused; give it on standard input:
@@ -51,7 +52,7 @@ Example: nonograde survey --lanes 8 --show puzzles/heart.non puzzles/cat.mk
 Exit status: 0 if the survey is printed, 1 at a fault, 2 if the words are refused."
 );
 
-/// What the help of `solve` ends with.
+/// The end of the help of `solve`.
 const SOLVE_HELP: &str = grading_help!(
     "It prints the puzzle's line, and its solutions: none, one or two of them.",
     "Example: nonograde solve puzzles/heart.non
@@ -59,55 +60,56 @@ const SOLVE_HELP: &str = grading_help!(
 Exit status: 0 if the line is printed, 1 at a fault, 2 if the words are refused."
 );
 
-/// What the help of `convert` ends with.
+/// The end of the help of `convert`.
 const CONVERT_HELP: &str = "It prints the puzzle's text in the format.
 
 Example: nonograde convert --to mk puzzles/heart.non
 
 Exit status: 0 if the text is printed, 1 at a fault, 2 if the words are refused.";
 
-/// What the help of `lines` ends with.
+/// The end of the help of `lines`.
 const LINES_HELP: &str = "It prints one, open or none, the number of known cells, and the grid.
 
 Example: nonograde lines puzzles/heart.non
 
 Exit status: 0 if the grid is printed, 1 at a fault, 2 if the words are refused.";
 
-/// A survey of these files, or of the collection on standard input if there is none.
+/// A survey of some files, or of the collection on standard input if there are none.
 #[derive(Debug, Drop)]
 pub struct SurveyRequest {
     /// How the entries are graded, and on how many lanes.
     pub settings: Settings,
-    /// Whether the number of begun entries is told on the stream for faults.
+    /// Whether a progress line on standard error counts the entries whose grading has begun.
     pub progress: bool,
-    /// The names of the files, in order.
+    /// The paths of the files, in the order of the words.
     pub files: Vec<String>,
 }
 
 /// What a command line asks for.
 #[derive(Debug, Drop)]
 pub enum Request {
-    /// A survey.
+    /// Grade puzzles, and print a line for each.
     Survey(SurveyRequest),
-    /// The solutions of a file's puzzle: the most guesses, and the rule for each.
+    /// Solve a file's puzzle: the guess limit, the guess rule, and the file's path.
     Solve(u32, Pick, String),
-    /// A file's puzzle in another format.
+    /// Print a file's puzzle in another format: the format, and the file's path.
     Convert(Format, String),
-    /// The grid of a file's puzzle as far as line logic gets.
+    /// Print the grid that line logic reaches: the file's path.
     Lines(String),
 }
 
-/// Why a command line gives no request.
+/// Why a command line was parsed to no request.
 #[derive(Debug, Drop)]
 pub enum CommandFault {
-    /// The words are refused, or ask for help: the text and the status are the error's.
+    /// The words are refused, or ask for help or the version: `clap`'s message.
     Words(Error),
-    /// A growth of memory was refused.
+    /// An allocation failed.
     NoMemory,
 }
 
 impl From<Error> for CommandFault {
-    ghost from_gives = { λ error fault. (kind_of error ≡ OutOfMemory → fault ≡ command_memory) ×
+    ghost from_gives = { λ error fault.
+        (kind_of error ≡ OutOfMemory → fault ≡ command_memory) ×
         (kind_of error ≢ OutOfMemory → fault ≡ refused_words error) };
 
     fn from(error: Error) -> CommandFault {
@@ -127,7 +129,7 @@ impl From<NoMemory> for CommandFault {
     }
 }
 
-/// The option `--guesses`.
+/// Returns the option `--guesses`.
 fn guesses_option<'a>(alloc: Global) -> Arg<'a>
     ensures { IsArgument guesses_rule result }
 {
@@ -139,7 +141,7 @@ fn guesses_option<'a>(alloc: Global) -> Arg<'a>
         .default_value("1000")
 }
 
-/// The option `--pick`, with the words of the rules.
+/// Returns the option `--pick`, whose values are `picks`.
 fn pick_option<'a>(alloc: Global, picks: &'a [&'a str]) -> Arg<'a>
     ensures { IsArgument (pick_rule picks.entry) result }
 {
@@ -151,7 +153,7 @@ fn pick_option<'a>(alloc: Global, picks: &'a [&'a str]) -> Arg<'a>
         .default_value("first")
 }
 
-/// The word that names a file.
+/// Returns the argument FILE of a command that takes exactly one.
 fn file_word<'a>(alloc: Global) -> Arg<'a>
     ensures { IsArgument file_rule result }
 {
@@ -161,7 +163,7 @@ fn file_word<'a>(alloc: Global) -> Arg<'a>
         .required(true)
 }
 
-/// The option `--lanes`.
+/// Returns the option `--lanes`.
 fn lanes_option<'a>(alloc: Global) -> Arg<'a>
     ensures { IsArgument lanes_rule result }
 {
@@ -173,7 +175,7 @@ fn lanes_option<'a>(alloc: Global) -> Arg<'a>
         .default_value("4")
 }
 
-/// The option `--ring`.
+/// Returns the option `--ring`.
 fn ring_option<'a>(alloc: Global) -> Arg<'a>
     ensures { IsArgument ring_rule result }
 {
@@ -185,7 +187,7 @@ fn ring_option<'a>(alloc: Global) -> Arg<'a>
         .default_value("8")
 }
 
-/// The option `--show`.
+/// Returns the option `--show`.
 fn show_option<'a>(alloc: Global) -> Arg<'a>
     ensures { IsArgument show_rule result }
 {
@@ -195,7 +197,7 @@ fn show_option<'a>(alloc: Global) -> Arg<'a>
         .action(ArgAction::SetTrue)
 }
 
-/// The option `--progress`.
+/// Returns the option `--progress`.
 fn progress_option<'a>(alloc: Global) -> Arg<'a>
     ensures { IsArgument progress_rule result }
 {
@@ -205,7 +207,7 @@ fn progress_option<'a>(alloc: Global) -> Arg<'a>
         .action(ArgAction::SetTrue)
 }
 
-/// The option `--to`, with the words of the formats.
+/// Returns the option `--to`, whose values are `formats`.
 fn to_option<'a>(alloc: Global, formats: &'a [&'a str]) -> Arg<'a>
     ensures { IsArgument (to_rule formats.entry) result }
 {
@@ -217,7 +219,7 @@ fn to_option<'a>(alloc: Global, formats: &'a [&'a str]) -> Arg<'a>
         .required(true)
 }
 
-/// The words that name files.
+/// Returns the arguments FILE of a command that takes any number of them.
 fn file_words<'a>(alloc: Global) -> Arg<'a>
     ensures { IsArgument files_rule result }
 {
@@ -228,15 +230,16 @@ fn file_words<'a>(alloc: Global) -> Arg<'a>
         .action(ArgAction::Append)
 }
 
-/// A command with what its help says of it.
+/// Adds texts to a command: `about`, which the list of commands shows, `usage`, and `help`, with
+/// which its help ends.
 fn described<'a>(command: Command<'a>, about: &'a str, help: &'a str, usage: &'a str) -> Command<'a>
     ensures { (app : App) → IsCommand app command.entry → IsCommand app result }
 {
     command.about(about).after_help(help).override_usage(usage)
 }
 
-/// The command `survey` with the options that say how entries are graded, with the words of the rules for
-/// guesses.
+/// Returns the command `survey` with the options that say how entries are graded. `picks` are the
+/// guess rules.
 fn grading_command<'a>(alloc: Global, picks: &'a [&'a str]) -> Result<Command<'a>, AllocError>
     ensures { IfOk result (IsCommand (command_app (codes "survey") (grading_rules picks.entry))) }
 {
@@ -247,7 +250,7 @@ fn grading_command<'a>(alloc: Global, picks: &'a [&'a str]) -> Result<Command<'a
         .arg(pick_option(alloc, picks))
 }
 
-/// The command `survey`, with the words of the rules for guesses.
+/// Returns the command `survey`. `picks` are the guess rules.
 fn survey_command<'a>(alloc: Global, picks: &'a [&'a str]) -> Result<Command<'a>, AllocError>
     ensures { IfOk result (IsCommand (survey_app picks.entry)) }
 {
@@ -259,7 +262,7 @@ fn survey_command<'a>(alloc: Global, picks: &'a [&'a str]) -> Result<Command<'a>
         .arg(file_words(alloc))
 }
 
-/// The command `solve`, with the words of the rules for guesses.
+/// Returns the command `solve`. `picks` are the guess rules.
 fn solve_command<'a>(alloc: Global, picks: &'a [&'a str]) -> Result<Command<'a>, AllocError>
     ensures { IfOk result (IsCommand (solve_app picks.entry)) }
 {
@@ -275,7 +278,7 @@ fn solve_command<'a>(alloc: Global, picks: &'a [&'a str]) -> Result<Command<'a>,
     .arg(file_word(alloc))
 }
 
-/// The command `convert`, with the words of the formats.
+/// Returns the command `convert`. `formats` are the formats.
 fn convert_command<'a>(alloc: Global, formats: &'a [&'a str]) -> Result<Command<'a>, AllocError>
     ensures { IfOk result (IsCommand (convert_app formats.entry)) }
 {
@@ -286,7 +289,7 @@ fn convert_command<'a>(alloc: Global, formats: &'a [&'a str]) -> Result<Command<
         .arg(file_word(alloc))
 }
 
-/// The command `lines`.
+/// Returns the command `lines`.
 fn lines_command<'a>(alloc: Global) -> Result<Command<'a>, AllocError>
     ensures { IfOk result (IsCommand lines_app) }
 {
@@ -300,7 +303,7 @@ fn lines_command<'a>(alloc: Global) -> Result<Command<'a>, AllocError>
     .arg(file_word(alloc))
 }
 
-/// The program with no command.
+/// Returns the program without its commands.
 fn bare_program<'a>(alloc: Global) -> Command<'a>
     ensures { IsCommand bare_app result }
 {
@@ -312,7 +315,7 @@ fn bare_program<'a>(alloc: Global) -> Command<'a>
         .subcommand_required(true)
 }
 
-/// The program with the commands that grade puzzles, with the words of the rules for guesses.
+/// Returns the program with the commands that grade puzzles.
 fn grading_program<'a>(alloc: Global, picks: &'a [&'a str]) -> Result<Command<'a>, AllocError>
     ensures { IfOk result (IsCommand (grading_app picks.entry)) }
 {
@@ -321,7 +324,7 @@ fn grading_program<'a>(alloc: Global, picks: &'a [&'a str]) -> Result<Command<'a
         .subcommand(solve_command(alloc, picks)?)
 }
 
-/// The same with the command `convert`, with the words of the formats.
+/// Returns the program with the commands that grade puzzles and the command `convert`.
 fn converting_program<'a>(
     alloc: Global,
     formats: &'a [&'a str],
@@ -332,7 +335,7 @@ fn converting_program<'a>(
     grading_program(alloc, picks)?.subcommand(convert_command(alloc, formats)?)
 }
 
-/// The program with all commands, with the words of the formats and those of the rules for guesses.
+/// Returns the program with all four commands. `formats` are the formats, `picks` the guess rules.
 fn whole_program<'a>(
     alloc: Global,
     formats: &'a [&'a str],
@@ -344,23 +347,25 @@ fn whole_program<'a>(
     Ok(program.subcommand(lines_command(alloc)?)?)
 }
 
-/// The text of an argument, or the empty one if it has none.
+/// Returns the value of the argument `id`, or an empty text if it has none.
 fn text_in<'a>(matches: &ArgMatches<'a>, id: &str) -> &'a str
     ensures { result.now ≡ text_in id.now (rows_of (found_of matches.now)) }
 {
     matches.get_str(id).unwrap_or("")
 }
 
-/// The same, as a value of its own.
+/// Returns a copy of the value of the argument `id`, or an empty string if it has none.
 fn text_of(alloc: Global, matches: &ArgMatches<'_>, id: &str) -> Result<String, NoMemory>
-    ensures { IfOk result (λ text. string_bytes text ≡ text_in id.now (rows_of (found_of matches.now))) }
+    ensures { IfOk result (λ text.
+        string_bytes text ≡ text_in id.now (rows_of (found_of matches.now))) }
 {
     Ok(String::from_str(alloc, text_in(matches, id))?)
 }
 
-/// The files that are named.
+/// Returns copies of the words that name files.
 fn files_of(alloc: Global, matches: &ArgMatches<'_>) -> Result<Vec<String>, NoMemory>
-    ensures { IfOk result (λ files. map string_bytes files.items ≡ texts_in (codes "file") (rows_of (found_of matches.now))) }
+    ensures { IfOk result (λ files. map string_bytes files.items
+        ≡ texts_in (codes "file") (rows_of (found_of matches.now))) }
 {
     let mut files = Vec::new(alloc);
     for word in matches.get_strs("file").unwrap_or(&[]) {
@@ -369,18 +374,22 @@ fn files_of(alloc: Global, matches: &ArgMatches<'_>) -> Result<Vec<String>, NoMe
     Ok(files)
 }
 
-/// The guesses that are asked for. `clap` has refused those out of range.
+/// Returns the guess limit that is asked for.
 fn guesses_of(matches: &ArgMatches<'_>) -> u32
     ensures range { result ≤ MOST_GUESSES }
-    ensures asked { IsNumberIn 0 MOST_GUESSES (one_of (codes "guesses") (rows_of (found_of matches.now))) result }
+    ensures asked { IsNumberIn 0 MOST_GUESSES
+        (one_of (codes "guesses") (rows_of (found_of matches.now))) result }
 {
+    // `clap` has refused values out of range. Its contract covers only the top command, so the
+    // value
+    // is clamped here, which changes nothing.
     matches
         .get_one::<u32>("guesses")
         .unwrap_or(DEFAULT_GUESSES)
         .min(MOST_GUESSES)
 }
 
-/// The rule for guesses that is asked for. `clap` has refused other words.
+/// Returns the guess rule that is asked for. `clap` has refused words that name none.
 fn pick_of(matches: &ArgMatches<'_>) -> Pick
     ensures { result ≡ pick_of_word (text_in (codes "pick") (rows_of (found_of matches.now))) }
 {
@@ -390,7 +399,8 @@ fn pick_of(matches: &ArgMatches<'_>) -> Pick
     }
 }
 
-/// The settings of a survey. `clap` has refused those out of range.
+/// Returns the settings of a survey. `clap` has refused values out of range; they are clamped for
+/// the same reason as in `guesses_of`.
 fn settings_of(matches: &ArgMatches<'_>) -> Settings
     ensures { AreSettingsIn (rows_of (found_of matches.now)) result }
 {
@@ -405,7 +415,7 @@ fn settings_of(matches: &ArgMatches<'_>) -> Settings
     }
 }
 
-/// The survey that is asked for.
+/// Returns the survey that is asked for.
 fn survey_of(alloc: Global, matches: &ArgMatches<'_>) -> Result<SurveyRequest, NoMemory>
     ensures { IfOk result (AsksSurvey (rows_of (found_of matches.now))) }
 {
@@ -416,10 +426,13 @@ fn survey_of(alloc: Global, matches: &ArgMatches<'_>) -> Result<SurveyRequest, N
     })
 }
 
-/// The conversion that is asked for. `clap` has refused words that name no format.
+/// Returns the conversion that is asked for, or `None` if no format has the name that is given,
+/// which
+/// `clap` doesn't let happen.
 fn conversion_of(alloc: Global, matches: &ArgMatches<'_>) -> Result<Option<Request>, CommandFault>
     ensures range { IfOk result (λ asked. IfSome asked HasSettingsInRange) }
-    ensures asked { IfOk result (λ asked. IfSome asked (Asks (codes "convert") (rows_of (found_of matches.now)))) }
+    ensures asked { IfOk result (λ asked.
+        IfSome asked (Asks (codes "convert") (rows_of (found_of matches.now)))) }
 {
     let Some(format) = Format::of_word(text_in(matches, "to")) else {
         return Ok(None);
@@ -427,14 +440,15 @@ fn conversion_of(alloc: Global, matches: &ArgMatches<'_>) -> Result<Option<Reque
     Ok(Some(Request::Convert(format, text_of(alloc, matches, "file")?)))
 }
 
-/// What a command and its words ask for, if the command is known.
+/// Returns what the command `name` with its values asks for, or `None` if there is no such command.
 fn request_of(
     alloc: Global,
     name: &str,
     matches: &ArgMatches<'_>,
 ) -> Result<Option<Request>, CommandFault>
     ensures range { IfOk result (λ asked. IfSome asked HasSettingsInRange) }
-    ensures asked { IfOk result (λ asked. IfSome asked (Asks name.now (rows_of (found_of matches.now)))) }
+    ensures asked { IfOk result (λ asked.
+        IfSome asked (Asks name.now (rows_of (found_of matches.now)))) }
 {
     let request = match name {
         "survey" => Request::Survey(survey_of(alloc, matches)?),
@@ -449,13 +463,13 @@ fn request_of(
     Ok(Some(request))
 }
 
-/// The fault of words that name no command.
+/// Returns the fault of words that name no command.
 fn missing_command(command: &mut Command<'_>) -> Result<CommandFault, NoMemory> {
     let error = command.error(ErrorKind::MissingSubcommand, "a command is missing")?;
     Ok(CommandFault::from(error))
 }
 
-/// What the command that `clap` entered asks for, if it is known.
+/// Returns what the command that `clap` found asks for, or `None` if there is no such command.
 fn request_in(alloc: Global, matches: &ArgMatches<'_>) -> Result<Option<Request>, CommandFault>
     ensures range { IfOk result (λ asked. IfSome asked HasSettingsInRange) }
     ensures asked { IfOk result (λ asked. IfSome asked (AsksIn (subcommand_rows_of matches.now))) }
@@ -466,7 +480,7 @@ fn request_in(alloc: Global, matches: &ArgMatches<'_>) -> Result<Option<Request>
     }
 }
 
-/// What the words ask for of a program, if they name a command that is known.
+/// Returns what `words` ask `program` for, or `None` if they name no command.
 fn request_by<'a>(
     alloc: Global,
     program: &mut Command<'a>,
@@ -474,13 +488,15 @@ fn request_by<'a>(
 ) -> Result<Option<Request>, CommandFault>
     ensures range { IfOk result (λ asked. IfSome asked HasSettingsInRange) }
     ensures asked { (formats picks : Choices) → IsCommand (program_app formats picks) program.old
-        → IfOk result (λ asked. IfSome asked (AsksIn (subcommand_of (program_app formats picks) (map string_bytes words.now)))) }
+        → IfOk result (λ asked. IfSome asked (AsksIn
+        (subcommand_of (program_app formats picks) (map string_bytes words.now)))) }
 {
     let matches = program.try_get_matches_from_mut(words)?;
     request_in(alloc, &matches)
 }
 
-/// What the words after the program's name ask for.
+/// Parses the words after the program's name. An error holds `clap`'s message, which is help or the
+/// version if that is asked for.
 pub fn parse_words(alloc: Global, words: Vec<String>) -> Result<Request, CommandFault>
     ensures range { IfOk result HasSettingsInRange }
     ensures asked { IfOk result (WordsAsk (map string_bytes words.items)) }

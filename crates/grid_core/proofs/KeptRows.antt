@@ -1,4 +1,4 @@
--- The rows that a grid keeps.
+-- The stored rows of a grid, and how they make up its cells.
 use Rattle.grid_core.proofs.Names.{◌≡◌, ℕ, ◌+◌, ◌-◌, ◌*◌, ◌<◌, ◌≤◌, List, [], length, replicate, get_or, set, refl, arith, length-set, ext_get_or, length-map, get_or-map, length-append, length-replicate, get_or_append_left, get_or-append_right, get_or-replicate, append_assoc, append-nil, map-set, replicate-append-replicate, set-append_left, Cell, Unknown, Row, AreRowsOf, bit_at-zero, nat_tests, all_rows, row_cells, rows_cells, unknown_row, PartialGrid, cells_of_rows, row_of, with_row}
 use Rattle.std.proofs.lemmas.Grind.{elements}
 use Rattle.grid_core.proofs.LineCells.{cells-none, length_line}
@@ -6,24 +6,24 @@ use Rattle.grid_core.specs.KeptRows.{AreRows, IsRow}
 use Rattle.grid_core.specs.PartialGrid.{IsSize}
 use Rattle.grid_core.proofs.RowLists.{AreLong, cells-set_row, cells-unknown, length-rows, row_of-rows}
 
--- the grid that keeps these rows
+-- the grid of `w` by `h` cells that stores `rows`
 abbrev pub kept_grid : ℕ → ℕ → List Row → PartialGrid
 kept_grid w h rows = record { width = w; height = h; cells = cells_of_rows (rows_cells w (all_rows h rows)) }
 
--- each has as many cells as the grid is wide
+-- each row has `w` cells
 rows-long : (w : ℕ) (rows : List Row) → AreLong w (rows_cells w rows)
 rows-long w rows y l = grind (arith, get_or-map (row_cells w) rows y unknown_row [], length-map, length_line)
 
--- with those below the written ones there are `h` rows
+-- `all_rows` has `h` rows
 length-all : (h : ℕ) (rows : List Row) → length rows ≤ h → length (all_rows h rows) ≡ h
 length-all h rows l = grind (arith, length-append, length-replicate)
 
--- all rows together have as many cells as the grid is wide times their number
+-- a grid has `w * h` cells
 pub count-cells : (w h : ℕ) (rows : List Row) → length rows ≤ h → length (cells_of_rows (rows_cells w (all_rows h rows))) ≡ w * h
 count-cells w h rows l =
     let all = all_rows h rows in grind (arith, length-rows w (rows_cells w all) (rows-long w all), length-map, length-all h rows)
 
--- the row of a grid is that one of all
+-- row `y` of a grid has the cells of element `y` of `all_rows`
 row-is : (w h : ℕ) (rows : List Row) (y : ℕ) (row : Row) → length rows ≤ h → y < h → get_or (all_rows h rows) y row ≡ row →
     row_cells w row ≡ row_of (kept_grid w h rows) y
 row-is w h rows y row few l is =
@@ -32,31 +32,31 @@ row-is w h rows y row few l is =
     let at = row_of-rows (kept_grid w h rows) (rows_cells w all) y (rows-long w all) (rw length-map within) refl in
     grind (arith, get_or-map (row_cells w) all y row [])
 
--- a written row is one of the grid's
+-- a stored row has the cells of the grid's row
 pub row_written : (w h : ℕ) (rows : List Row) (y : ℕ) (row : Row) → length rows ≤ h → y < length rows → row ≡ get_or rows y row →
     row_cells w row ≡ row_of (kept_grid w h rows) y
 row_written w h rows y row few l is = grind (arith, row-is w h rows y row, get_or_append_left)
 
--- and nothing is known of a row below the written ones
+-- a row below the stored ones has unknown cells
 pub row_unknown : (w h : ℕ) (rows : List Row) (y : ℕ) → length rows ≤ h → length rows ≤ y → y < h →
     replicate w Unknown ≡ row_of (kept_grid w h rows) y
 row_unknown w h rows y few from l = grind (arith, row-is w h rows y unknown_row, cells-none, get_or-append_right, get_or-replicate)
 
--- a row of which nothing is known is one
+-- the row of unknown cells is a row of `w` cells
 unknown_is : (w : ℕ) → 1 ≤ w → w ≤ 256 → IsRow w unknown_row
 unfolding IsRow
 unknown_is w some short = grind (arith, nat_tests, bit_at-zero)
 
--- a grid with no row written is unknown
+-- a grid that stores no row has unknown cells
 pub none_written : (w h : ℕ) (rows : List Row) → rows ≡ [] →
     kept_grid w h rows ≡ record { width = w; height = h; cells = replicate (w * h) Unknown }
 none_written w h rows e = grind (arith, cells-unknown (row_cells w) unknown_row w h, cells-none)
 
--- to write rows of which nothing is known changes none
+-- appending unknown rows, up to `n` rows, doesn't change the grid's rows
 filled-up : (h n : ℕ) (rows : List Row) → n ≤ h → all_rows h (all_rows n rows) ≡ all_rows h rows
 filled-up h n rows l = grind (arith, append_assoc, length-append, length-replicate, replicate-append-replicate)
 
--- with one row written, the grid has a line's cells there
+-- replacing one stored row by a line's cells replaces that row of the grid
 pub one_written : (w h : ℕ) (rows filled : List Row) (y : ℕ) (row : Row) (line : List Cell) → length rows ≤ h → y < h →
     filled ≡ all_rows (y + 1) rows → row_cells w row ≡ line →
     kept_grid w h (set filled y row) ≡ with_row (kept_grid w h rows) y line
@@ -65,13 +65,13 @@ one_written w h rows filled y row line few l is cells =
     grind (arith, length-set, set-append_left, length-append, length-replicate, filled-up h (y + 1) rows) in
     grind (arith, all, map-set, cells-set_row w (rows_cells w (all_rows h rows)) y line, rows-long w, length-map, length-all)
 
--- and each row that was written is one
+-- replacing one stored row preserves the invariant of the stored rows
 pub rows_written : (w h n y room : ℕ) (rows : List Row) (row : Row) → IsSize w h → AreRows w h rows room → n ≤ h → IsRow w row →
     AreRows w h (set (all_rows n rows) y row) room
 rows_written w h n y room rows row size are l is =
     let none = unknown_is w size.width_from size.width_to in grind (arith, elements)
 
--- with a row for each line, the grid has the lines' cells
+-- a grid that stores a row for each line has the cells of the lines
 pub all_written : (w h : ℕ) (rows : List Row) (lines : List (List Cell)) → length lines ≡ h → AreLong w lines
     → AreRowsOf lines rows → kept_grid w h rows ≡ record { width = w; height = h; cells = cells_of_rows lines }
 all_written w h rows lines tall wide are =

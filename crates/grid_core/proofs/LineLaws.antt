@@ -1,4 +1,4 @@
--- The lines of a puzzle by number, and the cells along a line.
+-- The lines of a puzzle by axis and number, and the cells along a line.
 use Rattle.grid_core.proofs.Names.{◌≡◌, refl, sym, ℕ, zero, suc, ◌+◌, ◌*◌, ◌<◌, ◌≤◌, false, List, [], length, map, get_or, take, drop, arith, ext_get_or, length-drop, get_or-drop, get_or-take, mul-le-mul_right, drop-append_seam, take-append_seam, get_or-map, length-map, length-take-le, length-enumerate_from, get_or-enumerate_from, All, enumerate_from, Rows, Columns, GridLine, Nonogram, cells_at, clues_on, crossing, line_on, lines_of, numbered_line, places_from, places_on}
 use Rattle.std.proofs.lemmas.List.Elements.{All-append, All-drop, All-get_or, All-take}
 use Rattle.grid_core.specs.declared.sides.Side.{Side}
@@ -8,7 +8,7 @@ use Rattle.grid_core.specs.steps.Sides.{count_on, place_on}
 abbrev lines_on : Side → Nonogram → List GridLine
 lines_on side p = map (numbered_line side p) (enumerate_from 0 (clues_on side p))
 
--- line i of a side, in the list of its lines
+-- element `i` of the list of an axis's lines is line `i` of the axis
 at : (side : Side) (p : Nonogram) (i : ℕ) (d : GridLine) → i < length (clues_on side p) → get_or (lines_on side p) i d ≡ line_on side p i
 at side p i d l =
     let numbered = enumerate_from 0 (clues_on side p) in
@@ -23,7 +23,7 @@ pub all_lines : (P : GridLine → Type 0) (p : Nonogram) → ((y : ℕ) → y < 
     ((x : ℕ) → x < length p.columns → P (line_on Columns p x)) → All P (lines_of p)
 all_lines P p r c = All-append P (lines_on Rows p) (lines_on Columns p) (all_on P p Rows r) (all_on P p Columns c)
 
--- what holds of each line holds of line i of a side
+-- what holds of each line holds of line `i` of an axis
 pub each_line : (P : GridLine → Type 0) (p : Nonogram) → All P (lines_of p) → (side : Side) (i : ℕ) → i < length (clues_on side p) →
     P (line_on side p i)
 each_line P p h side i l =
@@ -43,12 +43,12 @@ get_or-places_from first step zero i h = absurd (omega arith)
 get_or-places_from first step (suc n) zero h = omega arith
 get_or-places_from first step (suc n) (suc i) h = omega (arith, get_or-places_from (first + step) step n i (omega arith))
 
--- a line has as many cells as the other side has lines
+-- a line has as many cells as there are lines that cross it
 pub length-places_on : (side : Side) (w h i : ℕ) → length (places_on side w h i) ≡ count_on (crossing side) w h
 length-places_on Rows w h i = length-places_from (i * w) 1 w
 length-places_on Columns w h i = length-places_from i w h
 
--- the place of cell k of a line
+-- the index of cell `k` of line `i`
 pub get_or-places_on : (side : Side) (w h i k : ℕ) → k < count_on (crossing side) w h →
     get_or (places_on side w h i) k 0 ≡ place_on side w i k
 get_or-places_on Rows w h i k l = grind (arith, get_or-places_from)
@@ -61,18 +61,18 @@ pub get_or-cells_at : {X : Type 0} (d : X) (cells : List X) (places : List ℕ) 
     → get_or (cells_at d cells places) i d ≡ get_or cells (get_or places i 0) d
 get_or-cells_at d cells places i h = get_or-map (λ k. get_or cells k d) places i 0 d h
 
--- a list that has the cells of a line, place by place, is the cells along it
+-- a list that has, at each index, the cell at that position of a line is the list of the line's cells
 pub cells-along : {X : Type 0} (d : X) (cells line : List X) (first step count : ℕ) → length line ≡ count
     → ((k : ℕ) → k < count → get_or line k d ≡ get_or cells (first + k * step) d) → line ≡ cells_at d cells (places_from first step count)
 cells-along d cells line first step count e h =
     ext_get_or d line (cells_at d cells (places_from first step count)) (grind (arith, length-cells_at, length-places_from)) (λ k l.
     grind (arith, get_or-cells_at, length-places_from, get_or-places_from, h k))
 
--- row y ends within a grid of w columns and h rows, if y < h
+-- row `y` ends within a grid of `w` columns and `h` rows, if `y < h`
 pub row-within : (w h y : ℕ) → y < h → y * w + w ≤ w * h
 row-within w h y l = omega (arith, mul-le-mul_right w l)
 
--- the cell in column x and row y lies within a grid of w columns and h rows, if x < w and y < h
+-- the cell in column `x` and row `y` is within a grid of `w` columns and `h` rows, if `x < w` and `y < h`
 pub place-within : (w h x y : ℕ) → x < w → y < h → y * w + x < w * h
 place-within w h x y k l = omega (arith, row-within w h y l)
 
@@ -84,5 +84,5 @@ row-is_range p full y long l =
     sym (cells-along false full row (y * p.width) 1 p.width (grind (arith, length-take-le, length-drop)) (λ k h.
     grind (arith, get_or-take, get_or-drop)))
 
--- and the cells of a column are every w-th cell
+-- the rules by which the cells of a row are a range, and those of a column are `w` apart
 pub ruleset lines_lie = (row-is_range, length-cells_at, length-places_from, get_or-cells_at, get_or-places_from, place-within)

@@ -6,7 +6,7 @@ use Rattle.grid_core.specs.declared.fields.Field.{Field}
 use Rattle.grid_core.specs.declared.fields.Field.TheVariants.{Catalogue, Title, By, Copyright, License}
 use Rattle.grid_core.specs.declared.limits.TheConstants.{LONGEST_TEXT}
 
--- the texts of a puzzle as bytes, each perhaps absent
+-- the texts of a puzzle by field, as bytes; each may be absent
 pub record Description : Type 0 where
   pub catalogue : Option (List ℕ)
   pub title : Option (List ℕ)
@@ -14,11 +14,11 @@ pub record Description : Type 0 where
   pub copyright : Option (List ℕ)
   pub license : Option (List ℕ)
 
--- no text at all
+-- the description without any text
 abbrev pub no_texts : Description
 no_texts = record { catalogue = None; title = None; by = None; copyright = None; license = None }
 
--- these texts, or none
+-- the given description, or the one without any text if there is none
 abbrev pub described : Option Description → Description
 described None = no_texts
 described (Some d) = d
@@ -28,7 +28,7 @@ abbrev pub bytes_of : Option (Vec ℕ Global) → Option (List ℕ)
 bytes_of None = None
 bytes_of (Some v) = Some v.items
 
--- the text of a field
+-- the text of a field of `d`, if it has one
 abbrev pub text_of : Description → Field → Option (List ℕ)
 text_of d Catalogue = d.catalogue
 text_of d Title = d.title
@@ -36,7 +36,7 @@ text_of d By = d.by
 text_of d Copyright = d.copyright
 text_of d License = d.license
 
--- the description with another text of a field
+-- the description `d` with `text` as the text of a field
 abbrev pub with_text : Description → Field → List ℕ → Description
 with_text d Catalogue text = record d { catalogue = Some text }
 with_text d Title text = record d { title = Some text }
@@ -44,16 +44,16 @@ with_text d By text = record d { by = Some text }
 with_text d Copyright text = record d { copyright = Some text }
 with_text d License text = record d { license = Some text }
 
--- whether bytes may stand in a field: not too many, and no line feed
+-- whether `bytes` are admissible as a text: at most `LONGEST_TEXT` bytes, none of them a line feed
 abbrev pub is_text : List ℕ → Bool
 is_text bytes = nat_le (length bytes) LONGEST_TEXT && list_all (λ byte. not (byte == 10)) bytes
 
--- whether what a field has may stand there
+-- whether the text of a field, if there is one, is admissible
 abbrev pub is_field : Option (List ℕ) → Bool
 is_field None = true
 is_field (Some bytes) = is_text bytes
 
--- each text that is there may stand in its field
+-- each text of `d` is admissible; the invariant of the type `Texts`
 pub record IsDescription (d : Description) : Type 0 where
   pub catalogue : is_field d.catalogue ≡ true
   pub title : is_field d.title ≡ true

@@ -1,39 +1,42 @@
--- Rows as a grid keeps them: two sets of places each, and no length.
+-- The rows of a grid as they are stored: two sets of cell indices each, without a length.
 use Rattle.std.specs.Prelude.{◌≡◌, ◌<◌, ◌≤◌, ◌-◌, ℕ, List, [], ◌++◌, length, map, replicate, slice_index_or}
 use Rattle.place_sets.specs.Masks.{number_of}
 use Rattle.grid_core.specs.declared.cells.Cell.{Cell}
 use Rattle.grid_core.specs.declared.rows.Row.{Row}
 use Rattle.grid_core.specs.Lines.{IsLine, line_cells}
 
--- the first `width` cells of a row
+-- the first `width` cells of `row`
 abbrev pub row_cells : ℕ → Row → List Cell
 row_cells width row = line_cells width (number_of row.filled) (number_of row.blank)
 
--- of each of these rows the first `width` cells
+-- the first `width` cells of each of `rows`
 abbrev pub rows_cells : ℕ → List Row → List (List Cell)
 rows_cells width rows = map (row_cells width) rows
 
--- a row has the sets of a line of `width` cells
+-- the sets of `row` are those of a line of `width` cells
 unfoldable pub IsRow : ℕ → Row → Type 0
 IsRow width row = IsLine 256 width (number_of row.filled) (number_of row.blank)
 
--- a row of which nothing is known
+-- the row of unknown cells
 abbrev pub unknown_row : Row
 unknown_row = record { filled = record { low = 0; high = 0 }; blank = record { low = 0; high = 0 } }
 
--- `height` rows, or more if more were written: below the written ones nothing is known
+-- `rows`, extended by unknown rows to `height` rows if they are fewer
 abbrev pub all_rows : ℕ → List Row → List Row
 all_rows height rows = rows ++ replicate (height - length rows) unknown_row
 
--- each of the rows that were written is one, of `height` at most, with room for all
+-- `rows` are the stored rows of a grid of `width` by `height` cells, the others being unknown, and
+-- a capacity of `room` suffices for all rows
 pub record AreRows (width height : ℕ) (rows : List Row) (room : ℕ) : Type 0 where
   pub each : (y : ℕ) → y < length rows → (row : Row) → IsRow width (slice_index_or rows y row)
   pub written : length rows ≤ height
   pub room_is : height ≤ room
 
--- there is a row for each of these lines, with its cells
+-- `rows` store `lines`, one row for each line
 pub record AreRowsOf (lines : List (List Cell)) (rows : List Row) : Type 0 where
   pub count : length rows ≡ length lines
-  pub each : (y : ℕ) → y < length rows → (row : Row) → IsRow (length (slice_index_or lines y [])) (slice_index_or rows y row)
-  pub cells : (y : ℕ) → y < length rows → (row : Row) →
-      row_cells (length (slice_index_or lines y [])) (slice_index_or rows y row) ≡ slice_index_or lines y []
+  pub each : (y : ℕ) → y < length rows → (row : Row)
+      → IsRow (length (slice_index_or lines y [])) (slice_index_or rows y row)
+  pub cells : (y : ℕ) → y < length rows → (row : Row)
+      → row_cells (length (slice_index_or lines y [])) (slice_index_or rows y row)
+      ≡ slice_index_or lines y []

@@ -1,4 +1,4 @@
--- Lines that are kept as two sets.
+-- Lines that are stored as two bit sets.
 use Rattle.std.specs.Prelude.{◌≡◌, ◌≢◌, ◌<◌, ◌≤◌, ℕ, Bool, true, false, cond, List, length, map, slice_index_or, Option, Some, None}
 use Rattle.std.specs.List.{range_with_len}
 use Rattle.grid_core.specs.declared.cells.Cell.{Cell}
@@ -6,28 +6,33 @@ use Rattle.grid_core.specs.declared.cells.Cell.TheVariants.{Unknown, Filled, Bla
 use Rattle.grid_core.specs.Cells.{is_unknown}
 use Rattle.place_sets.specs.Masks.{Has, has}
 
--- whether the cell is known to be blank
+-- whether a cell is known to be blank
 abbrev pub is_blank : Cell → Bool
 is_blank Unknown = false
 is_blank Filled = false
 is_blank Blank = true
 
--- the cell that two tests tell, whether it is filled and whether it is blank
+-- the cell that is filled if the first value is true, otherwise blank if the second is, otherwise
+-- unknown
 abbrev pub cell_with : Bool → Bool → Cell
 cell_with true blank = Filled
 cell_with false true = Blank
 cell_with false false = Unknown
 
--- the cells of a line that is kept as two sets, of the filled and of the blank ones
+-- the cells of a line of `len` cells whose sets are `filled` and `blank`
 abbrev pub line_cells : ℕ → ℕ → ℕ → List Cell
-line_cells len filled blank = map (λ place. cell_with (has filled place) (has blank place)) (range_with_len 0 len)
+line_cells len filled blank =
+    map (λ place. cell_with (has filled place) (has blank place)) (range_with_len 0 len)
 
--- a line with the cells at some places unknown
+-- `line` with the cells at the indices in `places` unknown
 abbrev pub unlearned : ℕ → List Cell → List Cell
-unlearned places line = map (λ k. cond (has places k) Unknown (slice_index_or line k Unknown)) (range_with_len 0 (length line))
+unlearned places line =
+    map (λ k. cond (has places k) Unknown (slice_index_or line k Unknown))
+    (range_with_len 0 (length line))
 
--- a line has a cell at least, no more of them than there are places, none of them is filled and blank,
--- and its sets have no other place
+-- `filled` and `blank` are the sets of a line of `len` cells: it has from 1 to `width` cells and at
+-- most 256, no index is in both sets, and each is less than `len`; the invariant of the type
+-- `LineOf`
 pub record IsLine (width len filled blank : ℕ) : Type 0 where
   pub some : 1 ≤ len
   pub short : len ≤ width
@@ -36,17 +41,20 @@ pub record IsLine (width len filled blank : ℕ) : Type 0 where
   pub filled_in : (i : ℕ) → Has filled i → i < len
   pub blank_in : (i : ℕ) → Has blank i → i < len
 
--- a place at which two lines differ
+-- `line` and `other` differ at index `i`
 abbrev pub IsChanged : List Cell → List Cell → ℕ → Type 0
-IsChanged line other i = (i < length line) × (slice_index_or other i Unknown ≢ slice_index_or line i Unknown)
+IsChanged line other i =
+    (i < length line) × (slice_index_or other i Unknown ≢ slice_index_or line i Unknown)
 
--- a place of an unknown cell
+-- the cell at index `i` is unknown
 abbrev pub IsUnknownCell : List Cell → ℕ → Type 0
 IsUnknownCell cells i = (i < length cells) × (slice_index_or cells i Unknown ≡ Unknown)
 
--- the first cell from a place on that is unknown, or none if all from there on are known
+-- the last argument is the index of the first unknown cell at or after index `from`, or none if
+-- there is no such cell
 abbrev pub IsUnknownFrom : List Cell → ℕ → Option ℕ → Type 0
-IsUnknownFrom cells from None = (k : ℕ) → from ≤ k → k < length cells → is_unknown (slice_index_or cells k Unknown) ≡ false
+IsUnknownFrom cells from None = (k : ℕ) → from ≤ k → k < length cells
+    → is_unknown (slice_index_or cells k Unknown) ≡ false
 IsUnknownFrom cells from (Some place) =
     (from ≤ place) × (place < length cells) × (slice_index_or cells place Unknown ≡ Unknown)
     × ((k : ℕ) → from ≤ k → k < place → is_unknown (slice_index_or cells k Unknown) ≡ false)

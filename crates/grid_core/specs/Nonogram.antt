@@ -1,4 +1,4 @@
--- Nonograms, and which grids meet their clues.
+-- Nonograms, their lines, and which grids solve them.
 use Rattle.std.specs.Prelude.{◌≡◌, ℕ, zero, suc, ◌+◌, ◌*◌, List, [], ◌∷◌, ◌++◌, map, length, All, Bool, true, false, Option, Some, None, ◌==◌, slice_index_or, Vec}
 use Rattle.std.specs.declared.alloc.Global.{Global}
 use Rattle.std.specs.List.{enumerate_from, list_all, AllByRecursion}
@@ -11,8 +11,8 @@ use Rattle.grid_core.specs.PartialGrid.{PartialGrid, IsSizeWithin}
 use Rattle.grid_core.specs.Cells.{is_known, is_filled}
 use Rattle.grid_core.specs.Runs.{runs}
 
--- a nonogram: a clue for each row, from the top, and for each column, from the left, texts, and perhaps a
--- goal in row order
+-- a nonogram: its width and height in cells, the clue of each row, from the top, and of each
+-- column, from the left, texts, and perhaps a goal, whose values are in row order
 pub record Nonogram : Type 0 where
   pub width : ℕ
   pub height : ℕ
@@ -26,21 +26,29 @@ abbrev pub bools_of : Option (Vec Bool Global) → Option (List Bool)
 bools_of None = None
 bools_of (Some v) = Some v.items
 
--- there is a clue for each row and each column
+-- there is one clue for each row and each column
 abbrev pub HasClueForEachLine : ℕ → ℕ → List (List ℕ) → List (List ℕ) → Type 0
 HasClueForEachLine width height rows columns = (length rows ≡ height) × (length columns ≡ width)
 
--- whether a goal, if there is one, has `count` values
+-- whether the goal, if there is one, has `count` values
 abbrev pub is_goal : ℕ → Option (List Bool) → Bool
 is_goal count None = true
 is_goal count (Some values) = length values == count
 
--- a nonogram without texts and goal
+-- the nonogram of this size and these clues, without texts and goal
 abbrev pub plain : ℕ → ℕ → List (List ℕ) → List (List ℕ) → Nonogram
-plain width height rows columns = record { width = width; height = height; rows = rows; columns = columns; texts = no_texts; goal = None }
+plain width height rows columns = record {
+  width = width;
+  height = height;
+  rows = rows;
+  columns = columns;
+  texts = no_texts;
+  goal = None;
+}
 
--- What a puzzle keeps if the sides and the numbers of a clue go up to the limit: the sizes are in range, each
--- line has a clue, each clue and each text is one, and a goal has a value for each cell.
+-- `p` is a puzzle whose sides and clue numbers are at most `limit`: its width and height are in
+-- range, each line has a clue, the clues and the texts are admissible, and a goal has a value for
+-- each cell
 pub record IsNonogramWithin (limit : ℕ) (p : Nonogram) : Type 0 where
   pub size : IsSizeWithin limit p.width p.height
   pub clues : HasClueForEachLine p.width p.height p.rows p.columns
@@ -49,72 +57,76 @@ pub record IsNonogramWithin (limit : ℕ) (p : Nonogram) : Type 0 where
   pub texts : IsDescription p.texts
   pub goal : is_goal (p.width * p.height) p.goal ≡ true
 
--- what each puzzle keeps
+-- `p` is a puzzle within the limits; the invariant of the type `Puzzle`
 abbrev pub IsNonogram : Nonogram → Type 0
 IsNonogram p = IsNonogramWithin LONGEST_SIDE p
 
--- a line of the grid: the places of its cells in the list of all cells, and its clue
+-- a line of a grid: the indices of its cells in row order, and its clue
 pub record GridLine : Type 0 where
   pub places : List ℕ
   pub clue : List ℕ
 
--- n places: the first, and then others, each a step further
+-- the indices `first`, `first + step`, `first + 2 * step` and so on; the last argument is their
+-- number
 abbrev pub places_from : ℕ → ℕ → ℕ → List ℕ
 places_from first step zero = []
 places_from first step (suc n) = first ∷ places_from (first + step) step n
 
--- the side whose lines cross those of a side
+-- the axis whose lines cross those of the given one
 abbrev pub crossing : Side → Side
 crossing Rows = Columns
 crossing Columns = Rows
 
--- where the cells of line i of a side are: one after the other in a row, a row apart in a column
+-- the indices, in row order, of the cells of line `i` of an axis: consecutive ones for a row, and
+-- ones that are `width` apart for a column
 abbrev pub places_on : Side → ℕ → ℕ → ℕ → List ℕ
 places_on Rows width height i = places_from (i * width) 1 width
 places_on Columns width height i = places_from i width height
 
--- the clues of the lines of a side
+-- the clues of the lines of an axis
 abbrev pub clues_on : Side → Nonogram → List (List ℕ)
 clues_on Rows p = p.rows
 clues_on Columns p = p.columns
 
--- the line of a side of this number and clue
+-- the line of an axis whose number and clue are the pair `numbered`
 abbrev pub numbered_line : Side → Nonogram → ℕ × List ℕ → GridLine
-numbered_line side p numbered = record { places = places_on side p.width p.height numbered.0; clue = numbered.1 }
+numbered_line side p numbered =
+    record { places = places_on side p.width p.height numbered.0; clue = numbered.1 }
 
--- the rows and then the columns
+-- all lines of `p`: the rows, and then the columns
 abbrev pub lines_of : Nonogram → List GridLine
-lines_of p = map (numbered_line Rows p) (enumerate_from 0 p.rows) ++ map (numbered_line Columns p) (enumerate_from 0 p.columns)
+lines_of p = map (numbered_line Rows p) (enumerate_from 0 p.rows)
+    ++ map (numbered_line Columns p) (enumerate_from 0 p.columns)
 
--- line i of a side
+-- line `i` of an axis of `p`
 abbrev pub line_on : Side → Nonogram → ℕ → GridLine
 line_on side p i = numbered_line side p (i, slice_index_or (clues_on side p) i [])
 
--- the cells at some places, d standing for one outside
+-- the elements of `cells` at the indices `places`, with `d` for each index that is out of range
 abbrev pub cells_at : {X : Type 0} → X → List X → List ℕ → List X
 cells_at d cells places = map (λ k. slice_index_or cells k d) places
 
--- along the line the runs of a full grid are the clue
+-- the runs of the full grid `full` along `line` are the line's clue
 abbrev pub MeetsLine : List Bool → GridLine → Type 0
 MeetsLine full line = runs (cells_at false full line.places) ≡ line.clue
 
--- a full grid has the size of the puzzle, and meets the clue of each line
+-- the full grid `full` has as many cells as `p`, and meets the clue of each line
 pub record Meets (p : Nonogram) (full : List Bool) : Type 0 where
   pub size : length full ≡ p.width * p.height
   pub clues : All (MeetsLine full) (lines_of p)
 
--- a grid that has the size of the puzzle, is full, and meets its clues
+-- `g` solves `p`: it has the width and height of `p`, is full, and meets the clue of each line
 pub record Solves (p : Nonogram) (g : PartialGrid) : Type 0 where
   pub width : g.width ≡ p.width
   pub height : g.height ≡ p.height
   pub full : list_all is_known g.cells ≡ true
   pub meets : Meets p (map is_filled g.cells)
 
--- these values are there, and they meet the clues of all lines
+-- the values are present, and they meet the clues of all lines of `p`
 abbrev pub GivenMeets : Nonogram → Option (List Bool) → Type 0
 GivenMeets p None = ⊥
 GivenMeets p (Some values) = Meets p values
 
--- there is a goal, and it meets the clues of all lines
+-- `p` has a goal, and it meets the clues of all lines
 abbrev pub GoalMeets : Nonogram → Type 0
 GoalMeets p = GivenMeets p p.goal

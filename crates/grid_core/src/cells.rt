@@ -1,42 +1,42 @@
-//! Cells.
+//! The cells of a grid.
 
 ghost use Rattle.std.specs.Prelude.{◌≡◌};
 ghost use Rattle.grid_core.specs.Cells.{is_known, is_unknown, is_filled, colour};
 
-/// What is known of a cell.
+/// A cell of a partly known grid: unknown, or known in one of two colours.
 #[derive(Clone, Copy, Debug, PartialEq, Eq)]
 pub enum Cell {
-    /// Nothing is known.
+    /// The colour is not known.
     Unknown,
-    /// It belongs to a run.
+    /// The cell is filled: it belongs to a run.
     Filled,
-    /// It belongs to no run.
+    /// The cell is blank: it belongs to no run.
     Blank,
 }
 
 impl Cell {
-    /// Whether the cell is filled or blank.
+    /// Reports whether the cell is filled or blank.
     pub fn is_known(self) -> bool
         ensures { result ≡ is_known self }
     {
         !matches!(&self, Cell::Unknown)
     }
 
-    /// Whether nothing is known of the cell.
+    /// Reports whether the cell is unknown.
     pub fn is_unknown(self) -> bool
         ensures { result ≡ is_unknown self }
     {
         matches!(&self, Cell::Unknown)
     }
 
-    /// Whether the cell is known to be filled.
+    /// Reports whether the cell is known to be filled.
     pub fn is_filled(self) -> bool
         ensures { result ≡ is_filled self }
     {
         matches!(&self, Cell::Filled)
     }
 
-    /// The cell of a full grid: filled for true, blank for false.
+    /// Returns the known cell of a colour: filled for `true`, blank for `false`.
     pub fn of_colour(filled: bool) -> Cell
         ensures { result ≡ colour filled }
     {

@@ -11,25 +11,26 @@ use std::alloc::{AllocError, Global};
 use std::marker::Model;
 use thiserror::Error;
 
-/// Why numbers are no clue.
+/// The error of making a clue, or of appending a number to one.
 #[derive(Clone, Copy, Debug, PartialEq, Eq, Error)]
 pub enum ClueFault {
-    /// There are more than 128 numbers, or one is 0 or over 256.
+    /// There are more than 128 numbers, or one of them is 0 or greater than 256.
     #[error("a clue has at most 128 numbers, each from 1 to 256")]
     BadNumber,
-    /// A growth of memory was refused.
+    /// An allocation failed.
     #[error("out of memory")]
     NoMemory,
 }
 
-/// The lengths of the runs of filled cells of a line, in order: at most 128 numbers, each from 1 to 256.
-/// No number is the clue of a line with no filled cell.
+/// The lengths of a line's runs, in order: at most 128 numbers, each from 1 to 256. The clue of a
+/// line without filled cells is empty.
 #[derive(Debug)]
 pub struct Clue {
     numbers: SmallVec<u16, 8>,
 }
 
-/// A call of its own, so that a proof takes it as one step.
+/// Written by hand so that callers' proofs see one call: a derived drop is expanded at each exit of
+/// each caller.
 impl Drop for Clue {
     fn drop(self) {
         let Clue { numbers: _ } = self;
@@ -49,12 +50,13 @@ impl Model for Clue {
 }
 
 impl Clue {
-    /// The clue of these numbers. `BadNumber` if there are more than 128, or one is 0 or over 256; else
-    /// perhaps `NoMemory`.
+    /// Returns the clue of these numbers. Fails with `BadNumber` if there are more than 128, or one
+    /// is 0 or greater than 256, and otherwise with `NoMemory` if an allocation fails.
     pub fn from_numbers(alloc: Global, numbers: &[u16]) -> Result<Clue, ClueFault>
         ensures ok { IfOk result (λ clue. clue ≡ numbers.now) }
         ensures clue { OnOk result (is_clue LONGEST_SIDE numbers.now ≡ true) }
-        ensures bad_number { IsErrOf result ClueFault.BadNumber ↔ (is_clue LONGEST_SIDE numbers.now ≡ false) }
+        ensures bad_number { IsErrOf result ClueFault.BadNumber
+            ↔ (is_clue LONGEST_SIDE numbers.now ≡ false) }
     {
         if !is_clue(numbers) {
             return Err(ClueFault::BadNumber);
@@ -65,7 +67,7 @@ impl Clue {
         }
     }
 
-    /// The clue of no number.
+    /// Returns the empty clue.
     pub fn empty(alloc: Global) -> Clue
         ensures { result ≡ [] }
     {
@@ -74,15 +76,19 @@ impl Clue {
         }
     }
 
-    /// Adds a number at the end. `BadNumber` if there are 128 already, or it is 0 or over 256; else perhaps
-    /// `NoMemory`: then the clue is as it was. The first growth makes room for all numbers that a clue can
-    /// have.
+    /// Appends `number` to the clue. Fails with `BadNumber` if the clue has 128 numbers already, or
+    /// `number` is 0 or greater than 256, and otherwise with `NoMemory` if an allocation fails;
+    /// after a failure the clue is unchanged. The first allocation reserves the capacity for all
+    /// numbers that a clue can have.
     pub fn push(&mut self, number: u16) -> Result<(), ClueFault>
         ensures ok { OnOk result (self.new ≡ self.old ++ number ∷ []) }
         ensures err { OnErr result (self.new ≡ self.old) }
         ensures clue { OnOk result (is_clue LONGEST_SIDE (self.old ++ number ∷ []) ≡ true) }
-        ensures bad_number { IsErrOf result ClueFault.BadNumber ↔ (is_clue LONGEST_SIDE (self.old ++ number ∷ []) ≡ false) }
+        ensures bad_number { IsErrOf result ClueFault.BadNumber
+            ↔ (is_clue LONGEST_SIDE (self.old ++ number ∷ []) ≡ false) }
     {
+        // A clue that is stored inline has at most 8 numbers, and whether it is inline is cheaper
+        // to test than its length.
         let full = self.numbers.spilled() && self.numbers.len() == MOST_RUNS;
         if full || !is_run(number) {
             return Err(ClueFault::BadNumber);
@@ -96,7 +102,7 @@ impl Clue {
         Ok(())
     }
 
-    /// The numbers, in order.
+    /// Returns the numbers, in order.
     pub fn numbers(&self) -> &[u16]
         ensures numbers { result.now ≡ self.now }
         ensures clue { is_clue LONGEST_SIDE self.now ≡ true }
@@ -104,7 +110,7 @@ impl Clue {
         self.numbers.as_slice()
     }
 
-    /// The same clue once more.
+    /// Returns a copy of the clue, or `NoMemory` if an allocation fails.
     pub fn copy(&self, alloc: Global) -> Result<Clue, NoMemory>
         ensures { IfOk result (λ clue. clue ≡ self.now) }
     {
@@ -114,21 +120,21 @@ impl Clue {
     }
 }
 
-/// Whether a number can be the length of a run.
+/// Reports whether `number` can be the length of a run, which is from 1 to 256.
 fn is_run(number: u16) -> bool
     ensures { result ≡ is_run LONGEST_SIDE number }
 {
     (1..=LONGEST_SIDE).contains(&number)
 }
 
-/// Whether each number can be the length of a run.
+/// Reports whether each of `numbers` can be the length of a run.
 fn are_runs(numbers: &[u16]) -> bool
     ensures { result ≡ list_all (is_run LONGEST_SIDE) numbers.now }
 {
     numbers.iter().all(|number| is_run(*number))
 }
 
-/// Whether numbers are a clue.
+/// Reports whether `numbers` are a clue: at most 128 lengths of runs.
 fn is_clue(numbers: &[u16]) -> bool
     ensures { result ≡ is_clue LONGEST_SIDE numbers.now }
 {

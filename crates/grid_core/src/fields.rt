@@ -11,33 +11,33 @@ use std::boxed::Box;
 use std::marker::Model;
 use thiserror::Error;
 
-/// Why a text is refused.
+/// The error of setting a text.
 #[derive(Clone, Copy, Debug, PartialEq, Eq, Error)]
 pub enum TextsFault {
-    /// The text holds a line feed, or is longer than 65,536 bytes.
+    /// The text contains a line feed, or is longer than 65,536 bytes.
     #[error("a text has at most 65536 bytes and no line feed")]
     BadText,
-    /// A growth of memory was refused.
+    /// An allocation failed.
     #[error("out of memory")]
     NoMemory,
 }
 
-/// Which of a puzzle's texts.
+/// A field of a puzzle's description, which may have a text.
 #[derive(Clone, Copy, Debug, PartialEq, Eq)]
 pub enum Field {
     /// The number or name of the puzzle in a catalogue.
     Catalogue,
-    /// What the puzzle is called.
+    /// The title of the puzzle.
     Title,
-    /// Who made it.
+    /// The author of the puzzle.
     By,
-    /// Whose rights are kept.
+    /// The copyright notice.
     Copyright,
-    /// Under which license it may be used.
+    /// The license under which the puzzle may be used.
     License,
 }
 
-/// A place for each text.
+/// The texts of a puzzle by field.
 #[derive(Debug, Drop)]
 struct Fields {
     catalogue: Option<Vec<u8>>,
@@ -70,7 +70,7 @@ impl Model for Fields {
 }
 
 impl Fields {
-    /// No text at all.
+    /// Returns a description without any text.
     fn none() -> Fields
         ensures { result ≡ no_texts }
     {
@@ -83,7 +83,7 @@ impl Fields {
         }
     }
 
-    /// The text of a field, if it has one.
+    /// Returns the text of `field`, if it has one.
     fn get(&self, field: Field) -> Option<&[u8]>
         ensures text { option_map (λ bytes. bytes.now) result ≡ text_of self.now field }
         ensures texts { IsDescription self.now }
@@ -101,7 +101,7 @@ impl Fields {
         }
     }
 
-    /// Sets the text of a field.
+    /// Makes `bytes` the text of `field`.
     fn set(&mut self, field: Field, bytes: Vec<u8>)
         requires { is_text bytes.items ≡ true }
         ensures { self.new ≡ with_text self.old field bytes.items }
@@ -115,7 +115,7 @@ impl Fields {
         }
     }
 
-    /// The same texts once more.
+    /// Returns a copy of the texts, or `NoMemory` if an allocation fails.
     fn copy(&self) -> Result<Fields, NoMemory>
         ensures { IfOk result (λ texts. texts ≡ self.now) }
     {
@@ -129,7 +129,7 @@ impl Fields {
     }
 }
 
-/// The texts that describe a puzzle. They lie apart from it, so that a puzzle is moved in few words.
+/// The texts that describe a puzzle. They are boxed, so that moving a puzzle copies few words.
 #[derive(Debug, Drop)]
 pub struct Texts {
     fields: Option<Box<Fields>>,
@@ -145,14 +145,14 @@ impl Model for Texts {
 }
 
 impl Texts {
-    /// No text at all.
+    /// Returns a description without any text.
     pub fn none() -> Texts
         ensures { result ≡ no_texts }
     {
         Texts { fields: None }
     }
 
-    /// The text of a field, if it has one.
+    /// Returns the text of `field`, if it has one.
     pub fn get(&self, field: Field) -> Option<&[u8]>
         ensures text { option_map (λ bytes. bytes.now) result ≡ text_of self.now field }
         ensures texts { IsDescription self.now }
@@ -163,7 +163,7 @@ impl Texts {
         }
     }
 
-    /// The same texts once more.
+    /// Returns a copy of the texts, or `NoMemory` if an allocation fails.
     pub(crate) fn copy(&self, alloc: Global) -> Result<Texts, NoMemory>
         ensures { IfOk result (λ texts. texts ≡ self.now) }
     {
@@ -174,15 +174,17 @@ impl Texts {
         Ok(Texts { fields })
     }
 
-    // What the type keeps.
+    /// Brings the invariant of the texts, that each of them is admissible, into the caller's proof.
+    /// It has no other effect.
     pub(crate) fn see(&self)
         ensures { IsDescription self.now }
     {
         let _ = self.get(Field::Title);
     }
 
-    /// Sets the text of a field, any bytes. `BadText` if the text holds a line feed or is longer than 65,536
-    /// bytes; else perhaps `NoMemory`. After an error the texts are as they were.
+    /// Sets the text of `field` to `text`, which need not be UTF-8. Fails with `BadText` if `text`
+    /// contains a line feed or is longer than 65,536 bytes, and otherwise with `NoMemory` if an
+    /// allocation fails; after a failure the texts are unchanged.
     pub fn set(&mut self, alloc: Global, field: Field, text: &[u8]) -> Result<(), TextsFault>
         ensures ok { OnOk result (self.new ≡ with_text self.old field text.now) }
         ensures text { OnOk result (is_text text.now ≡ true) }
@@ -192,6 +194,7 @@ impl Texts {
         if !is_text(text) {
             return Err(TextsFault::BadText);
         }
+        // All memory is allocated before `self` is changed, so that a failure leaves it as it is.
         let Ok(bytes) = text.to_vec(alloc) else {
             return Err(TextsFault::NoMemory);
         };
@@ -210,7 +213,7 @@ impl Texts {
     }
 }
 
-/// The same text once more, if there is one.
+/// Returns a copy of the text, if there is one, or `NoMemory` if an allocation fails.
 fn copy_text(text: &Option<Vec<u8>>) -> Result<Option<Vec<u8>>, NoMemory>
     ensures { IfOk result (λ copied. bytes_of copied ≡ bytes_of text.now) }
 {
@@ -220,14 +223,14 @@ fn copy_text(text: &Option<Vec<u8>>) -> Result<Option<Vec<u8>>, NoMemory>
     }
 }
 
-/// Whether bytes hold no line feed.
+/// Reports whether `text` contains no line feed.
 fn has_no_feed(text: &[u8]) -> bool
     ensures { result ≡ list_all (λ byte. not (byte == 10)) text.now }
 {
     text.iter().all(|byte| *byte != b'\n')
 }
 
-/// Whether bytes may be a text of a puzzle.
+/// Reports whether `text` is admissible: at most 65,536 bytes without a line feed.
 fn is_text(text: &[u8]) -> bool
     ensures { result ≡ is_text text.now }
 {

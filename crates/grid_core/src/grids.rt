@@ -13,16 +13,18 @@ use place_sets::{PlaceSet, Wide};
 use std::alloc::Global;
 use std::marker::Model;
 
-/// A partly known grid: a width and a height from 1 to 256, and what is known of each cell, row by row.
+/// A partly known grid: a width and a height, from 1 to 256 cells each, and the cells in row order.
 #[derive(Debug)]
 pub struct Grid {
     width: u16,
     height: u16,
-    /// The rows that were written, from the top, with room for all. Nothing is known of those below.
+    /// The rows from the top to the lowest one that was written; those below are unknown. The
+    /// capacity suffices for all rows, so that writing a row never allocates.
     rows: Vec<Row>,
 }
 
-/// A call of its own, so that a proof takes it as one step.
+/// Written by hand so that callers' proofs see one call: a derived drop is expanded at each exit of
+/// each caller.
 impl Drop for Grid {
     fn drop(self) {
         let Grid {
@@ -41,12 +43,18 @@ impl Model for Grid {
 
     ghost Value = { PartialGrid };
 
-    ghost view = { λ g. record { width = g.width; height = g.height; cells = cells_of_rows (rows_cells g.width (all_rows g.height g.rows.items)) } };
+    ghost view = { λ g. record {
+      width = g.width;
+      height = g.height;
+      cells = cells_of_rows (rows_cells g.width (all_rows g.height g.rows.items));
+    } };
 
-    ghost invariant = { λ g. IsSize g.width g.height × AreRows g.width g.height g.rows.items (vec_capacity g.rows) };
+    ghost invariant = { λ g. IsSize g.width g.height
+        × AreRows g.width g.height g.rows.items (vec_capacity g.rows) };
 }
 
-/// Adds rows of which nothing is known, in room that is made, until there are `count` rows.
+/// Appends unknown rows until there are `count`. Allocates nothing: the capacity of `rows` has to
+/// be at least `count`.
 fn fill_up(rows: &mut Vec<Row>, count: usize)
     requires { count ≤ vec_capacity rows.old }
     ensures rows { rows.new.items ≡ all_rows count rows.old.items }
@@ -57,7 +65,8 @@ fn fill_up(rows: &mut Vec<Row>, count: usize)
     }
 }
 
-/// Writes rows with the cells of lines in place of others, in room that is made.
+/// Replaces the rows by those of `lines`. Allocates nothing: the capacity of `rows` has to be at
+/// least the number of lines.
 fn write_all<W: PlaceSet>(rows: &mut Vec<Row>, lines: &[LineOf<W>])
     requires { length lines.now ≤ vec_capacity rows.old }
     ensures rows { AreRowsOf lines.now rows.new.items }
@@ -70,12 +79,18 @@ fn write_all<W: PlaceSet>(rows: &mut Vec<Row>, lines: &[LineOf<W>])
 }
 
 impl Grid {
-    /// A grid of this size of which nothing is known.
+    /// Returns a grid of unknown cells, or `NoMemory` if an allocation fails. `width` and `height`
+    /// have to be from 1 to 256.
     #[tactic(auto, using(crate::proofs::KeptRows::none_written))]
     pub fn unknown(alloc: Global, width: u16, height: u16) -> Result<Grid, NoMemory>
         requires { IsSize width height }
-        ensures { IfOk result (λ g. g ≡ record { width = width; height = height; cells = replicate (width * height) Unknown }) }
+        ensures { IfOk result (λ g. g ≡ record {
+          width = width;
+          height = height;
+          cells = replicate (width * height) Unknown;
+        }) }
     {
+        // No row is initialized: one that is never written counts as unknown.
         Ok(Grid {
             width,
             height,
@@ -83,7 +98,7 @@ impl Grid {
         })
     }
 
-    /// How many cells a row has.
+    /// Returns the number of cells in a row, from 1 to 256.
     #[tactic(auto, using(crate::proofs::KeptRows::counted))]
     pub fn width(&self) -> u16
         ensures width { result ≡ self.now.width }
@@ -93,14 +108,14 @@ impl Grid {
         self.width
     }
 
-    /// How many cells a column has.
+    /// Returns the number of cells in a column, from 1 to 256.
     pub fn height(&self) -> u16
         ensures { result ≡ self.now.height }
     {
         self.height
     }
 
-    /// The cells of row y, from 0 at the top.
+    /// Returns row `y`, counted from 0 at the top.
     #[tactic(auto, using(crate::proofs::KeptRows::counted))]
     pub fn row(&self, y: u16) -> LineOf<Wide>
         requires { y < self.now.height }
@@ -113,7 +128,8 @@ impl Grid {
         }
     }
 
-    /// What is known of the cell in column x, from 0 at the left, and row y, from 0 at the top.
+    /// Returns the cell in column `x`, counted from 0 at the left, and row `y`, counted from 0 at
+    /// the top.
     #[tactic(auto, using(crate::proofs::RowLists::rows_read))]
     pub fn get(&self, x: u16, y: u16) -> Cell
         requires column { x < self.now.width }
@@ -123,7 +139,7 @@ impl Grid {
         self.row(y).get(x)
     }
 
-    /// The column and the row of a place in row order.
+    /// Returns the column and the row of the cell at index `place` in row order.
     fn column_and_row(&self, place: usize) -> (u16, u16)
         requires { place < length self.now.cells }
         ensures column { result.0 < self.now.width }
@@ -134,7 +150,7 @@ impl Grid {
         ((place % width) as u16, (place / width) as u16)
     }
 
-    /// What is known of the cell at a place in row order, from 0.
+    /// Returns the cell at index `place` in row order.
     pub fn at(&self, place: usize) -> Cell
         requires { place < length self.now.cells }
         ensures { result ≡ slice_index_or self.now.cells place Unknown }
@@ -143,19 +159,20 @@ impl Grid {
         self.get(x, y)
     }
 
-    /// Changes what is known of the cell in column x and row y, and nothing else.
+    /// Replaces the cell in column `x` and row `y` by `cell`, which may also be unknown.
     #[tactic(auto, using(crate::proofs::RowLists::rows_read))]
     pub fn set(&mut self, x: u16, y: u16, cell: Cell)
         requires column { x < self.old.width }
         requires row { y < self.old.height }
-        ensures { self.new ≡ record self.old { cells = slice_set self.old.cells (place self.old x y) cell } }
+        ensures { self.new
+            ≡ record self.old { cells = slice_set self.old.cells (place self.old x y) cell } }
     {
         let mut row = self.row(y);
         row.set(x, cell);
         self.write_row(y, &row);
     }
 
-    /// Changes what is known of the cell at a place in row order, from 0, and nothing else.
+    /// Replaces the cell at index `place` in row order by `cell`, which may also be unknown.
     pub fn set_at(&mut self, place: usize, cell: Cell)
         requires { place < length self.old.cells }
         ensures { self.new ≡ record self.old { cells = slice_set self.old.cells place cell } }
@@ -164,7 +181,7 @@ impl Grid {
         self.set(x, y, cell);
     }
 
-    /// Changes what is known of the cells of row y, which become those of a line, and nothing else.
+    /// Replaces the cells of row `y` by those of `line`, which has to be as long as the row.
     #[tactic(auto, using(crate::proofs::KeptRows::counted))]
     pub fn write_row<W: PlaceSet>(&mut self, y: u16, line: &LineOf<W>)
         requires row { y < self.old.height }
@@ -177,16 +194,17 @@ impl Grid {
         self.rows[place] = Row::of(line);
     }
 
-    /// Changes what is known of all cells, which become those of lines, one for each row.
+    /// Replaces all cells by those of `lines`, one line for each row, from the top.
     pub fn write_rows<W: PlaceSet>(&mut self, lines: &[LineOf<W>])
         requires height { length lines.now ≡ self.old.height }
-        requires widths { (y : ℕ) → y < length lines.now → length (slice_index_or lines.now y []) ≡ self.old.width }
+        requires widths { (y : ℕ) → y < length lines.now
+            → length (slice_index_or lines.now y []) ≡ self.old.width }
         ensures { self.new ≡ record self.old { cells = cells_of_rows lines.now } }
     {
         write_all(&mut self.rows, lines);
     }
 
-    /// Takes over the cells of row y into a line, which has as many.
+    /// Copies the cells of row `y` to `line`, which has to be as long as the row.
     #[tactic(auto, using(crate::proofs::RowLists::rows_read))]
     pub fn read_row<W: PlaceSet>(&self, y: u16, line: &mut LineOf<W>)
         requires row { y < self.now.height }
@@ -197,7 +215,7 @@ impl Grid {
         line.read(&self.row(y));
     }
 
-    /// How many cells are known.
+    /// Returns the number of known cells.
     pub fn known(&self) -> u32
         ensures { result ≡ count_by is_known self.now.cells }
     {
@@ -210,10 +228,11 @@ impl Grid {
         known
     }
 
-    /// The column and the row of the first unknown cell, rows from the top, cells from the left. `None`
-    /// exactly if the grid is full.
+    /// Returns the column and the row of the first unknown cell in row order, or `None` if the grid
+    /// is full.
     pub fn first_unknown(&self) -> Option<(u16, u16)>
-        ensures { result ≡ option_map (λ k. (k % self.now.width, k / self.now.width)) (position is_unknown self.now.cells) }
+        ensures { result ≡ option_map (λ k. (k % self.now.width, k / self.now.width))
+            (position is_unknown self.now.cells) }
     {
         for y in 0..self.height {
             if let Some(x) = self.row(y).first_unknown(0) {
@@ -223,10 +242,11 @@ impl Grid {
         None
     }
 
-    /// The same grid once more.
+    /// Returns a copy of the grid, or `NoMemory` if an allocation fails.
     pub fn copy(&self, alloc: Global) -> Result<Grid, NoMemory>
         ensures { IfOk result (λ g. g ≡ self.now) }
     {
+        // A clone need not have the capacity for rows that were never written.
         let mut rows = self.rows.clone()?;
         rows.reserve(usize::from(self.height) - rows.len())?;
         Ok(Grid {

@@ -1,23 +1,24 @@
-//! Laws of the definitions: each is the contract of a function that does nothing.
+//! Laws of the definitions, each stated as the contract of a function that does nothing.
 
 ghost use Rattle.std.specs.Prelude.{List, Bool, ◌≡◌};
 ghost use Rattle.grid_core.specs.declared.limits.TheConstants.{LONGEST_SIDE, LONGEST_TEXT, MOST_RUNS};
 ghost use Rattle.grid_core.specs.Nonogram.{Nonogram};
 ghost use Rattle.grid_core.specs.Reading.{ColumnIsStride, RowIsRange};
 
-/// Row y of a grid is the range of w cells that begins at y · w.
+/// In a grid of width w, row y consists of the w cells from index y · w on, in row order.
 #[tactic(auto, using(crate::proofs::LineLaws::lines_lie))]
 pub fn rows_are_ranges()
     ensures { (p : Nonogram) → RowIsRange p }
 {}
 
-/// Column x of a grid has h cells, and they are every w-th cell from x on.
+/// In a grid of width w and height h, column x consists of h cells: every w-th one from index x on,
+/// in row order.
 #[tactic(auto, using(crate::proofs::LineLaws::lines_lie))]
 pub fn columns_are_strides()
     ensures { (p : Nonogram) → ColumnIsStride p }
 {}
 
-/// The limits on puzzles are these numbers.
+/// The limits on puzzles have these values.
 pub fn limits_are_numbers()
     ensures side { LONGEST_SIDE ≡ 256 }
     ensures runs { MOST_RUNS ≡ 128 }

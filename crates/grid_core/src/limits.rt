@@ -1,10 +1,10 @@
 //! The limits on puzzles.
 
-/// The longest side of a puzzle, in cells, and the greatest number of a clue.
+/// The greatest width and height of a puzzle, in cells, and the greatest number in a clue.
 pub const LONGEST_SIDE: u16 = 256;
 
-/// How many numbers a clue has at most.
+/// The greatest number of runs in a clue.
 pub const MOST_RUNS: usize = 128;
 
-/// How many bytes one of a puzzle's five texts (its title, say) has at most.
+/// The greatest length, in bytes, of each of a puzzle's five texts (its title, for example).
 pub const LONGEST_TEXT: usize = 65_536;

@@ -1,4 +1,4 @@
-//! Lines, kept as two sets of places of one width.
+//! Lines, stored as two bit sets.
 
 ghost use Rattle.std.specs.Prelude.{◌≡◌, ◌≢◌, ℕ, ◌+◌, ◌<◌, ◌≤◌, ◌↔◌, ◌++◌, IsTrue, length, replicate, slice_index_or, slice_set, take, drop, true};
 ghost use Rattle.grid_core.specs.declared.cells.Cell.TheVariants.{Unknown};
@@ -11,11 +11,12 @@ use crate::Cell;
 use place_sets::{PlaceSet, Wide, complement_within, first_from, first_places};
 use std::marker::Model;
 
-/// The cells of a line, as many as its sets have places at most, seen as the list of its cells.
+/// The cells of a line, stored as two sets of cell indices: the filled cells and the blank ones. A
+/// line has from 1 to `W::WIDTH` cells. In contracts it is the list of its cells.
 #[derive(Drop)]
 pub struct LineOf<W: PlaceSet> {
-    /// How many cells there are. The field is as wide as the narrowest set,
-    /// so that there is no gap between the fields of the most frequent lines.
+    /// The number of cells. The field has the size of a 64-bit set, so that the most frequent lines
+    /// have no padding, which LLVM would copy in pieces that overlap.
     len: usize,
     pub(crate) filled: W,
     pub(crate) blank: W,
@@ -30,10 +31,11 @@ impl<W: PlaceSet> Model for LineOf<W> {
 
     ghost view = { λ line. line_cells line.len (W.number line.filled) (W.number line.blank) };
 
-    ghost invariant = { λ line. IsLine W.WIDTH line.len (W.number line.filled) (W.number line.blank) };
+    ghost invariant = { λ line. IsLine W.WIDTH line.len
+        (W.number line.filled) (W.number line.blank) };
 }
 
-/// Whether a cell is known to be blank.
+/// Reports whether `cell` is known to be blank.
 fn is_blank(cell: Cell) -> bool
     ensures { result ≡ is_blank cell }
 {
@@ -41,7 +43,7 @@ fn is_blank(cell: Cell) -> bool
 }
 
 impl<W: PlaceSet> LineOf<W> {
-    /// A line of `len` cells, of which nothing is known.
+    /// Returns a line of `len` unknown cells.
     #[tactic(auto, using(crate::proofs::LineCells::none_known))]
     pub fn unknown(len: u16) -> LineOf<W>
         requires { (1 ≤ len) × (len ≤ W.WIDTH) }
@@ -54,8 +56,8 @@ impl<W: PlaceSet> LineOf<W> {
         }
     }
 
-    /// A line of `len` cells, filled and blank at the places of these sets. No place is in both, and none is
-    /// at `len` or beyond.
+    /// Returns the line of `len` cells that are filled at the indices in `filled` and blank at
+    /// those in `blank`. No index may be in both sets, and none may be `len` or greater.
     pub fn of_sets(len: u16, filled: W, blank: W) -> LineOf<W>
         requires len { (1 ≤ len) × (len ≤ W.WIDTH) }
         requires apart { (i : ℕ) → Has (W.number filled) i → Has (W.number blank) i → ⊥ }
@@ -70,7 +72,7 @@ impl<W: PlaceSet> LineOf<W> {
         }
     }
 
-    /// The same line, once more.
+    /// Returns a copy of the line.
     pub fn copy(&self) -> LineOf<W>
         ensures { result ≡ self.now }
     {
@@ -81,19 +83,19 @@ impl<W: PlaceSet> LineOf<W> {
         }
     }
 
-    /// Becomes the same as another line of the same length, in place.
+    /// Overwrites the cells with those of `other`, which has the same length.
     #[tactic(auto, using(crate::proofs::LineCells::length_seen))]
     pub fn copy_from(&mut self, other: &LineOf<W>)
         requires { length other.now ≡ length self.old }
         ensures { self.new ≡ other.now }
     {
-        // Both sets are read before one is written, so that they are moved as one.
+        // Both sets are read before either is written, so that they are copied as one block.
         let (filled, blank) = (other.filled, other.blank);
         self.filled = filled;
         self.blank = blank;
     }
 
-    /// How many cells it has.
+    /// Returns the number of cells, from 1 to 256.
     #[tactic(auto, using(crate::proofs::LineCells::length_seen))]
     pub fn len(&self) -> u16
         ensures len { result ≡ length self.now }
@@ -104,7 +106,7 @@ impl<W: PlaceSet> LineOf<W> {
         self.len as u16
     }
 
-    /// What is known of the cell at a place, counted from 0.
+    /// Returns the cell at index `i`.
     #[tactic(auto, using(crate::proofs::LineCells::seen))]
     pub fn get(&self, i: u16) -> Cell
         requires { i < length self.now }
@@ -119,7 +121,7 @@ impl<W: PlaceSet> LineOf<W> {
         }
     }
 
-    /// Changes what is known of the cell at a place.
+    /// Replaces the cell at index `i` by `cell`, which may also be unknown.
     #[tactic(auto, using(crate::proofs::LineCells::length_seen))]
     pub fn set(&mut self, i: u16, cell: Cell)
         requires { i < length self.old }
@@ -129,23 +131,25 @@ impl<W: PlaceSet> LineOf<W> {
         self.blank = self.blank.marked(i, is_blank(cell));
     }
 
-    /// A set with those of its places whose cells are filled.
+    /// Returns the set of the indices of the filled cells.
     #[tactic(auto, using(crate::proofs::LineCells::seen))]
     pub fn filled(&self) -> W
-        ensures { (i : ℕ) → i < length self.now → has (W.number result) i ≡ is_filled (slice_index_or self.now i Unknown) }
+        ensures { (i : ℕ) → i < length self.now
+            → has (W.number result) i ≡ is_filled (slice_index_or self.now i Unknown) }
     {
         self.filled
     }
 
-    /// A set with those of its places whose cells are blank.
+    /// Returns the set of the indices of the blank cells.
     #[tactic(auto, using(crate::proofs::LineCells::seen))]
     pub fn blank(&self) -> W
-        ensures { (i : ℕ) → i < length self.now → has (W.number result) i ≡ is_blank (slice_index_or self.now i Unknown) }
+        ensures { (i : ℕ) → i < length self.now
+            → has (W.number result) i ≡ is_blank (slice_index_or self.now i Unknown) }
     {
         self.blank
     }
 
-    /// The cells of which nothing is known.
+    /// Returns the set of the indices of the unknown cells.
     #[tactic(auto, using(crate::proofs::LineCells::length_seen))]
     pub fn unknown_cells(&self) -> W
         ensures cells { IsMaskOf (IsUnknownCell self.now) (W.number result) }
@@ -154,7 +158,7 @@ impl<W: PlaceSet> LineOf<W> {
         complement_within(self.filled.union(self.blank), self.len as u16)
     }
 
-    /// The first cell from a place on of which nothing is known, if there is one.
+    /// Returns the index of the first unknown cell at or after index `from`, if there is one.
     pub fn first_unknown(&self, from: u16) -> Option<u16>
         requires { from ≤ length self.now }
         ensures { IsUnknownFrom self.now from result }
@@ -162,7 +166,7 @@ impl<W: PlaceSet> LineOf<W> {
         first_from(self.unknown_cells(), from)
     }
 
-    /// Settles the unknown cell at a place, counted from 0.
+    /// Assigns the known `cell` to the cell at index `i`, which has to be unknown.
     #[tactic(auto, using(crate::proofs::LineCells::seen))]
     pub fn settle(&mut self, i: u16, cell: Cell)
         requires i { i < length self.old }
@@ -170,6 +174,7 @@ impl<W: PlaceSet> LineOf<W> {
         requires known { is_known cell ≡ true }
         ensures { self.new ≡ slice_set self.old i cell }
     {
+        // Neither set has the index of an unknown cell, so only one of them changes.
         if cell.is_filled() {
             self.filled = self.filled.marked(i, true);
         } else {
@@ -177,7 +182,7 @@ impl<W: PlaceSet> LineOf<W> {
         }
     }
 
-    /// The same line with the cells at some places unknown.
+    /// Returns the line with the cells at the indices in `places` unknown.
     #[tactic(auto, using(crate::proofs::LineCells::length_line))]
     pub fn without(&self, places: W) -> LineOf<W>
         ensures cells { result ≡ unlearned (W.number places) self.now }
@@ -190,7 +195,7 @@ impl<W: PlaceSet> LineOf<W> {
         }
     }
 
-    /// The `len` cells from a place on.
+    /// Returns the line of the `len` cells from index `from` on.
     #[tactic(auto, using(crate::proofs::LineCells::length_seen))]
     pub fn part(&self, from: u16, len: u16) -> LineOf<W>
         requires { (1 ≤ len) × (from + len ≤ length self.now) }
@@ -206,13 +211,16 @@ impl<W: PlaceSet> LineOf<W> {
         }
     }
 
-    /// The same line with more known of the cells from a place on: what another line tells.
+    /// Returns the line with the cells from index `from` on replaced by those of `part`, which has
+    /// to know at least what the line knows of them.
     #[tactic(auto, using(crate::proofs::LineCells::length_seen))]
     pub fn with_part(&self, from: u16, part: &LineOf<W>) -> LineOf<W>
         requires within { from + length part.now ≤ length self.now }
         requires more { Extends (take (length part.now) (drop from self.now)) part.now }
-        ensures { result ≡ take from self.now ++ (part.now ++ drop (from + length part.now) self.now) }
+        ensures { result
+            ≡ take from self.now ++ (part.now ++ drop (from + length part.now) self.now) }
     {
+        // `part` knows all that it replaces, so its sets are added and nothing is removed.
         LineOf {
             len: self.len,
             filled: self.filled.union(part.filled.shifted_up(from)),
@@ -220,19 +228,20 @@ impl<W: PlaceSet> LineOf<W> {
         }
     }
 
-    /// The places at which another line of the same length differs.
+    /// Returns the set of the indices at which `other`, which has the same length, differs.
     #[tactic(auto, using(crate::proofs::LineCells::length_seen))]
     pub fn changes(&self, other: &LineOf<W>) -> W
         requires { length other.now ≡ length self.now }
         ensures changes { IsMaskOf (IsChanged self.now other.now) (W.number result) }
         ensures fits { length self.now ≤ W.WIDTH }
     {
+        // No set has an index at or beyond the length, so the result needs no mask.
         let filled = self.filled.symmetric_difference(other.filled);
         let blank = self.blank.symmetric_difference(other.blank);
         filled.union(blank)
     }
 
-    /// Whether another line has the same cells.
+    /// Reports whether `other` has the same cells.
     #[tactic(auto, using(crate::proofs::Changing::alike))]
     pub fn is_same(&self, other: &LineOf<W>) -> bool
         ensures { IsTrue result ↔ (self.now ≡ other.now) }
@@ -240,7 +249,7 @@ impl<W: PlaceSet> LineOf<W> {
         other.len == self.len && self.changes(other).is_empty()
     }
 
-    /// Becomes the same as a line of the same length in the widest sets.
+    /// Overwrites the cells with those of `other`, a line of the same length in the widest sets.
     #[tactic(auto, using(crate::proofs::LineCells::length_seen))]
     pub fn read(&mut self, other: &LineOf<Wide>)
         requires { length other.now ≡ length self.old }
@@ -250,14 +259,16 @@ impl<W: PlaceSet> LineOf<W> {
         self.blank = W::narrowed(other.blank);
     }
 
-    /// A number that lines with the same cells share, mostly, and that others seldom do, for tables of lines.
+    /// Returns a hash of the line's cells, for tables of lines. Equal lines have equal hashes,
+    /// though the contract doesn't promise it; the length is not hashed.
     pub fn hash(&self) -> u64 {
+        // The factors differ, so that exchanging the colours changes the hash.
         let filled = self.filled.folded().wrapping_mul(0x9e37_79b9_7f4a_7c15);
         let blank = self.blank.folded().wrapping_mul(0xd1b5_4a32_d192_ed03);
         filled.wrapping_add(blank)
     }
 
-    /// The same line in sets of another width that has room for it.
+    /// Returns the line in sets of another width, which is at least the line's length.
     #[tactic(auto, using(crate::proofs::LineCells::seen))]
     pub fn resized<V: PlaceSet>(&self) -> LineOf<V>
         requires { length self.now ≤ V.WIDTH }
@@ -270,7 +281,7 @@ impl<W: PlaceSet> LineOf<W> {
         }
     }
 
-    /// The same line in the widest sets.
+    /// Returns the line in the widest sets.
     pub fn widened(&self) -> LineOf<Wide>
         ensures { result ≡ self.now }
     {

@@ -1,4 +1,4 @@
-//! Pictures: full grids and goals, and whether they meet clues.
+//! Pictures: the colours of all cells, and whether they meet the clues.
 
 ghost use Rattle.std.specs.Prelude.{◌≡◌, ◌+◌, ◌*◌, ◌^◌, ◌<◌, ◌≤◌, ◌↔◌, ℕ, false, length, IsTrue, slice_index_or};
 ghost use Rattle.grid_core.specs.Nonogram.{Meets, MeetsLine, cells_at, line_on, places_from};
@@ -9,17 +9,17 @@ use crate::limits::LONGEST_SIDE;
 use crate::runs::has_runs;
 use crate::{Clue, Grid, Puzzle};
 
-/// Which cells are filled, row by row: of a grid, or of a goal.
+/// The colours of all cells in row order, from a full grid or from a goal.
 #[derive(Clone, Copy)]
 pub(crate) enum Picture<'a> {
     /// A full grid.
     Cells(&'a Grid),
-    /// The values of a goal, true for filled.
+    /// The values of a goal, `true` for filled.
     Values(&'a [bool]),
 }
 
 impl Picture<'_> {
-    /// Whether the cell at a place is filled.
+    /// Reports whether the cell at index `place` in row order is filled.
     fn is_filled(self, place: usize) -> bool
         requires { place < length (values_of self) }
         ensures { result ≡ slice_index_or (values_of self.entry) place false }
@@ -31,34 +31,41 @@ impl Picture<'_> {
     }
 }
 
-/// Reads the cells at places that lie a step apart.
+/// Copies to `line` the colours of the cell at index `first` in row order and of each `step` cells
+/// further on, `true` for filled.
 fn read_line(picture: Picture<'_>, first: usize, step: usize, line: &mut [bool])
     requires small { length (values_of picture) < 2 ^ 63 }
-    requires within { (i : ℕ) → i < length line.old → first + i * step < length (values_of picture) }
-    ensures { line.new ≡ cells_at false (values_of picture.entry) (places_from first step (length line.old)) }
+    requires within { (i : ℕ) → i < length line.old
+        → first + i * step < length (values_of picture) }
+    ensures { line.new
+        ≡ cells_at false (values_of picture.entry) (places_from first step (length line.old)) }
 {
     for i in 0..line.len() {
         line[i] = picture.is_filled(first + i * step);
     }
 }
 
-/// Whether the runs of a line are its clue.
+/// Reports whether the runs of a line are `clue`. The line has `count` cells: the one at index
+/// `first` in row order, and each `step` cells further on.
 fn is_line_met(picture: Picture<'_>, first: usize, step: usize, count: u16, clue: &Clue) -> bool
     requires small { length (values_of picture) < 2 ^ 63 }
     requires short { count ≤ LONGEST_SIDE }
     requires within { (i : ℕ) → i < count → first + i * step < length (values_of picture) }
-    ensures { IsTrue result ↔ MeetsLine (values_of picture.entry) (record { places = places_from first step count; clue = clue.now }) }
+    ensures { IsTrue result ↔ MeetsLine (values_of picture.entry)
+        (record { places = places_from first step count; clue = clue.now }) }
 {
+    // An array for the longest line, since an allocation could fail.
     let mut cells = [false; LONGEST_SIDE as usize];
     let line = &mut cells[..usize::from(count)];
     read_line(picture, first, step, line);
     has_runs(line, clue.numbers())
 }
 
-/// Whether a picture has each row's clue.
+/// Reports whether `picture` meets the clue of each row.
 fn are_rows_met(puzzle: &Puzzle, picture: Picture<'_>) -> bool
     requires { length (values_of picture) ≡ puzzle.now.width * puzzle.now.height }
-    ensures { IsTrue result ↔ ((y : ℕ) → y < length puzzle.now.rows → MeetsLine (values_of picture.entry) (line_on Rows puzzle.now y)) }
+    ensures { IsTrue result ↔ ((y : ℕ) → y < length puzzle.now.rows
+        → MeetsLine (values_of picture.entry) (line_on Rows puzzle.now y)) }
 {
     let width = puzzle.width();
     for y in 0..puzzle.height() {
@@ -70,10 +77,11 @@ fn are_rows_met(puzzle: &Puzzle, picture: Picture<'_>) -> bool
     true
 }
 
-/// Whether a picture has each column's clue.
+/// Reports whether `picture` meets the clue of each column.
 fn are_columns_met(puzzle: &Puzzle, picture: Picture<'_>) -> bool
     requires { length (values_of picture) ≡ puzzle.now.width * puzzle.now.height }
-    ensures { IsTrue result ↔ ((x : ℕ) → x < length puzzle.now.columns → MeetsLine (values_of picture.entry) (line_on Columns puzzle.now x)) }
+    ensures { IsTrue result ↔ ((x : ℕ) → x < length puzzle.now.columns
+        → MeetsLine (values_of picture.entry) (line_on Columns puzzle.now x)) }
 {
     let step = usize::from(puzzle.width());
     for x in 0..puzzle.width() {
@@ -90,7 +98,8 @@ fn are_columns_met(puzzle: &Puzzle, picture: Picture<'_>) -> bool
     true
 }
 
-/// Whether a picture of the puzzle's size meets the clues of all lines.
+/// Reports whether `picture`, which has to have the puzzle's number of cells, meets the clues of
+/// all lines.
 pub(crate) fn is_met(puzzle: &Puzzle, picture: Picture<'_>) -> bool
     requires { length (values_of picture) ≡ puzzle.now.width * puzzle.now.height }
     ensures { IsTrue result ↔ Meets puzzle.now (values_of picture.entry) }

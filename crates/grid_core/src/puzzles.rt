@@ -13,23 +13,24 @@ use std::alloc::Global;
 use std::marker::Model;
 use thiserror::Error;
 
-/// Why parts make no puzzle.
+/// The error of making a puzzle.
 #[derive(Clone, Copy, Debug, PartialEq, Eq, Error)]
 pub enum PuzzleFault {
-    /// The width or the height is 0 or over 256.
+    /// The width or the height is 0 or greater than 256.
     #[error("a side is from 1 to 256")]
     BadSize,
-    /// There is not one clue for each row and each column.
+    /// The number of row clues is not the height, or the number of column clues is not the width.
     #[error("there is one clue for each line")]
     BadCount,
-    /// There is a goal that has not one value for each cell.
+    /// The goal does not have one value for each cell.
     #[error("the goal has one value for each cell")]
     BadGoal,
 }
 
-/// A nonogram: a width and a height from 1 to 256, the clue of each row and column, texts, and perhaps a
-/// goal, which says of each cell, row by row, whether it is to be filled. Nothing is demanded of the clues:
-/// they may not fit their lines, and their sums may differ.
+/// A nonogram: a width and a height, from 1 to 256 cells each, the clue of each row and column,
+/// texts, and perhaps a goal, the intended colours of all cells in row order. The clues may be
+/// contradictory: they need not fit their lines, and rows and columns may require different numbers
+/// of filled cells.
 #[derive(Debug)]
 pub struct Puzzle {
     width: u16,
@@ -40,7 +41,8 @@ pub struct Puzzle {
     goal: Option<Vec<bool>>,
 }
 
-/// A call of its own, so that a proof takes it as one step.
+/// Written by hand so that callers' proofs see one call: a derived drop is expanded at each exit of
+/// each caller.
 impl Drop for Puzzle {
     fn drop(self) {
         let Puzzle {
@@ -79,21 +81,23 @@ impl Model for Puzzle {
     }) };
 }
 
-/// Whether a puzzle's goal meets its clues.
+/// Whether a puzzle has a goal that meets its clues.
 #[derive(Clone, Copy, Debug, PartialEq, Eq)]
 pub enum GoalWord {
-    /// There is no goal.
+    /// The puzzle has no goal.
     Absent,
     /// The goal meets the clues of all lines.
     Meets,
-    /// It does not.
+    /// The goal does not meet the clue of some line.
     Misses,
 }
 
 impl Puzzle {
-    /// The puzzle of these parts. `BadSize` if a side is 0 or over 256; else `BadCount` if there is not one
-    /// clue for each row and column; else `BadGoal` if there is a goal that has not one value for each cell,
-    /// row by row. No other puzzle is refused.
+    /// Returns the puzzle of this size, with these clues, from the top and from the left, these
+    /// texts and this goal. Fails with `BadSize` if the width or the height is 0 or greater than
+    /// 256; otherwise with `BadCount` if there is not one clue for each row and each column;
+    /// otherwise with `BadGoal` if there is a goal that does not have one value for each cell. It
+    /// doesn't fail for any other reason.
     pub fn new(
         width: u16,
         height: u16,
@@ -127,6 +131,7 @@ impl Puzzle {
         if !is_goal(usize::from(width) * usize::from(height), &goal) {
             return Err(PuzzleFault::BadGoal);
         }
+        // These three calls do nothing but bring the invariants of the parts into the proof.
         see_clues(&rows);
         see_clues(&columns);
         texts.see();
@@ -140,7 +145,7 @@ impl Puzzle {
         })
     }
 
-    /// How many cells a row has, from 1 to 256.
+    /// Returns the number of cells in a row, from 1 to 256.
     pub fn width(&self) -> u16
         ensures width { result ≡ self.now.width }
         ensures puzzle { IsNonogram self.now }
@@ -148,14 +153,14 @@ impl Puzzle {
         self.width
     }
 
-    /// How many cells a column has, from 1 to 256.
+    /// Returns the number of cells in a column, from 1 to 256.
     pub fn height(&self) -> u16
         ensures { result ≡ self.now.height }
     {
         self.height
     }
 
-    /// The clue of row y, from 0 at the top.
+    /// Returns the clue of row `y`, counted from 0 at the top.
     pub fn row_clue(&self, y: u16) -> &Clue
         requires { y < self.now.height }
         ensures { result.now ≡ slice_index_or self.now.rows y [] }
@@ -163,7 +168,7 @@ impl Puzzle {
         &self.rows[usize::from(y)]
     }
 
-    /// The clue of column x, from 0 at the left.
+    /// Returns the clue of column `x`, counted from 0 at the left.
     pub fn col_clue(&self, x: u16) -> &Clue
         requires { x < self.now.width }
         ensures { result.now ≡ slice_index_or self.now.columns x [] }
@@ -171,7 +176,7 @@ impl Puzzle {
         &self.columns[usize::from(x)]
     }
 
-    /// The clues of the rows, from the top.
+    /// Returns the clues of the rows, from the top.
     pub fn rows(&self) -> &[Clue]
         ensures rows { result.now ≡ self.now.rows }
         ensures puzzle { IsNonogram self.now }
@@ -179,7 +184,7 @@ impl Puzzle {
         self.rows.as_slice()
     }
 
-    /// The clues of the columns, from the left.
+    /// Returns the clues of the columns, from the left.
     pub fn columns(&self) -> &[Clue]
         ensures columns { result.now ≡ self.now.columns }
         ensures puzzle { IsNonogram self.now }
@@ -187,17 +192,18 @@ impl Puzzle {
         self.columns.as_slice()
     }
 
-    /// The texts.
+    /// Returns the texts that describe the puzzle.
     pub fn texts(&self) -> &Texts
         ensures { result.now ≡ self.now.texts }
     {
         &self.texts
     }
 
-    /// The goal's values, row by row, true for filled.
+    /// Returns the goal's values in row order, `true` for filled, if there is a goal.
     pub fn goal(&self) -> Option<&[bool]>
         ensures goal { option_map (λ cells. cells.now) result ≡ self.now.goal }
-        ensures size { IfSome self.now.goal (λ values. length values ≡ self.now.width * self.now.height) }
+        ensures size { IfSome self.now.goal (λ values.
+            length values ≡ self.now.width * self.now.height) }
     {
         match &self.goal {
             Some(cells) => Some(cells.as_slice()),
@@ -205,7 +211,7 @@ impl Puzzle {
         }
     }
 
-    /// The same puzzle once more.
+    /// Returns a copy of the puzzle, or `NoMemory` if an allocation fails.
     pub fn copy(&self, alloc: Global) -> Result<Puzzle, NoMemory>
         ensures { IfOk result (λ p. p ≡ self.now) }
     {
@@ -219,8 +225,8 @@ impl Puzzle {
         })
     }
 
-    /// Whether the grid solves the puzzle: it has the puzzle's sizes, is full, and along each line its runs
-    /// are the clue.
+    /// Reports whether `grid` solves the puzzle: it has the puzzle's width and height, is full, and
+    /// meets the clue of each line.
     pub fn solved_by(&self, grid: &Grid) -> bool
         ensures { IsTrue result ↔ Solves self.now grid.now }
     {
@@ -233,7 +239,7 @@ impl Puzzle {
         is_met(self, Picture::Cells(grid))
     }
 
-    /// Whether there is a goal, and whether it meets the clues of all lines.
+    /// Reports whether there is a goal, and whether it meets the clues of all lines.
     pub fn goal_word(&self) -> GoalWord
         ensures absent { (result ≡ GoalWord.Absent) ↔ (self.now.goal ≡ None) }
         ensures meets { (result ≡ GoalWord.Meets) ↔ GoalMeets self.now }
@@ -251,7 +257,7 @@ impl Puzzle {
     }
 }
 
-/// The same clues once more.
+/// Returns a copy of the clues, or `NoMemory` if an allocation fails.
 fn copy_clues(alloc: Global, clues: &[Clue]) -> Result<Vec<Clue>, NoMemory>
     ensures { IfOk result (λ copies. copies.items ≡ clues.now) }
 {
@@ -262,7 +268,7 @@ fn copy_clues(alloc: Global, clues: &[Clue]) -> Result<Vec<Clue>, NoMemory>
     Ok(copies)
 }
 
-/// The same goal once more, if there is one.
+/// Returns a copy of the goal, if there is one, or `NoMemory` if an allocation fails.
 fn copy_goal(goal: &Option<Vec<bool>>) -> Result<Option<Vec<bool>>, NoMemory>
     ensures { IfOk result (λ copied. bools_of copied ≡ bools_of goal.now) }
 {
@@ -272,7 +278,7 @@ fn copy_goal(goal: &Option<Vec<bool>>) -> Result<Option<Vec<bool>>, NoMemory>
     }
 }
 
-/// Whether there is no goal, or one of `count` values.
+/// Reports whether the goal, if there is one, has `count` values.
 fn is_goal(count: usize, goal: &Option<Vec<bool>>) -> bool
     ensures { result ≡ is_goal count (bools_of goal.now) }
 {
@@ -282,7 +288,8 @@ fn is_goal(count: usize, goal: &Option<Vec<bool>>) -> bool
     }
 }
 
-/// What the type of each clue keeps.
+/// Brings the invariant of each clue, that its numbers are in range and not too many, into the
+/// caller's proof. It has no other effect.
 fn see_clues(mut clues: &[Clue])
     ensures { AllByRecursion (λ clue. is_clue LONGEST_SIDE clue ≡ true) clues.entry.now }
 {

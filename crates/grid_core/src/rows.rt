@@ -1,4 +1,4 @@
-//! Rows of a grid, which knows how long they are.
+//! The rows of a grid as they are stored: without their length, which is the grid's width.
 
 ghost use Rattle.std.specs.Prelude.{◌≡◌, ◌≤◌, length};
 ghost use Rattle.grid_core.specs.KeptRows.{IsRow, row_cells, unknown_row};
@@ -6,7 +6,7 @@ ghost use Rattle.grid_core.specs.KeptRows.{IsRow, row_cells, unknown_row};
 use crate::LineOf;
 use place_sets::{PlaceSet, Wide};
 
-/// What is known of the cells of a row: the places of those that are filled, and of those that are blank.
+/// A row of a grid: the indices of its filled cells, and those of its blank cells.
 #[derive(Clone, Copy, Debug)]
 pub(crate) struct Row {
     filled: Wide,
@@ -14,7 +14,7 @@ pub(crate) struct Row {
 }
 
 impl Row {
-    /// A row of which nothing is known.
+    /// Returns a row of unknown cells.
     pub(crate) fn unknown() -> Row
         ensures { result ≡ unknown_row }
     {
@@ -24,7 +24,7 @@ impl Row {
         }
     }
 
-    /// The cells of a line.
+    /// Returns the cells of `line` as a row.
     #[tactic(auto, using(crate::proofs::LineCells::length_seen), unfolding(crate::specs::KeptRows::IsRow))]
     pub(crate) fn of<W: PlaceSet>(line: &LineOf<W>) -> Row
         ensures cells { row_cells (length line.now) result ≡ line.now }
@@ -36,7 +36,7 @@ impl Row {
         }
     }
 
-    /// Its `width` cells, as a line.
+    /// Returns the row as a line of `width` cells.
     #[tactic(auto, unfolding(crate::specs::KeptRows::IsRow))]
     pub(crate) fn line(&self, width: u16) -> LineOf<Wide>
         requires { IsRow width self.now }

@@ -3,10 +3,13 @@
 ghost use Rattle.std.specs.Prelude.{◌≡◌, ◌↔◌, IsTrue};
 ghost use Rattle.grid_core.specs.Runs.{runs};
 
-/// Whether the runs of filled cells are a clue's numbers.
+/// Reports whether the runs of a line, in order, have the lengths in `clue`. `cells` are the line's
+/// colours, `true` for filled.
 pub fn has_runs(cells: &[bool], clue: &[u16]) -> bool
     ensures { IsTrue result ↔ (runs cells.now ≡ clue.now) }
 {
+    // `run` cells before the current one are filled in succession; the `next` runs before them have
+    // ended and have the lengths of the first `next` numbers.
     let mut run: usize = 0;
     let mut next: usize = 0;
     for filled in cells {

@@ -1,9 +1,10 @@
-//! The two sides of a grid.
+//! The two axes of a grid.
 
 ghost use Rattle.std.specs.Prelude.{◌≡◌};
 ghost use Rattle.grid_core.specs.Nonogram.{crossing};
 
-/// A side of a grid: that of the rows, which are counted from the top, or that of the columns, from the left.
+/// The direction of a grid's lines: rows, numbered from 0 at the top, or columns, numbered from 0
+/// at the left.
 #[derive(Clone, Copy, Debug, PartialEq, Eq)]
 pub enum Side {
     Rows,
@@ -11,7 +12,7 @@ pub enum Side {
 }
 
 impl Side {
-    /// The other side: its lines cross those of this one.
+    /// Returns the other axis, whose lines cross the lines of this one.
     pub fn crossing(self) -> Side
         ensures { result ≡ crossing self }
     {

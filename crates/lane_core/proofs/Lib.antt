@@ -1,4 +1,4 @@
--- Lemmas on jobs, answers and lanes.
+-- The modules of lemmas on jobs, answers and lanes.
 pub mod Names
 pub mod MessagesLemmas
 pub mod AnswersLemmas

@@ -1,4 +1,4 @@
--- The names that most proofs cite, passed on from one place. Declares nothing.
+-- Re-exports the names that most proofs of this crate use. Declares nothing.
 pub use Rattle.std.proofs.Common.{Err, IsTrue, List, Ok, Result, [], ap, append-nil, append_assoc, arith, false, inl, inr, length, length-append, refl, rules, sym, take, true, ℕ, ◌++◌, ◌<◌, ◌↔◌, ◌∙◌, ◌∷◌, ◌≡◌, ◌≢◌, ◌⊎◌}
 pub use Rattle.std.proofs.Math.Logic.{∥∥₁_elim, ∥∥₁_map}
 pub use Rattle.std.proofs.lemmas.List.{nil_from_length}

@@ -1,4 +1,4 @@
--- Lists of messages.
+-- The jobs and the finish in a list of messages.
 use Rattle.std.specs.Prelude.{Bool, true, false, List, [], ◌∷◌}
 use Rattle.lane_core.specs.declared.jobs.Job.{Job}
 use Rattle.lane_core.specs.declared.messages.Message.{Message}
@@ -16,7 +16,7 @@ has_finish [] = false
 has_finish (Work job ∷ rest) = has_finish rest
 has_finish (Finish ∷ rest) = true
 
--- whether nothing follows the finish
+-- whether no message follows the finish, if there is one
 abbrev pub finish_is_last : List Message → Bool
 finish_is_last [] = true
 finish_is_last (Work job ∷ rest) = finish_is_last rest

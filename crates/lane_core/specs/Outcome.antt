@@ -1,4 +1,4 @@
--- What the outcome of a job may be.
+-- Which outcomes a job may have.
 use Rattle.std.specs.Prelude.{◌≡◌, ℕ, Result, Ok, Err}
 use Rattle.grid_core.specs.Nonogram.{Nonogram}
 use Rattle.grid_core.specs.declared.memory.NoMemory.{NoMemory}
@@ -7,7 +7,8 @@ use Rattle.solve_core.specs.declared.picks.Pick.{Pick}
 use Rattle.solve_core.specs.Report.{report_of}
 use Rattle.solve_core.specs.declared.findings.Findings.{Findings}
 
--- the puzzle's report under this limit on guesses and by this rule for them, or out of memory
+-- an outcome is the report of `puzzle` under the limit `guesses` and by `pick`, or `NoMemory`
 abbrev pub IsOutcome : Nonogram → ℕ → Pick → Result Findings NoMemory → Type 0
-IsOutcome puzzle guesses pick (Ok found) = found ≡ report_of (picked pick puzzle.width) puzzle guesses
+IsOutcome puzzle guesses pick (Ok found) =
+    found ≡ report_of (picked pick puzzle.width) puzzle guesses
 IsOutcome puzzle guesses pick (Err refused) = Unit {0}

@@ -1,4 +1,4 @@
-//! Graded jobs.
+//! Answers: graded jobs.
 
 ghost use Rattle.std.specs.Prelude.{◌≡◌, MatchResult, IfOk};
 ghost use Rattle.grid_core.specs.Nonogram.{IsNonogram};
@@ -10,8 +10,8 @@ ghost use Rattle.lane_core.specs.Outcome.{IsOutcome};
 use grid_core::{NoMemory, Puzzle};
 use solve_core::{Findings, Pick};
 
-/// A graded job, with its number, its puzzle, its limit on guesses and its rule for them.
-/// The outcome is the report of this puzzle under this limit and by this rule, or out of memory.
+/// A graded job: its number, puzzle, limit on guesses and pick, with the outcome.
+/// The outcome is the report of this puzzle under this limit and by this pick, or `NoMemory`.
 pub struct Answer {
     number: u32,
     puzzle: Puzzle,
@@ -21,7 +21,8 @@ pub struct Answer {
     pub ghost reported: { ∥ IsOutcome puzzle guesses pick outcome ∥₁ },
 }
 
-/// A call of its own, so that a proof takes it as one step, whatever the outcome is.
+/// Written by hand so that callers' proofs see one call, whatever the outcome is: a derived drop
+/// is expanded at each exit of each caller.
 impl Drop for Answer {
     fn drop(self) {
         let Answer {
@@ -35,8 +36,8 @@ impl Drop for Answer {
 }
 
 impl Answer {
-    /// The answer with these parts, whose outcome is the report of this puzzle under this limit and
-    /// by this rule, or out of memory.
+    /// Returns the answer of these parts. `outcome` has to be the report of `puzzle` under the
+    /// limit `guesses` and by `pick`, or `NoMemory`.
     pub(crate) fn new(
         number: u32,
         puzzle: Puzzle,
@@ -60,43 +61,48 @@ impl Answer {
         }
     }
 
-    /// The number of the job.
+    /// Returns the number of the job.
     pub fn number(&self) -> u32
         ensures { result ≡ self.now.number }
     {
         self.number
     }
 
-    /// The puzzle of the job.
+    /// Returns the puzzle of the job.
     pub fn puzzle(&self) -> &Puzzle
         ensures { result.now ≡ self.now.puzzle }
     {
         &self.puzzle
     }
 
-    /// The job's limit on guesses.
+    /// Returns the job's limit on guesses.
     pub fn guesses(&self) -> u32
         ensures { result ≡ self.now.guesses }
     {
         self.guesses
     }
 
-    /// The job's rule for the cell of the next guess.
+    /// Returns the job's pick, the rule that chooses the cell of each guess.
     pub fn pick(&self) -> Pick
         ensures { result ≡ self.now.pick }
     {
         self.pick
     }
 
-    /// The report of the answer's own puzzle under its own limit on guesses and by its own rule:
-    /// its verdict holds of all grids. `NoMemory` if a growth was refused while the job was graded.
+    /// Returns the report of the answer's puzzle under its limit on guesses and by its pick; the
+    /// verdict of the report is true of all grids. `NoMemory` if an allocation failed while the job
+    /// was graded.
     #[tactic(auto, using(crate::proofs::AnswersLemmas::found))]
     pub fn outcome(&self) -> Result<&Findings, NoMemory>
-        ensures value { MatchResult result (λ found. self.now.outcome ≡ Ok found.now) (λ refused. self.now.outcome ≡ Err refused) }
+        ensures value { MatchResult result
+            (λ found. self.now.outcome ≡ Ok found.now)
+            (λ refused. self.now.outcome ≡ Err refused) }
         ensures report { IfOk result (λ found. found.now
-            ≡ report_of (picked self.now.pick self.now.puzzle.width) self.now.puzzle self.now.guesses) }
+            ≡ report_of (picked self.now.pick self.now.puzzle.width)
+            self.now.puzzle self.now.guesses) }
         ensures holds { IfOk result (λ found.
-            Holds (picked self.now.pick self.now.puzzle.width) self.now.puzzle self.now.guesses found.now.verdict) }
+            Holds (picked self.now.pick self.now.puzzle.width)
+            self.now.puzzle self.now.guesses found.now.verdict) }
     {
         see_puzzle(&self.puzzle);
         match &self.outcome {
@@ -106,9 +112,11 @@ impl Answer {
     }
 }
 
-/// What the type of a puzzle keeps.
+/// Brings the invariant of `puzzle`, that it is a nonogram, into the caller's proof. It has no
+/// other effect.
 fn see_puzzle(puzzle: &Puzzle)
     ensures { IsNonogram puzzle.now }
 {
+    // Called for its contract, which states the invariant.
     puzzle.width();
 }

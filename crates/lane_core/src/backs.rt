@@ -16,12 +16,16 @@ use solve_core::Reporter;
 use std::alloc::Global;
 
 /// Puts an answer into the ring, or holds it if the ring is full.
+/// Returns `Graded` in the first case and `Waiting` in the second.
 fn offer(answers: &mut Producer<Answer>, held: &mut Option<Answer>, answer: Answer) -> Step
     requires free { held.old ≡ None }
-    requires room { producer_capacity answers.old ≤ known_free answers.old + length (sent answers.old) }
+    requires room { producer_capacity answers.old
+        ≤ known_free answers.old + length (sent answers.old) }
     ensures ring { SameProducer answers.old answers.new }
-    ensures room { producer_capacity answers.new ≤ known_free answers.new + length (sent answers.new) }
-    ensures offered { IsOffered (producer_capacity answers.old) answer result (sent answers.old) (sent answers.new) held.new }
+    ensures room { producer_capacity answers.new
+        ≤ known_free answers.new + length (sent answers.new) }
+    ensures offered { IsOffered (producer_capacity answers.old) answer result
+        (sent answers.old) (sent answers.new) held.new }
 {
     if answers.is_full() {
         *held = Some(answer);
@@ -31,9 +35,9 @@ fn offer(answers: &mut Producer<Answer>, held: &mut Option<Answer>, answer: Answ
     Step::Graded
 }
 
-/// The worker's end of a lane: it takes jobs, grades them and puts the answers.
-/// What it put and what it holds answers, place by place, the jobs that it took.
-/// It may be in another thread than the collector's end.
+/// The worker's end of a lane, which takes jobs, grades them and puts the answers.
+/// The answers put, followed by the one held, if any, are those to the jobs taken, one for each and
+/// in the same order. The two ends may be in different threads.
 #[derive(Drop)]
 pub struct LaneBack {
     pub(crate) messages: Consumer<Message>,
@@ -43,7 +47,10 @@ pub struct LaneBack {
     pub(crate) reporter: Reporter,
     pub ghost noted: { finished ≡ has_finish (received messages) },
     pub ghost free: { finished ≡ true → is_none held ≡ true },
-    pub ghost answered: { ∥ AreAnswersTo (jobs_of (received messages)) (sent answers ++ option_to_list held) ∥₁ },
+    pub ghost answered: { ∥ AreAnswersTo (jobs_of (received messages))
+        (sent answers ++ option_to_list held) ∥₁ },
+    // A slot is known to be free until as many answers were put as the ring holds. So no step is
+    // `Waiting` before that.
     pub ghost room: { producer_capacity answers ≤ known_free answers + length (sent answers) },
 }
 
@@ -53,13 +60,15 @@ impl LaneBack {
     ghost use Rattle.lane_core.specs.Stepping.{Steps};
     ghost use Rattle.lane_core.specs.Ends.{back_lists, back_capacity, known_messages, SameBack};
 
-    /// One step: after the finish `Done`, and nothing happens. Else the answer that is held is put;
-    /// or, if none is, a message is taken, and a job enters the gate with its number and is graded,
-    /// and its answer put, or held if the ring of answers is full. It never waits.
+    /// Takes one step, and waits for nothing but the gate. Once the finish was taken it returns
+    /// `Done` and has no effect. Otherwise it puts the answer that is held; or, if none is, it
+    /// takes a message, and if that is a job, the job enters the gate by its number, is graded, and
+    /// its answer is put. An answer is held while its ring is full.
     #[tactic(auto, using(crate::proofs::MessagesLemmas::messages))]
     pub fn step<G: Gate>(&mut self, alloc: Global, gate: &G) -> Step
         ensures lane { SameBack self.old self.new }
-        ensures lists { Steps (back_capacity self.old) result (back_lists self.old) (back_lists self.new) }
+        ensures lists { Steps (back_capacity self.old) result
+            (back_lists self.old) (back_lists self.new) }
         ensures idle { result ≡ Step.Idle → length (known_messages self.old) ≡ 0 }
         ensures done { (result ≡ Step.Done) ↔ IsFinished (back_lists self.new) }
     {

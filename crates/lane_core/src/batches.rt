@@ -18,10 +18,10 @@ use crate::steps::Step;
 use grid_core::NoMemory;
 use std::alloc::Global;
 
-/// The greatest capacity of a batch lane: the most jobs of a survey, and the finish.
+/// The greatest capacity of a batch lane: 10,000 jobs, the most of a survey, and the finish.
 pub const LARGEST_BATCH: usize = 10_001;
 
-/// A lane whose two ends lie in one value, for work in batches.
+/// A lane with both ends in one value, for a thread that sends, grades and takes in batches.
 #[derive(Drop)]
 pub struct BatchLane {
     front: LaneFront,
@@ -37,7 +37,8 @@ impl BatchLane {
     ghost use Rattle.lane_core.specs.Settling.{IsSettleFault};
     ghost use Rattle.lane_core.specs.Batch.{batch_front, batch_back, batch_capacity, SameEnds};
 
-    /// A lane with room for `capacity` messages and as many answers, from 1 to 10,001.
+    /// Opens a lane whose rings hold `capacity` messages and as many answers, from 1 to 10,001.
+    /// Returns `NoMemory` if an allocation fails.
     pub fn new(alloc: Global, capacity: usize) -> Result<BatchLane, NoMemory>
         requires least { 1 ≤ capacity }
         requires most { capacity ≤ LARGEST_BATCH }
@@ -49,24 +50,37 @@ impl BatchLane {
         Ok(BatchLane { front, back })
     }
 
-    /// Steps as a worker does, until a step is `Idle`, `Waiting` or `Done`.
+    /// Grades jobs as a worker does, until the finish has been taken, or no message and no held
+    /// answer is left, or an answer is held because the ring of answers is full.
     pub fn work<G: Gate>(&mut self, alloc: Global, gate: &G)
         ensures lane { SameEnds self.old self.new }
         ensures front { batch_front self.new ≡ batch_front self.old }
-        ensures worked { Works (batch_capacity self.old) (batch_back self.old) (batch_back self.new) }
-        ensures ended { IsWorkDone (batch_capacity self.old) (batch_front self.new) (batch_back self.new) }
+        ensures worked { Works (batch_capacity self.old)
+            (batch_back self.old) (batch_back self.new) }
+        ensures ended { IsWorkDone (batch_capacity self.old)
+            (batch_front self.new) (batch_back self.new) }
     {
+        // Ends, since each turn that returns true lessens `work_left`. The proofs name the loop by
+        // its label.
         'grading: while grade_next(&mut self.front, &mut self.back, alloc, gate) {}
     }
 
-    /// Settles the lane if it is finished and drained, as `settle` does; else it comes back, as it was.
+    /// Settles the lane if it is finished and drained, as `settle` does. Otherwise returns the
+    /// fault and the lane, unchanged.
     pub fn close(self) -> Result<(), (SettleFault, BatchLane)>
-        ensures cases { MatchResult result (λ _. IsFinished (batch_back self) × IsDrained (batch_front self) (batch_back self))
+        ensures cases { MatchResult result
+            (λ _. IsFinished (batch_back self)
+            × IsDrained (batch_front self) (batch_back self))
             (λ e. IsSettleFault e.0 (batch_front self) (batch_back self)) }
-        ensures answers { MatchResult result (λ _. AreAnswersTo (jobs_of (batch_front self).sent) (batch_front self).received)
-            (λ _. AreAnswersTo (take (length (batch_front self).received) (jobs_of (batch_front self).sent)) (batch_front self).received) }
+        ensures answers { MatchResult result
+            (λ _. AreAnswersTo (jobs_of (batch_front self).sent) (batch_front self).received)
+            (λ _. AreAnswersTo
+            (take (length (batch_front self).received) (jobs_of (batch_front self).sent))
+            (batch_front self).received) }
         ensures last { finish_is_last (batch_front self).sent ≡ true }
-        ensures back { IfErr result (λ e. SameEnds self e.1 × (batch_front e.1 ≡ batch_front self) × (batch_back e.1 ≡ batch_back self)) }
+        ensures back { IfErr result (λ e. SameEnds self e.1
+            × (batch_front e.1 ≡ batch_front self)
+            × (batch_back e.1 ≡ batch_back self)) }
     {
         let BatchLane { front, back } = self;
         match settle(front, back) {
@@ -76,29 +90,36 @@ impl BatchLane {
     }
 }
 
-/// Whether a message waits or an answer is held. Both ends of the ring are looked at,
-/// since the worker's end alone may not see the newest message.
+/// Reports whether a message waits or an answer is held. Looks at both ends of the ring of
+/// messages: the worker's end alone is not proved to see the newest one.
 fn has_work(front: &mut LaneFront, back: &mut LaneBack) -> bool
     requires { AreOneLane front.old back.old }
-    ensures front { SameFront front.old front.new × (front_lists front.new ≡ front_lists front.old) }
+    ensures front { SameFront front.old front.new
+        × (front_lists front.new ≡ front_lists front.old) }
     ensures back { SameBack back.old back.new × (back_lists back.new ≡ back_lists back.old) }
-    ensures waiting { (back_lists back.old).taken ++ known_messages back.new ≡ (front_lists front.old).sent }
+    ensures waiting { (back_lists back.old).taken ++ known_messages back.new
+        ≡ (front_lists front.old).sent }
     ensures some { IsTrue result → back.old.held ≡ None → 0 < length (known_messages back.new) }
-    ensures none { IsFalse result → (length (known_messages back.new) ≡ 0) × (back.old.held ≡ None) }
+    ensures none { IsFalse result
+        → (length (known_messages back.new) ≡ 0) × (back.old.held ≡ None) }
 {
     let waiting = back.messages.slots_beside(&mut front.messages);
     waiting > 0 || back.held.is_some()
 }
 
-/// Puts the answer that is held, or takes a message that waits and puts its answer.
-/// Returns whether an answer was put.
+/// Takes one step of the worker if a message waits or an answer is held.
+/// Returns whether an answer was put; otherwise the work is done (`IsWorkDone`).
 fn grade_next<G: Gate>(front: &mut LaneFront, back: &mut LaneBack, alloc: Global, gate: &G) -> bool
     requires { AreOneLane front.old back.old }
-    ensures front { SameFront front.old front.new × (front_lists front.new ≡ front_lists front.old) }
+    ensures front { SameFront front.old front.new
+        × (front_lists front.new ≡ front_lists front.old) }
     ensures back { SameBack back.old back.new }
-    ensures more { IsTrue result → Steps (back_capacity back.old) Step.Graded (back_lists back.old) (back_lists back.new)
-        × (work_left (front_lists front.old) (back_lists back.new) < work_left (front_lists front.old) (back_lists back.old)) }
-    ensures last { IsFalse result → Works (back_capacity back.old) (back_lists back.old) (back_lists back.new)
+    ensures more { IsTrue result
+        → Steps (back_capacity back.old) Step.Graded (back_lists back.old) (back_lists back.new)
+        × (work_left (front_lists front.old) (back_lists back.new)
+        < work_left (front_lists front.old) (back_lists back.old)) }
+    ensures last { IsFalse result
+        → Works (back_capacity back.old) (back_lists back.old) (back_lists back.new)
         × IsWorkDone (back_capacity back.old) (front_lists front.old) (back_lists back.new) }
 {
     if !has_work(front, back) {

@@ -1,4 +1,4 @@
-//! One turn of a collector at a lane.
+//! A collector's turn at a lane: jobs are sent, and answers taken.
 
 ghost use Rattle.std.specs.Prelude.{◌≡◌, ◌≢◌, ◌↔◌, ◌⊎◌, ◌<◌, ◌≤◌, ◌++◌, [], List, length, IsTrue, true, vec_capacity, vec_len};
 ghost use Rattle.std.specs.VecDeque.{deque_capacity, deque_len};
@@ -14,13 +14,13 @@ use crate::lanes::Lane;
 use std::alloc::Global;
 use std::collections::VecDeque;
 
-/// How many answers one turn takes at most.
+/// The most answers that one turn takes.
 pub const MOST_TAKEN: usize = 64;
 
-/// One turn at a lane: sends jobs from the front of `waiting` until none waits or one is refused,
-/// which goes back to the front; asks for the finish if none waits;
-/// and takes answers to the end of `got` while it has room, at most 64.
-/// Returns whether a message was accepted or an answer was taken. Nothing is allocated.
+/// Takes one turn at a lane. Sends jobs from the front of `waiting` until none is left or one is
+/// refused, which is put back at the front; sends the finish if none is left; and appends answers
+/// to `got`, at most 64 and no more than its capacity allows. Returns whether a message was
+/// accepted or an answer was taken. Allocates nothing.
 pub fn deal<L: Lane>(
     lane: &mut L,
     waiting: &mut VecDeque<Job, Global>,
@@ -30,19 +30,22 @@ pub fn deal<L: Lane>(
     ensures dealt { Deals (L.capacity lane.old) (L.lists lane.old) (L.lists lane.new)
         waiting.old.items waiting.new.items got.old.items got.new.items }
     ensures moved { IsTrue result ↔ Grows (L.lists lane.old) (L.lists lane.new) }
-    ensures no_growth { (deque_capacity waiting.new ≡ deque_capacity waiting.old) × (vec_capacity got.new ≡ vec_capacity got.old) }
+    ensures no_growth { (deque_capacity waiting.new ≡ deque_capacity waiting.old)
+        × (vec_capacity got.new ≡ vec_capacity got.old) }
 {
+    // The three calls come before the test, which would skip the later ones once one is true.
     let sent = send_waiting(lane, waiting);
     let asked = ask_finish(lane, waiting);
     let taken = take_answers(lane, got);
     sent || asked || taken
 }
 
-/// Sends jobs from the front until none waits or one is refused, which goes back to the front.
-/// Returns whether one was accepted.
+/// Sends jobs from the front of `waiting` until none is left or one is refused, which is put back
+/// at the front. Returns whether one was accepted.
 fn send_waiting<L: Lane>(lane: &mut L, waiting: &mut VecDeque<Job, Global>) -> bool
     ensures lane { L.same_lane lane.old lane.new }
-    ensures sent { Sends (L.capacity lane.old) (L.lists lane.old) (L.lists lane.new) waiting.old.items waiting.new.items }
+    ensures sent { Sends (L.capacity lane.old) (L.lists lane.old) (L.lists lane.new)
+        waiting.old.items waiting.new.items }
     ensures moved { IsTrue result ↔ Grows (L.lists lane.old) (L.lists lane.new) }
     ensures no_growth { deque_capacity waiting.new ≡ deque_capacity waiting.old }
 {
@@ -51,6 +54,7 @@ fn send_waiting<L: Lane>(lane: &mut L, waiting: &mut VecDeque<Job, Global>) -> b
         match lane.send(job) {
             Ok(()) => any = true,
             Err(SendFault::Finished(job)) | Err(SendFault::Full(job)) => {
+                // Allocates nothing, since the job was popped from `waiting`.
                 waiting.push_front_reserved(job);
                 break;
             }
@@ -59,10 +63,11 @@ fn send_waiting<L: Lane>(lane: &mut L, waiting: &mut VecDeque<Job, Global>) -> b
     any
 }
 
-/// Asks for the finish if no job waits. Returns whether it was accepted.
+/// Sends the finish if no job waits. Returns whether it was accepted.
 fn ask_finish<L: Lane>(lane: &mut L, waiting: &VecDeque<Job, Global>) -> bool
     ensures lane { L.same_lane lane.old lane.new }
-    ensures asked { Asks (L.capacity lane.old) (L.lists lane.old) (L.lists lane.new) waiting.now.items }
+    ensures asked { Asks (L.capacity lane.old) (L.lists lane.old) (L.lists lane.new)
+        waiting.now.items }
     ensures moved { IsTrue result ↔ Grows (L.lists lane.old) (L.lists lane.new) }
 {
     if !waiting.is_empty() {
@@ -71,7 +76,8 @@ fn ask_finish<L: Lane>(lane: &mut L, waiting: &VecDeque<Job, Global>) -> bool
     lane.finish().is_ok()
 }
 
-/// Takes answers while one is seen and there is room for it, at most 64. Returns whether one was taken.
+/// Appends answers to `got` while the lane has one and `got` has capacity for it, at most 64.
+/// Returns whether one was taken.
 fn take_answers<L: Lane>(lane: &mut L, got: &mut Vec<Answer>) -> bool
     ensures lane { L.same_lane lane.old lane.new }
     ensures taken { Takes (L.lists lane.old) (L.lists lane.new) got.old.items got.new.items }
@@ -80,6 +86,7 @@ fn take_answers<L: Lane>(lane: &mut L, got: &mut Vec<Answer>) -> bool
 {
     let mut any = false;
     for _ in 0..MOST_TAKEN {
+        // Tested first, since an answer that is taken cannot go back into the lane.
         if got.len() == got.capacity() {
             break;
         }

@@ -1,16 +1,16 @@
-//! Why a lane refuses.
+//! The errors of lanes.
 
 use crate::jobs::Job;
 use thiserror::Error;
 
-/// Why a job was not accepted. It comes back.
+/// Why a job was not accepted. Each variant returns the job.
 #[derive(Debug, Drop, Error)]
 pub enum SendFault {
     /// The finish was sent before.
     #[error("the finish was sent")]
     Finished(Job),
-    /// The ring has no room, as far as this end sees. It comes only if the lane accepted at least
-    /// as many messages as it has room for.
+    /// The ring of messages is full, as far as this end sees. This occurs only once the lane has
+    /// accepted at least as many messages as its capacity.
     #[error("the lane is full")]
     Full(Job),
 }
@@ -21,8 +21,8 @@ pub enum FinishFault {
     /// The finish was sent before.
     #[error("the finish was sent")]
     Finished,
-    /// The ring has no room, as far as this end sees. It comes only if the lane accepted at least
-    /// as many messages as it has room for.
+    /// The ring of messages is full, as far as this end sees. This occurs only once the lane has
+    /// accepted at least as many messages as its capacity.
     #[error("the lane is full")]
     Full,
 }
@@ -33,7 +33,7 @@ pub enum SettleFault {
     /// The finish was not taken.
     #[error("the finish was not taken")]
     Unfinished,
-    /// The finish was taken, and an answer lies in the ring.
+    /// The finish was taken, but an answer is still in the ring.
     #[error("an answer was not received")]
     NotDrained,
 }

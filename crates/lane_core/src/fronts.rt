@@ -12,7 +12,7 @@ use crate::messages::Message;
 use rtrb::{Consumer, Producer};
 
 /// The collector's end of a lane: it sends jobs and the finish, and receives answers.
-/// It may be in another thread than the worker's end.
+/// No message follows the finish. The two ends may be in different threads.
 #[derive(Drop)]
 pub struct LaneFront {
     pub(crate) messages: Producer<Message>,
@@ -20,6 +20,8 @@ pub struct LaneFront {
     pub(crate) finished: bool,
     pub ghost noted: { finished ≡ has_finish (sent messages) },
     pub ghost last: { finish_is_last (sent messages) ≡ true },
+    // A slot is known to be free until as many messages were sent as the ring holds. So no call
+    // returns `Full` before that.
     pub ghost room: { producer_capacity messages ≤ known_free messages + length (sent messages) },
 }
 
@@ -28,7 +30,7 @@ impl LaneFront {
     ghost use Rattle.lane_core.specs.Ends.{front_lists};
     ghost use Rattle.lane_core.specs.Messages.{has_finish};
 
-    /// Whether the finish was sent.
+    /// Reports whether the finish was sent.
     pub fn has_sent_finish(&self) -> bool
         ensures { result ≡ has_finish (front_lists self.now).sent }
     {
@@ -57,6 +59,7 @@ impl Lane for LaneFront {
         if self.finished {
             return Err(SendFault::Finished(job));
         }
+        // Tested before the job becomes a message, since the fault returns the job.
         if self.messages.is_full() {
             return Err(SendFault::Full(job));
         }

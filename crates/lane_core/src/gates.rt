@@ -1,13 +1,13 @@
-//! Where a worker passes before it grades a job.
+//! Gates, which a worker's jobs pass before they are graded.
 
 /// A gate that each job enters, by its number, before it is graded.
-/// Workers share it, and it lets each job through in the end.
+/// Workers share it. It may delay a job, but has to let each one through.
 pub trait Gate {
-    /// Lets the job of this number through. It returns, and says nothing of when.
+    /// Lets the job of this number through. It always returns, but may take any time.
     fn enter(&self, number: u32);
 }
 
-/// The gate that lets each job through at once.
+/// A gate that lets each job through at once.
 #[derive(Clone, Copy, Debug)]
 pub struct OpenGate;
 

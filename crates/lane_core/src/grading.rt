@@ -1,4 +1,4 @@
-//! Grading a job.
+//! Grading jobs.
 
 ghost use Rattle.lane_core.specs.Answers.{IsAnswerTo};
 
@@ -7,14 +7,15 @@ use crate::jobs::Job;
 use solve_core::Reporter;
 use std::alloc::Global;
 
-/// The answer to a job. If a growth is refused, its outcome is `NoMemory`.
+/// Grades `job` and returns its answer. If an allocation fails, its outcome is `NoMemory`.
 pub fn grade(alloc: Global, job: Job) -> Answer
     ensures { IsAnswerTo job result }
 {
     grade_by(&mut Reporter::new(), alloc, job)
 }
 
-/// The answer to a job, by what keeps its room from one job to the next.
+/// Grades `job` and returns its answer, as `grade` does. `reporter` keeps its buffers from one job
+/// to the next.
 pub fn grade_by(reporter: &mut Reporter, alloc: Global, job: Job) -> Answer
     ensures { IsAnswerTo job result }
 {

@@ -1,4 +1,4 @@
-//! Puzzles that are to be graded.
+//! Jobs: puzzles to be graded.
 
 ghost use Rattle.std.specs.Prelude.{◌≡◌, ◌≤◌};
 ghost use Rattle.lane_core.specs.declared.jobs.TheConstants.{MOST_GUESSES};
@@ -6,25 +6,27 @@ ghost use Rattle.lane_core.specs.declared.jobs.TheConstants.{MOST_GUESSES};
 use grid_core::Puzzle;
 use solve_core::Pick;
 
-/// The greatest limit on the guesses of a job.
+/// The greatest limit on guesses that a job may have.
 pub const MOST_GUESSES: u32 = 1_000_000;
 
-/// A puzzle to be graded, with its number, its limit on guesses, at most 1,000,000, and its rule for them.
+/// A puzzle to be graded, with a number, a limit on guesses (at most 1,000,000) and a pick, the
+/// rule that chooses the cell of each guess.
 #[derive(Debug, Drop)]
 pub struct Job {
-    /// The number that its answer will have.
+    /// The job's number, which its answer has too.
     pub number: u32,
-    /// The puzzle.
+    /// The puzzle to be graded.
     pub puzzle: Puzzle,
-    /// The limit on guesses.
+    /// The limit on guesses, at most 1,000,000.
     pub guesses: u32,
-    /// The rule for the cell of the next guess.
+    /// The rule that chooses the cell of each guess.
     pub pick: Pick,
     pub ghost within_limit: { guesses ≤ MOST_GUESSES },
 }
 
 impl Job {
-    /// The job of this number, puzzle, limit on guesses, which is at most 1,000,000, and rule for them.
+    /// Returns the job of these parts. `guesses`, the limit on guesses, has to be at most
+    /// 1,000,000.
     pub fn new(number: u32, puzzle: Puzzle, guesses: u32, pick: Pick) -> Job
         requires { guesses ≤ MOST_GUESSES }
         ensures number { result.number ≡ number }

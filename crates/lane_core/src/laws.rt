@@ -1,5 +1,5 @@
-//! Laws of lanes. The first two are over every list of events from the opening,
-//! and the last one tells the limits.
+//! Laws of lanes. `answers_in_order` and `drained_lanes_are_answered` hold after any events from a
+//! newly opened lane; `limits_are_numbers` shows the values of the limits.
 
 ghost use Rattle.std.specs.Prelude.{◌≡◌, ℕ, List, length, take, true};
 ghost use mathlib.Core.List.{IsPrefix};
@@ -14,41 +14,53 @@ ghost use Rattle.lane_core.specs.declared.opening.TheConstants.{LARGEST_RING};
 ghost use Rattle.lane_core.specs.declared.batches.TheConstants.{LARGEST_BATCH};
 ghost use Rattle.lane_core.specs.declared.dealing.TheConstants.{MOST_TAKEN};
 
-/// What was put and what is held answers the jobs that were taken, place by place.
-/// So what was received answers the first of the jobs that were sent. No message follows the finish.
+/// The answers put, followed by the one held, if any, are those to the jobs taken, one for each and
+/// in the same order. So the answers received are those to the first jobs sent, as many as there
+/// are answers. No message follows the finish.
 #[tactic(auto, using(crate::proofs::SettlingLemmas::lawful))]
 pub fn answers_in_order()
-    ensures answered { (capacity : ℕ) (events : List Event) (lane : Lane) → Run (opening capacity) events lane → IsAnswered lane.back }
-    ensures taken { (capacity : ℕ) (events : List Event) (lane : Lane) → Run (opening capacity) events lane
+    ensures answered { (capacity : ℕ) (events : List Event) (lane : Lane)
+        → Run (opening capacity) events lane
+        → IsAnswered lane.back }
+    ensures taken { (capacity : ℕ) (events : List Event) (lane : Lane)
+        → Run (opening capacity) events lane
         → IsPrefix lane.back.taken lane.front.sent }
-    ensures received { (capacity : ℕ) (events : List Event) (lane : Lane) → Run (opening capacity) events lane
+    ensures received { (capacity : ℕ) (events : List Event) (lane : Lane)
+        → Run (opening capacity) events lane
         → IsPrefix lane.front.received lane.back.put }
-    ensures last { (capacity : ℕ) (events : List Event) (lane : Lane) → Run (opening capacity) events lane
+    ensures last { (capacity : ℕ) (events : List Event) (lane : Lane)
+        → Run (opening capacity) events lane
         → finish_is_last lane.front.sent ≡ true }
-    ensures so_far { (capacity : ℕ) (events : List Event) (lane : Lane) → Run (opening capacity) events lane
-        → AreAnswersTo (take (length lane.front.received) (jobs_of lane.front.sent)) lane.front.received }
+    ensures so_far { (capacity : ℕ) (events : List Event) (lane : Lane)
+        → Run (opening capacity) events lane
+        → AreAnswersTo (take (length lane.front.received) (jobs_of lane.front.sent))
+        lane.front.received }
 {}
 
-/// What a finished and drained lane received answers the jobs that were sent, place by place.
+/// The answers that a finished and drained lane has received are those to the jobs sent, one for
+/// each and in the same order.
 #[tactic(auto, using(crate::proofs::SettlingLemmas::lawful))]
 pub fn drained_lanes_are_answered()
-    ensures { (capacity : ℕ) (events : List Event) (lane : Lane) → Run (opening capacity) events lane
-        → IsFinished lane.back → IsDrained lane.front lane.back → AreAnswersTo (jobs_of lane.front.sent) lane.front.received }
+    ensures { (capacity : ℕ) (events : List Event) (lane : Lane)
+        → Run (opening capacity) events lane
+        → IsFinished lane.back → IsDrained lane.front lane.back
+        → AreAnswersTo (jobs_of lane.front.sent) lane.front.received }
 {}
 
-/// Each worker's end that there is keeps this too: what it put and what it holds answers the jobs
-/// that it took, place by place.
+/// For each `LaneBack` the answers put, followed by the one held, if any, are those to the jobs
+/// taken, one for each and in the same order.
 #[tactic(auto, using(crate::proofs::AnswersLemmas::back_is_answered))]
 pub fn backs_are_answered()
     ensures { (back : LaneBack) → IsAnswered (back_lists back) }
 {}
 
-/// Each collector's end that there is keeps this: no message follows the finish in what it sent.
+/// In what a `LaneFront` has sent, no message follows the finish.
 pub fn fronts_end_with_the_finish()
     ensures { (front : LaneFront) → finish_is_last (front_lists front).sent ≡ true }
 {}
 
-/// The limits on jobs, on lanes and on turns at them are these numbers.
+/// The limits on guesses, on the capacities of lanes and on the answers that a turn takes have
+/// these values.
 pub fn limits_are_numbers()
     ensures guesses { MOST_GUESSES ≡ 1000000 }
     ensures ring { LARGEST_RING ≡ 64 }

@@ -1,12 +1,12 @@
-//! What a collector sends to a worker.
+//! Messages from a collector to a worker.
 
 use crate::jobs::Job;
 
-/// A message to a worker: a job, or the finish, which says that no job follows.
+/// A message to a worker: a new job, or the finish, after which no job follows.
 #[derive(Debug, Drop)]
 pub enum Message {
     /// A job to be graded.
     Work(Job),
-    /// No job follows.
+    /// The finish: no job follows.
     Finish,
 }

@@ -1,4 +1,4 @@
-//! Opening a lane.
+//! Opening lanes.
 
 ghost use Rattle.std.specs.Prelude.{◌≡◌, ◌≤◌, IfOk};
 ghost use Rattle.lane_core.specs.Lane.{opening_front, opening_back};
@@ -14,8 +14,8 @@ use std::alloc::Global;
 /// The greatest capacity of a lane between two threads.
 pub const LARGEST_RING: usize = 64;
 
-/// Opens a lane with room for `capacity` messages and as many answers, from 1 to 64:
-/// its collector's end and its worker's end.
+/// Opens a lane whose rings hold `capacity` messages and as many answers, from 1 to 64. Returns the
+/// collector's end and the worker's end, or `NoMemory` if an allocation fails.
 pub fn open_lane(alloc: Global, capacity: usize) -> Result<(LaneFront, LaneBack), NoMemory>
     requires least { 1 ≤ capacity }
     requires most { capacity ≤ LARGEST_RING }
@@ -27,7 +27,7 @@ pub fn open_lane(alloc: Global, capacity: usize) -> Result<(LaneFront, LaneBack)
     open_ends(alloc, capacity)
 }
 
-/// The two ends of a lane of any capacity.
+/// Opens a lane of any capacity, as `open_lane` does. The callers set limits of their own.
 pub(crate) fn open_ends(alloc: Global, capacity: usize) -> Result<(LaneFront, LaneBack), NoMemory>
     ensures one_lane { IfOk result (λ ends. AreOneLane ends.0 ends.1) }
     ensures capacity { IfOk result (λ ends. front_capacity ends.0 ≡ capacity) }

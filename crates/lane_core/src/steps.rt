@@ -1,14 +1,14 @@
-//! What a step of a worker did.
+//! The outcomes of a worker's step.
 
-/// What a step of a worker did.
+/// The outcome of a worker's step.
 #[derive(Clone, Copy, Debug, PartialEq, Eq)]
 pub enum Step {
-    /// No message was there, as far as this end sees, and no answer is held.
+    /// Nothing was done: no answer is held, and this end sees no message.
     Idle,
     /// An answer was put into the ring.
     Graded,
-    /// An answer is held: the ring of answers had no room, as far as this end sees.
+    /// An answer is held: the ring of answers is full, as far as this end sees.
     Waiting,
-    /// The finish was taken, by this step or before.
+    /// The finish was taken, by this step or an earlier one.
     Done,
 }

@@ -1,4 +1,4 @@
-//! Jobs and lanes for scripts of calls, and tests of single calls.
+//! Jobs, calls and lanes for the scripts of the tests of `lane_core`, and tests of single calls.
 
 ghost use Rattle.std.specs.Prelude.{◌≡◌, ◌≤◌, IfOk};
 ghost use Rattle.lane_core.specs.Ends.{AreOneLane};
@@ -11,6 +11,7 @@ use std::collections::VecDeque;
 use std::process::Abort;
 use std::test::Fail;
 
+/// Returns `count` clues, each with the numbers `numbers`.
 fn clues(alloc: Global, count: u16, numbers: &[u16]) -> Result<Vec<Clue>, Fail> {
     let mut clues = Vec::new(alloc);
     for _ in 0..count {
@@ -19,7 +20,7 @@ fn clues(alloc: Global, count: u16, numbers: &[u16]) -> Result<Vec<Clue>, Fail> 
     Ok(clues)
 }
 
-/// The puzzle with one clue for all rows and one for all columns.
+/// Returns the puzzle with the clue `row` for each row and `column` for each column.
 pub(crate) fn puzzle_with(
     alloc: Global,
     width: u16,
@@ -32,24 +33,26 @@ pub(crate) fn puzzle_with(
     Ok(Puzzle::new(width, height, rows, columns, Texts::none(), None)?)
 }
 
-/// How many cells the job of a number has, so that an answer's puzzle tells whose it is.
+/// Returns the width of the puzzle of the job `number`. Neighbouring jobs have different ones, by
+/// which a test notices an answer with another job's puzzle.
 fn width_of(number: u32) -> u16 {
     (number % 9) as u16 + 1
 }
 
-/// The job of this number, with one row of cells that are all filled.
+/// Returns the job `number`: one row of 1 to 9 filled cells, and a limit of 1,000 guesses.
 pub(crate) fn job(alloc: Global, number: u32) -> Result<Job, Fail> {
     let width = width_of(number);
     let puzzle = puzzle_with(alloc, width, 1, &[width], &[1])?;
     Ok(Job::new(number, puzzle, 1000, Pick::First))
 }
 
+/// Appends a job.
 fn push_job(jobs: &mut VecDeque<Job, Global>, job: Job) -> Result<(), Fail> {
     jobs.push_back(job).ok().ok_or("memory")?;
     Ok(())
 }
 
-/// Jobs with the numbers from `first` on, `count` of them, in the order of their numbers.
+/// Returns `count` jobs with the numbers from `first` on, in order.
 pub(crate) fn jobs(alloc: Global, first: u32, count: u32) -> Result<VecDeque<Job, Global>, Fail> {
     let mut jobs = VecDeque::new(alloc);
     for index in 0..count {
@@ -61,13 +64,17 @@ pub(crate) fn jobs(alloc: Global, first: u32, count: u32) -> Result<VecDeque<Job
 /// A call on a lane.
 #[derive(Clone, Copy)]
 pub(crate) enum Call {
+    /// Sends the job of this number.
     Send(u32),
+    /// Sends the finish.
     Finish,
+    /// Takes an answer.
     Take,
+    /// Has the worker take one step, or at a batch lane all the steps that it can.
     Work,
 }
 
-/// What a call answered. A job that came back and an answer are told by their number.
+/// The result of a call. Jobs that are returned, and answers, stand as their numbers.
 #[derive(Clone, Copy, Debug, PartialEq, Eq)]
 pub(crate) enum Reply {
     Accepted,
@@ -76,7 +83,7 @@ pub(crate) enum Reply {
     FullReturning(u32),
     FinishedReturning(u32),
     Answered(u32),
-    /// An answer that says that its memory was refused.
+    /// An answer without a report, since an allocation failed.
     Refused(u32),
     /// An answer with the puzzle or the report of another job.
     Mistaken(u32),
@@ -85,7 +92,7 @@ pub(crate) enum Reply {
     Worked,
 }
 
-/// The jobs that a script sends, in its order.
+/// Returns the jobs that a script sends, in order.
 pub(crate) fn jobs_for(
     alloc: Global,
     script: &[(Call, Reply)],
@@ -99,6 +106,7 @@ pub(crate) fn jobs_for(
     Ok(jobs)
 }
 
+/// Returns a result of `send` as a reply.
 fn sent(reply: Result<(), SendFault>) -> Reply {
     match reply {
         Ok(()) => Reply::Accepted,
@@ -107,6 +115,7 @@ fn sent(reply: Result<(), SendFault>) -> Reply {
     }
 }
 
+/// Returns a result of `finish` as a reply.
 fn finished(reply: Result<(), FinishFault>) -> Reply {
     match reply {
         Ok(()) => Reply::Accepted,
@@ -115,6 +124,8 @@ fn finished(reply: Result<(), FinishFault>) -> Reply {
     }
 }
 
+/// Returns an answer as a reply: `Refused` if it has no report, and `Mistaken` if its puzzle or its
+/// report is that of another job.
 pub(crate) fn told_of(answer: &Answer) -> Reply {
     let number = answer.number();
     let width = width_of(number);
@@ -130,6 +141,7 @@ pub(crate) fn told_of(answer: &Answer) -> Reply {
     }
 }
 
+/// Returns a result of `take` as a reply.
 fn taken(reply: Option<Answer>) -> Reply {
     match reply {
         Some(answer) => told_of(&answer),
@@ -137,29 +149,30 @@ fn taken(reply: Option<Answer>) -> Reply {
     }
 }
 
-/// What comes of dealing: whether something moved, how many jobs then wait, and how many answers are there.
+/// The result of a deal: whether a message or an answer was moved, how many jobs then wait, and how
+/// many answers were received.
 type Dealt = (bool, usize, usize);
 
-/// A turn at a lane, and what it answers.
+/// A deal or a call, with its expected result.
 #[derive(Clone, Copy)]
 pub(crate) enum Turn {
     Deal(Dealt),
     Call(Call, Reply),
 }
 
-/// What a script is followed on.
+/// A lane on which a script can be run.
 pub(crate) trait Called: Drop {
-    /// Makes a call. A job to send is the first of those at hand.
+    /// Makes a call. `Call::Send` sends the first of `jobs`.
     fn call(&mut self, alloc: Global, call: Call, jobs: &mut VecDeque<Job, Global>) -> Reply;
 
-    /// Deals the jobs that wait.
+    /// Takes one turn of `deal`: sends jobs of `waiting`, and appends answers to `got`.
     fn dealt(&mut self, waiting: &mut VecDeque<Job, Global>, got: &mut Vec<Answer>) -> Dealt;
 
-    /// Ends the lane, or gives it back with the reason why it can't end.
+    /// Settles the lane, or returns it with the fault that keeps it from being settled.
     fn end(self) -> Result<(), (SettleFault, Self)>;
 }
 
-/// Takes turns at a lane.
+/// Takes turns at a lane, and asserts that each has its expected result.
 pub(crate) fn take_turns<L: Called>(
     rt: &(impl Abort + AllocGlobal),
     lane: &mut L,
@@ -168,16 +181,16 @@ pub(crate) fn take_turns<L: Called>(
     turns: &[Turn],
 ) {
     for (turn, number) in turns.iter().zip(1u32..) {
-        let is_told = match turn {
+        let is_expected = match turn {
             Turn::Deal(dealt) => lane.dealt(waiting, got) == *dealt,
             Turn::Call(call, reply) => lane.call(rt.alloc(), *call, waiting) == *reply,
         };
-        assert!(rt; is_told, "turn {number}");
+        assert!(rt; is_expected, "turn {number}");
     }
 }
 
-/// Takes turns at a lane, with the jobs from `first` on, `count` of them, and room for so many answers.
-/// Returns whether the lane can then end.
+/// Takes turns at a lane, with `count` jobs from the number `first` on and a list with a capacity
+/// of `room` answers. Returns whether the lane can be settled afterwards.
 pub(crate) fn deal_jobs<L: Called>(
     rt: &(impl Abort + AllocGlobal),
     lane: Option<L>,
@@ -193,7 +206,7 @@ pub(crate) fn deal_jobs<L: Called>(
     Ok(lane.end().is_ok())
 }
 
-/// Both ends of one lane, so that each call keeps that they are.
+/// The two ends of one lane. That they are of one lane, which `settle` requires, is an invariant.
 #[derive(Drop)]
 pub(crate) struct Both {
     front: LaneFront,
@@ -202,7 +215,7 @@ pub(crate) struct Both {
 }
 
 impl Both {
-    /// The ends of a lane, unless its memory is refused.
+    /// Opens a lane. `None` if an allocation fails.
     pub(crate) fn open(alloc: Global, capacity: usize) -> Option<Both>
         requires least { 1 ≤ capacity }
         requires most { capacity ≤ LARGEST_RING }
@@ -238,14 +251,14 @@ impl Called for Both {
     }
 }
 
-/// A lane of batches.
+/// A batch lane.
 #[derive(Drop)]
 pub(crate) struct Batch {
     pub(crate) lane: BatchLane,
 }
 
 impl Batch {
-    /// A lane of batches, unless its memory is refused.
+    /// Opens a batch lane. `None` if an allocation fails.
     pub(crate) fn open(alloc: Global, capacity: usize) -> Option<Batch>
         requires least { 1 ≤ capacity }
         requires most { capacity ≤ LARGEST_BATCH }
@@ -283,6 +296,7 @@ impl Called for Batch {
     }
 }
 
+/// Takes one turn of `deal` and returns its result.
 fn dealt<L: Lane>(lane: &mut L, waiting: &mut VecDeque<Job, Global>, got: &mut Vec<Answer>) -> Dealt
     ensures { L.same_lane lane.old lane.new }
 {
@@ -290,6 +304,7 @@ fn dealt<L: Lane>(lane: &mut L, waiting: &mut VecDeque<Job, Global>, got: &mut V
     (moved, waiting.len(), got.len())
 }
 
+/// Two jobs, and a capacity of one answer: the deals leave the second answer in the lane.
 const LITTLE_ROOM: [Turn; 5] = [
     Turn::Deal((true, 0, 0)),
     Turn::Call(Call::Work, Reply::Worked),
@@ -305,6 +320,7 @@ fn dealing_with_little_room(rt: HostRuntime) -> Result<(), Fail> {
     Ok(())
 }
 
+/// Two jobs at a lane of capacity 1: the second is sent once the worker has taken the first.
 const AT_A_FRONT: [Turn; 7] = [
     Turn::Deal((true, 1, 0)),
     Turn::Deal((false, 1, 0)),
@@ -322,7 +338,7 @@ fn dealing_at_a_front(rt: HostRuntime) -> Result<(), Fail> {
     Ok(())
 }
 
-/// Whether lines settle a puzzle of one cell, which is known.
+/// Reports whether these are the findings on a puzzle of one cell that lines make known.
 fn is_one_cell(found: &Findings) -> bool {
     let is_known = match &found.verdict {
         Verdict::One(grid) => grid.width() == 1 && grid.height() == 1 && grid.known() == 1,
@@ -348,7 +364,7 @@ fn grades_a_job(rt: HostRuntime) -> Result<(), Fail> {
 #[test]
 fn faults_in_sentences(rt: HostRuntime) -> Result<(), Fail> {
     let alloc = rt.alloc();
-    let told = format!(in alloc;
+    let sentences = format!(in alloc;
         "{}, {}, {}, {}, {}, {}",
         SendFault::Finished(job(alloc, 1)?),
         SendFault::Full(job(alloc, 1)?),
@@ -357,9 +373,9 @@ fn faults_in_sentences(rt: HostRuntime) -> Result<(), Fail> {
         SettleFault::Unfinished,
         SettleFault::NotDrained
     )?;
-    let wanted =
-        "the finish was sent, the lane is full, the finish was sent, the lane is full, the finish was not taken, an answer was not received";
-    assert!(rt; told.as_str() == wanted);
+    let wanted = "the finish was sent, the lane is full, the finish was sent, the lane is full, \
+        the finish was not taken, an answer was not received";
+    assert!(rt; sentences.as_str() == wanted);
     Ok(())
 }
 
@@ -375,7 +391,7 @@ fn front_without_its_back(rt: HostRuntime) -> Result<(), Fail> {
     Ok(())
 }
 
-/// The back of a lane of capacity 1, to which a job was sent before the front was dropped.
+/// Returns the back of a lane of capacity 1, whose front was dropped after it had sent a job.
 fn back_alone(alloc: Global) -> Result<LaneBack, Fail> {
     let mut lane = Both::open(alloc, 1).ok_or("memory")?;
     if lane.call(alloc, Call::Send(1), &mut jobs(alloc, 1, 1)?) != Reply::Accepted {

@@ -1,4 +1,4 @@
-//! Tests of the limits, with their numbers written out.
+//! Tests of the limits of `lane_core`, with their numbers written out.
 
 use crate::tests_lanes::{Batch, Both, Call, Called, Reply, Turn, deal_jobs, jobs, puzzle_with};
 use lane_core::*;
@@ -6,7 +6,7 @@ use solve_core::Pick;
 use std::process::Abort;
 use std::test::Fail;
 
-/// Asserts that a lane accepts just so many jobs, if this is then the reply to this call.
+/// Asserts that a lane accepts `count` jobs, and then returns `reply` to `call`.
 fn assert_holds<L: Called>(
     rt: &(impl Abort + AllocGlobal),
     lane: Option<L>,
@@ -24,6 +24,7 @@ fn assert_holds<L: Called>(
     Ok(())
 }
 
+/// 65 answers at a batch lane: a deal takes 64 of them, and the next one the last.
 const TAKING_65: [Turn; 4] = [
     Turn::Deal((true, 0, 0)),
     Turn::Call(Call::Work, Reply::Worked),

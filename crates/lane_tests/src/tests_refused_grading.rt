@@ -1,5 +1,5 @@
-//! Calls whose growths of memory are refused, each in turn, and calls that take no memory
-//! with every growth refused.
+//! Tests of the calls of `lane_core` with failing allocations: each allocation of a call fails in
+//! turn, and calls that allocate nothing are made with every allocation failing.
 
 use crate::tests_lanes::{Batch, Call, Called, Reply, Turn, jobs, puzzle_with, take_turns};
 use grid_core::NoMemory;
@@ -11,6 +11,8 @@ use std::collections::VecDeque;
 use std::process::Abort;
 use std::test::Fail;
 
+/// Classifies the result of opening a batch lane. The lane has to have no answer, and to accept the
+/// finish.
 fn told_of_lane<L: Lane + Drop>(answer: Result<L, NoMemory>) -> Told {
     match answer {
         Ok(mut lane) => told_if(lane.take().is_none() && lane.finish().is_ok()),
@@ -18,6 +20,8 @@ fn told_of_lane<L: Lane + Drop>(answer: Result<L, NoMemory>) -> Told {
     }
 }
 
+/// Classifies the result of `open_lane`. The front has to have sent no finish, and to have no
+/// answer.
 fn told_of_ends(answer: Result<(LaneFront, LaneBack), NoMemory>) -> Told {
     match answer {
         Ok((mut front, _)) => told_if(!front.has_sent_finish() && front.take().is_none()),
@@ -33,7 +37,7 @@ fn lanes_are_opened_or_refused(rt: HostRuntime) -> Result<(), Fail> {
     Ok(())
 }
 
-/// What the grading of job 7 told.
+/// Classifies the answer to job 7.
 fn told_of_answer(answer: &Answer) -> Told {
     match answer.outcome() {
         Ok(_) => told_if(answer.number() == 7 && answer.guesses() == 1000),
@@ -52,7 +56,7 @@ fn jobs_are_graded_or_refused(rt: HostRuntime) -> Result<(), Fail> {
     Ok(())
 }
 
-/// Takes turns at a lane with each growth refused, and asserts that there is none.
+/// Takes turns at a lane with every allocation failing, and asserts that none was requested.
 fn take_turns_in_place<L: Called>(
     rt: &(impl Abort + AllocGlobal),
     lane: &mut L,
@@ -65,17 +69,19 @@ fn take_turns_in_place<L: Called>(
     assert!(rt; !was_refused(rt.alloc()), "no growth");
 }
 
+/// Two jobs are sent, the second one by a deal, which sends the finish too.
 const SENDING: [Turn; 2] = [
     Turn::Call(Call::Send(1), Reply::Accepted),
     Turn::Deal((true, 0, 0)),
 ];
 
+/// Two answers are taken: one by a deal, for which `got` has the capacity, and one by a call.
 const TAKING: [Turn; 2] = [
     Turn::Deal((true, 0, 1)),
     Turn::Call(Call::Take, Reply::Answered(2)),
 ];
 
-/// Asserts that a lane takes no memory but to grade.
+/// Asserts that the calls of a lane allocate nothing, apart from grading.
 fn assert_no_growth<L: Called>(
     rt: &(impl Abort + AllocGlobal),
     lane: Option<L>,

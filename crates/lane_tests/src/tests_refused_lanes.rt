@@ -1,5 +1,5 @@
-//! Scripts of calls on one thread, with each growth of memory refused in turn. Whether a ring is full or
-//! empty as an end sees it, no contract says.
+//! Scripts of calls at a lane on one thread, with each allocation failing in turn. They also show
+//! what no contract says: whether an end finds a ring full or empty.
 
 use crate::tests_lanes::{
     Batch, Both, Call, Called, Reply, Turn, jobs, jobs_for, take_turns, told_of,
@@ -11,9 +11,10 @@ use std::collections::VecDeque;
 use std::process::Abort;
 use std::test::Fail;
 
-/// More growths than any script makes.
+/// More allocations than any script makes.
 const MOST_GROWTHS: usize = 1000;
 
+/// Calls at a lane of capacity 1, until the finish is sent but not taken.
 const BEFORE_THE_FINISH: [(Call, Reply); 11] = [
     (Call::Take, Reply::Nothing),
     (Call::Work, Reply::Stepped(Step::Idle)),
@@ -28,17 +29,20 @@ const BEFORE_THE_FINISH: [(Call, Reply); 11] = [
     (Call::Send(3), Reply::FinishedReturning(3)),
 ];
 
+/// The calls after `BEFORE_THE_FINISH`, until the finish is taken and one answer is left.
 const TAKING_THE_FINISH: [(Call, Reply); 3] = [
     (Call::Take, Reply::Answered(1)),
     (Call::Work, Reply::Stepped(Step::Graded)),
     (Call::Work, Reply::Stepped(Step::Done)),
 ];
 
+/// The calls after `TAKING_THE_FINISH`, which take the answer that is left.
 const DRAINING: [(Call, Reply); 2] = [
     (Call::Work, Reply::Stepped(Step::Done)),
     (Call::Take, Reply::Answered(2)),
 ];
 
+/// Calls at a batch lane of capacity 2, until the finish is sent but not taken.
 const BATCH: [(Call, Reply); 9] = [
     (Call::Send(1), Reply::Accepted),
     (Call::Send(2), Reply::Accepted),
@@ -51,23 +55,27 @@ const BATCH: [(Call, Reply); 9] = [
     (Call::Send(4), Reply::FinishedReturning(4)),
 ];
 
+/// The calls after `BATCH`, until the finish is taken and two answers are left.
 const FINISHING_THE_BATCH: [(Call, Reply); 2] = [
     (Call::Take, Reply::Answered(1)),
     (Call::Work, Reply::Worked),
 ];
 
+/// The calls after `FINISHING_THE_BATCH`, which take the two answers that are left.
 const DRAINING_THE_BATCH: [(Call, Reply); 3] = [
     (Call::Take, Reply::Answered(2)),
     (Call::Take, Reply::Answered(3)),
     (Call::Take, Reply::Nothing),
 ];
 
+/// The scripts for a lane of capacity 1.
 const LANE_SCRIPTS: [&[(Call, Reply)]; 3] = [&BEFORE_THE_FINISH, &TAKING_THE_FINISH, &DRAINING];
 
+/// The scripts for a batch lane of capacity 2.
 const BATCH_SCRIPTS: [&[(Call, Reply)]; 3] = [&BATCH, &FINISHING_THE_BATCH, &DRAINING_THE_BATCH];
 
-/// Asserts that a reply is the wanted one, or that the wanted answer's memory was refused. Returns whether it
-/// is the wanted one.
+/// Asserts that `reply` is `wanted`, or is the answer `wanted` without its report, since an
+/// allocation failed. Returns whether it is `wanted`.
 fn is_told(rt: &impl Abort, reply: Reply, wanted: Reply) -> bool {
     if let (Reply::Refused(number), Reply::Answered(wanted)) = (reply, wanted) {
         assert_eq!(rt; number, wanted);
@@ -77,7 +85,8 @@ fn is_told(rt: &impl Abort, reply: Reply, wanted: Reply) -> bool {
     true
 }
 
-/// Follows a script. Returns whether no answer's memory was refused.
+/// Makes the calls of a script and asserts their replies. Returns whether each answer has its
+/// report.
 fn follow<L: Called>(
     rt: &impl Abort,
     alloc: Global,
@@ -94,26 +103,27 @@ fn follow<L: Called>(
     all
 }
 
-/// What is followed.
+/// A lane, and what is done at it.
 #[derive(Clone, Copy)]
 enum Scene {
-    /// A lane of capacity 1.
+    /// The scripts `LANE_SCRIPTS` at a lane of capacity 1.
     Lane,
-    /// A batch lane of capacity 2.
+    /// The scripts `BATCH_SCRIPTS` at a batch lane of capacity 2.
     Batch,
     /// Three jobs, dealt at a batch lane of capacity 2.
     Deal,
 }
 
-/// The lane, which can't end yet for this reason.
+/// Asserts that the lane cannot be settled yet, for the reason `wanted`, and returns the lane.
 fn unended<L: Called>(rt: &impl Abort, lane: L, wanted: SettleFault) -> L {
     let (fault, lane) = lane.end().expect_err(rt, "ended");
     assert!(rt; fault == wanted, "{wanted:?}");
     lane
 }
 
-/// Follows the scripts up to the finish's taking, and then to the last answer, and ends the lane. Returns
-/// whether no answer's memory was refused.
+/// Makes the calls of three scripts, and settles the lane after the third. Asserts that it cannot
+/// be settled after the first, since the finish is not taken, nor after the second, since answers
+/// are left. Returns whether each answer has its report, or `None` if there is no lane.
 fn follow_to_the_end<L: Called>(
     rt: &impl Abort,
     alloc: Global,
@@ -132,7 +142,7 @@ fn follow_to_the_end<L: Called>(
     Some(begun && finished && drained)
 }
 
-/// Whether these are the answers to the jobs from 1 on, and no answer's memory was refused.
+/// Asserts that these are the answers to the jobs from 1 on. Returns whether each has its report.
 fn are_answers(rt: &impl Abort, answers: &[Answer]) -> bool {
     let mut all = true;
     for (answer, number) in answers.iter().zip(1..4u32) {
@@ -143,6 +153,7 @@ fn are_answers(rt: &impl Abort, answers: &[Answer]) -> bool {
     all
 }
 
+/// Three jobs at a batch lane of capacity 2: the third is sent once the first two are graded.
 const DEALING: [Turn; 6] = [
     Turn::Deal((true, 1, 0)),
     Turn::Call(Call::Work, Reply::Worked),
@@ -152,7 +163,8 @@ const DEALING: [Turn; 6] = [
     Turn::Deal((false, 0, 3)),
 ];
 
-/// Deals three jobs at a lane of capacity 2. Returns whether no answer's memory was refused.
+/// Deals three jobs at a lane of capacity 2 and settles it. Returns whether each answer has its
+/// report, or `None` if there is no lane or the list of answers can't be allocated.
 fn deal_three<L: Called>(
     rt: &(impl Abort + AllocGlobal),
     lane: Option<L>,
@@ -166,7 +178,7 @@ fn deal_three<L: Called>(
 }
 
 impl Scene {
-    /// The jobs that are sent or dealt.
+    /// Returns the jobs that are sent or dealt.
     fn jobs(self, alloc: Global) -> Result<VecDeque<Job, Global>, Fail> {
         match self {
             Scene::Lane => jobs_for(alloc, &BEFORE_THE_FINISH),
@@ -175,7 +187,8 @@ impl Scene {
         }
     }
 
-    /// Follows the scene, unless the memory of a list or a lane is refused. Returns whether no answer's was.
+    /// Plays the scene. Returns whether each answer has its report, or `None` if the allocation of
+    /// a list or of the lane fails.
     fn follow(
         self,
         rt: &(impl Abort + AllocGlobal),
@@ -196,11 +209,13 @@ impl Scene {
     }
 }
 
-/// Follows a scene with each growth of memory refused in turn, and then with none. Each call answers as ever,
-/// but that the lane isn't opened, or an answer says that its memory was refused.
+/// Plays a scene with each allocation failing in turn, and then with none failing. Each call has to
+/// return the expected result, except that, if an allocation fails, the lane may not be opened or
+/// an answer may have no report.
 fn follow_all(rt: &(impl Abort + AllocGlobal), scene: Scene) -> Result<(), Fail> {
     let alloc = rt.alloc();
     for growth in 1..MOST_GROWTHS {
+        // Made before the tool is armed, so that these allocations are not counted.
         let mut jobs = scene.jobs(alloc)?;
         refuse(alloc, growth);
         let all = scene.follow(rt, &mut jobs);

@@ -1,5 +1,5 @@
-//! Pseudorandom scripts of calls at a lane on one thread. What each call answers is told by a model
-//! that only counts.
+//! Pseudorandom scripts of calls at a lane on one thread. The expected replies are those of a model
+//! that only counts messages and answers.
 
 ghost use Rattle.std.specs.Prelude.{◌≤◌};
 
@@ -9,7 +9,8 @@ use std::alloc::Global;
 use std::process::Abort;
 use std::test::Fail;
 
-/// What happened at a lane. Jobs are numbered from 0 in the order in which they are accepted.
+/// The model of a lane. Jobs are numbered from 0 in the order in which they are accepted; `sent`
+/// and `taken` count messages, with the finish, and `put` and `received` count answers.
 #[derive(Clone, Copy, Debug)]
 struct Counts {
     capacity: u32,
@@ -23,6 +24,7 @@ struct Counts {
 }
 
 impl Counts {
+    /// Returns the model of a lane that was just opened.
     fn new(capacity: u32) -> Counts {
         Counts {
             capacity,
@@ -36,7 +38,7 @@ impl Counts {
         }
     }
 
-    /// How many jobs were sent, which is the number of the next.
+    /// Returns how many jobs were sent, which is the number of the next one.
     fn jobs(&self) -> u32 {
         if self.finish_sent {
             self.sent.wrapping_sub(1)
@@ -45,15 +47,17 @@ impl Counts {
         }
     }
 
+    /// Reports whether the finish was taken and no answer is left in the lane.
     fn is_drained(&self) -> bool {
         self.finish_taken && !self.held && self.received == self.put
     }
 
-    /// Whether an answer to each job was put and received.
+    /// Reports whether the answer to each job was put and received.
     fn is_answered(&self) -> bool {
         self.received == self.jobs() && self.put == self.jobs()
     }
 
+    /// Counts a call, and returns its reply.
     fn reply(&mut self, call: Call) -> Reply {
         match call {
             Call::Send(number) => self.send(number),
@@ -63,6 +67,7 @@ impl Counts {
         }
     }
 
+    /// Reports whether the ring of messages is full.
     fn messages_are_full(&self) -> bool {
         self.sent == self.taken.wrapping_add(self.capacity)
     }
@@ -109,6 +114,7 @@ impl Counts {
         if self.taken == self.sent {
             return Step::Idle;
         }
+        // No message follows the finish, so it is next once all jobs are taken.
         let last = self.taken == self.jobs();
         self.taken = self.taken.wrapping_add(1);
         if last {
@@ -118,6 +124,7 @@ impl Counts {
         self.offer()
     }
 
+    /// Counts an answer as put, or as held if the ring of answers is full.
     fn offer(&mut self) -> Step {
         self.held = self.put == self.received.wrapping_add(self.capacity);
         if self.held {
@@ -128,7 +135,7 @@ impl Counts {
     }
 }
 
-/// A lane beside its counts.
+/// A lane and its model.
 #[derive(Drop)]
 struct Script<L> {
     lane: L,
@@ -136,15 +143,17 @@ struct Script<L> {
 }
 
 impl<L: Called> Script<L> {
+    /// Makes a call at the lane and in the model, and asserts that the replies are the same.
     fn call(&mut self, rt: &impl Abort, alloc: Global, call: Call) -> Result<(), Fail> {
-        let told = self.counts.reply(call);
-        let mut jobs = jobs_for(alloc, &[(call, told)])?;
-        assert_eq!(rt; self.lane.call(alloc, call, &mut jobs), told);
+        let reply = self.counts.reply(call);
+        let mut jobs = jobs_for(alloc, &[(call, reply)])?;
+        assert_eq!(rt; self.lane.call(alloc, call, &mut jobs), reply);
         Ok(())
     }
 
-    /// Sends the finish, steps and takes until the lane is drained.
+    /// Sends the finish, takes steps of the worker, and takes answers until the lane is drained.
     fn drain(&mut self, rt: &impl Abort, alloc: Global) -> Result<(), Fail> {
+        // More turns than any lane here needs; `end` fails if they did not drain it.
         for _ in 0..100 {
             if self.counts.is_drained() {
                 return Ok(());
@@ -156,14 +165,15 @@ impl<L: Called> Script<L> {
         Ok(())
     }
 
-    /// Ends the lane, which is drained.
+    /// Asserts that the lane is drained and all jobs are answered, and settles the lane.
     fn end(self, rt: &impl Abort) {
         assert!(rt; self.counts.is_drained());
         assert!(rt; self.counts.is_answered());
         assert!(rt; self.lane.end().is_ok());
     }
 
-    /// Makes 40 calls, from this state of the generator on. Returns the state after them.
+    /// Makes 40 pseudorandom calls, from the state `start` of the generator on. Returns its state
+    /// after them.
     fn call_at_random(&mut self, rt: &impl Abort, alloc: Global, start: u64) -> Result<u64, Fail> {
         let mut state = start;
         for _ in 0..40 {
@@ -175,13 +185,14 @@ impl<L: Called> Script<L> {
     }
 }
 
-/// The generator's next state.
+/// Returns the state that follows `state` in a linear congruential generator.
 fn advance(state: u64) -> u64 {
     state
         .wrapping_mul(6_364_136_223_846_793_005)
         .wrapping_add(1_442_695_040_888_963_407)
 }
 
+/// Returns the call for a state of the generator. If it sends a job, that has the number `number`.
 fn call_of(state: u64, number: u32) -> Call {
     match (state >> 33) % 4 {
         0 => Call::Send(number),
@@ -191,7 +202,8 @@ fn call_of(state: u64, number: u32) -> Call {
     }
 }
 
-/// Follows one script at a lane, from this state of the generator. Returns the state after it.
+/// Makes the calls of one script at a lane, from the state `start` of the generator on, drains the
+/// lane and settles it. Returns the state after the script.
 fn follow_script<L: Called>(
     rt: &impl Abort,
     alloc: Global,
@@ -208,6 +220,7 @@ fn follow_script<L: Called>(
     Ok(state)
 }
 
+/// Makes the calls of 1,000 scripts, each at a lane of its own of this capacity.
 fn follow_scripts(rt: &impl Abort, alloc: Global, capacity: u32) -> Result<(), Fail>
     requires least { 1 ≤ capacity }
     requires most { capacity ≤ LARGEST_RING }

@@ -1,17 +1,20 @@
--- Two tests at each cell, whether it can be filled and whether it can be blank, tell the deduction.
+-- Two tests at each cell, whether it can be filled and whether it can be blank, determine the deduced line.
 use Rattle.line_core.proofs.Names.{rules, ◌≡◌, ℕ, Bool, true, false, List, get_or, refl, false_from_ne_true, Cell, shared_at, agrees, runs, certain_by, true_from_ne_false}
 use Rattle.line_core.proofs.DeductionLaws.{IsPlacing, ListsPlacings, not_all, filled_at, blank_at, agrees_is}
 
--- the line has a placing with a colour at a cell
+-- some placing of `clue` on `line` has the colour `filled` at cell `i`
 abbrev pub CanBe : List Cell → List ℕ → Bool → ℕ → Type 0
 CanBe line clue filled i = (full : List Bool) × (agrees line full ≡ true) × (runs full ≡ clue) × (get_or full i false ≡ filled)
 
--- a test that passes exactly if something is so
+-- the test `b` passes exactly if `P` holds
 pub record Tells (P : Type 0) (b : Bool) : Type 0 where
   pub to : b ≡ true → P
   pub from : P → b ≡ true
 
-pub certain_is : (l : List Cell) (clue : List ℕ) (ps : List (List Bool)) (k : ℕ) → ListsPlacings l clue ps → (y : List Bool) → IsPlacing l clue y
+-- the colour that all placings share at cell `k` is the deduced one, if `f` and `b` test whether it can be filled and
+-- blank
+pub certain_is : (l : List Cell) (clue : List ℕ) (ps : List (List Bool)) (k : ℕ) → ListsPlacings l clue ps → (y : List Bool)
+    → IsPlacing l clue y
     → (f b : Bool) → Tells (CanBe l clue true k) f → Tells (CanBe l clue false k) b → shared_at ps k ≡ certain_by f b
 certain_is l clue ps k listed y p true true tf tb =
     let x = tf.to refl in

@@ -1,7 +1,7 @@
--- Masks of both colours: what they have, and what they have once others are added.
+-- Support masks: one mask for each colour, and what they contain once cells are added.
 use Rattle.line_core.proofs.Names.{rules, ◌≡◌, ◌↔◌, ℕ, ◌+◌, ◌<◌, Bool, true, false, List, length, get_or, ◌⊎◌, cases_lt, get_or_read, ColourMasks, no_colours, AreMasks, AreMore, HasColour}
 
--- what the masks have, colour by colour
+-- what the masks contain, colour by colour
 pub masks_are : (P : Bool → ℕ → Type 0) (m : ColourMasks) → AreMasks P m → (d : Bool) (k : ℕ) → HasColour m d k ↔ P d k
 masks_are P m a true k = (a.fillable_is.to k, a.fillable_is.from k)
 masks_are P m a false k = (a.blankable_is.to k, a.blankable_is.from k)
@@ -9,26 +9,28 @@ masks_are P m a false k = (a.blankable_is.to k, a.blankable_is.from k)
 pub masks_of : (P : Bool → ℕ → Type 0) (m : ColourMasks) → ((d : Bool) (k : ℕ) → HasColour m d k ↔ P d k) → AreMasks P m
 masks_of P m are = search rules
 
--- masks of what amounts to the same
+-- masks of `P` are masks of each equivalent `Q`
 pub masks_same : (P Q : Bool → ℕ → Type 0) (m : ColourMasks) → AreMasks P m → ((d : Bool) (k : ℕ) → P d k ↔ Q d k) → AreMasks Q m
 masks_same P Q m a same = masks_of Q m (λ d k. search (rules, masks_are P m a d k, same d k))
 
--- what amounts to the same is added
-pub more_same : (P Q : Bool → ℕ → Type 0) (old new : ColourMasks) → AreMore P old new → ((d : Bool) (k : ℕ) → P d k ↔ Q d k) → AreMore Q old new
+-- in `AreMore` a property may be replaced by an equivalent one
+pub more_same : (P Q : Bool → ℕ → Type 0) (old new : ColourMasks) → AreMore P old new → ((d : Bool) (k : ℕ) → P d k ↔ Q d k)
+    → AreMore Q old new
 more_same P Q old new a same = masks_same _ _ new a (λ d k. search (rules, same d k))
 
--- two things are added, one after the other
-pub more_more : (P Q : Bool → ℕ → Type 0) (old mid new : ColourMasks) → AreMore P old mid → AreMore Q mid new → AreMore (λ d k. P d k ⊎ Q d k) old new
+-- adding `P` and then `Q` adds what satisfies either
+pub more_more : (P Q : Bool → ℕ → Type 0) (old mid new : ColourMasks) → AreMore P old mid → AreMore Q mid new
+    → AreMore (λ d k. P d k ⊎ Q d k) old new
 more_more P Q old mid new a b = masks_same _ _ new b (λ d k. search (rules, masks_are _ mid a d k))
 
--- the colours that are read from a table are those at a place of it
+-- masks that are read from a table at an index are those of the table there
 pub read_at : (table : List ColourMasks) (i p : ℕ) (read : ColourMasks) → i ≡ p → i < length table → read ≡ get_or table i read
     → read ≡ get_or table p no_colours
 read_at table i p read same there is = rw same at (get_or_read table i read there is no_colours)
 
--- ---- one more number
+-- ---- properties of the first numbers
 
--- something holds of one of the first `count` numbers
+-- `P` holds of cell `k` and a colour for one of the first `count` numbers
 abbrev pub Below : ℕ → (ℕ → Bool → ℕ → Type 0) → Bool → ℕ → Type 0
 Below count P filled k = (j : ℕ) × (j < count) × P j filled k
 

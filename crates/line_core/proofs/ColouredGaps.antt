@@ -1,4 +1,4 @@
--- What can be on a line before a gap, once one of its cells is coloured: step by step along the line.
+-- The support of a line before a gap, once one of its cells has a colour: step by step along the line.
 use Rattle.line_core.proofs.Names.{◌↔◌, rules, ◌≡◌, ◌≢◌, ℕ, zero, suc, ◌+◌, ◌-◌, ◌<◌, ◌≤◌, Bool, true, false, List, [], ◌∷◌, length, refl, sym, ap, ◌∙◌, arith, add-one, ◌⊎◌, inl, inr, get_or, drop, cases_lt, and_from, and_parts, Cell, Unknown, allows, agrees, behind, MayBe, IsGapAfter, IsEndAfter, IsGap, IsGapAhead, IsWholeEnd, IsFlooded, AllFrom, length-set, get_or-set_other, get_or-set_same, replicate, ◌++◌, drop-cons, cases_eq, colour, coloured, CanBeBefore, CanBeUpTo, IsWholeGap}
 use Rattle.line_core.proofs.Joining.{closed_behind_to, closed_behind_from, closed_ahead_from, agrees_span, runs_first}
 use Rattle.line_core.proofs.Reaching.{gap_after_to, gap_after_from, first_gap_to, first_gap_from}
@@ -6,19 +6,19 @@ use Rattle.line_core.proofs.Reaching.{gap_after_to, gap_after_from, first_gap_to
 pub colour_is : (v w : Bool) → (allows (colour v) w ≡ true) ↔ (v ≡ w)
 colour_is v w = search rules
 
--- a coloured cell has that colour alone
+-- a cell that was given a colour can have that colour only
 pub coloured_one : (l : List Cell) (k : ℕ) (v w : Bool) → k < length l → MayBe (coloured l k v) w k → v ≡ w
 coloured_one l k v w h m = (colour_is v w).0 (rw (get_or-set_same l k (colour v) Unknown h) at m.1)
 
--- and can have it
+-- a cell that was given a colour can have it
 pub coloured_same : (l : List Cell) (k : ℕ) (v : Bool) → k < length l → MayBe (coloured l k v) v k
 coloured_same l k v h = rw (length-set l k (colour v), get_or-set_same l k (colour v) Unknown h) (h, (colour_is v v).1 refl)
 
--- another cell is as it was
+-- every other cell can have the colours that it could have before
 pub coloured_other : (l : List Cell) (k : ℕ) (v w : Bool) (x : ℕ) → x ≢ k → MayBe l w x → MayBe (coloured l k v) w x
 coloured_other l k v w x ne m = rw (length-set l k (colour v), get_or-set_other l k x (colour v) Unknown ne) m
 
--- a cell may be no more than before another or it has a colour that it may have
+-- giving a cell a colour that it can have takes colours away from cells, and adds none
 coloured_allows : (l : List Cell) (k : ℕ) (v : Bool) → MayBe l v k → (w : Bool) (x : ℕ)
     → allows (get_or (coloured l k v) x Unknown) w ≡ true → allows (get_or l x Unknown) w ≡ true
 coloured_allows l k v here w x m = search (rules, cases_eq x k, colour_is v w, get_or-set_same, get_or-set_other)
@@ -26,21 +26,23 @@ coloured_allows l k v here w x m = search (rules, cases_eq x k, colour_is v w, g
 pub coloured_less : (l : List Cell) (k : ℕ) (v : Bool) → MayBe l v k → (w : Bool) (x : ℕ) → MayBe (coloured l k v) w x → MayBe l w x
 coloured_less l k v here w x m = (omega (arith, m.0, length-set l k (colour v)), coloured_allows l k v here w x m.1)
 
--- full cells behind a place agree with the line if they do so with the coloured one
+-- a full line that agrees with a reversed prefix of the line with a colour agrees with that of the line
 agrees_less : (l : List Cell) (k : ℕ) (v : Bool) → MayBe l v k → (i : ℕ) (x : List Bool)
     → agrees (behind Unknown (coloured l k v) i) x ≡ true → agrees (behind Unknown l i) x ≡ true
 agrees_less l k v here (suc i) (b ∷ x) h = search (rules, and_parts, and_from, coloured_allows, agrees_less l k v here i x)
 agrees_less l k v here i x h = search rules
 
--- a gap of the coloured line is one of the line
-pub gap_less : (l : List Cell) (k : ℕ) (v : Bool) → MayBe l v k → (rs : List ℕ) (i : ℕ) → IsGapAfter (coloured l k v) rs i → IsGapAfter l rs i
+-- a gap of the line with a colour is a gap of the line
+pub gap_less : (l : List Cell) (k : ℕ) (v : Bool) → MayBe l v k → (rs : List ℕ) (i : ℕ) → IsGapAfter (coloured l k v) rs i
+    → IsGapAfter l rs i
 gap_less l k v here rs i g = search (rules, coloured_less, agrees_less)
 
--- and so is an end
-pub end_less : (l : List Cell) (k : ℕ) (v : Bool) → MayBe l v k → (rs : List ℕ) (n e : ℕ) → IsEndAfter (coloured l k v) rs n e → IsEndAfter l rs n e
+-- an end of a run on the line with a colour is an end on the line
+pub end_less : (l : List Cell) (k : ℕ) (v : Bool) → MayBe l v k → (rs : List ℕ) (n e : ℕ) → IsEndAfter (coloured l k v) rs n e
+    → IsEndAfter l rs n e
 end_less l k v here rs n e x = search (rules, agrees_less l k v here (e + 1 - n), coloured_less l k v here true, x.1.1)
 
--- the cells behind a place are as they were if the colour is further on
+-- a reversed prefix is unchanged if the colour is at or after its end
 pub behind_coloured : (l : List Cell) (k : ℕ) (v : Bool) (i : ℕ) → i ≤ k → behind Unknown (coloured l k v) i ≡ behind Unknown l i
 behind_coloured l k v zero h = refl
 behind_coloured l k v (suc i) h = let ne : i ≢ k = omega arith in
@@ -48,7 +50,7 @@ behind_coloured l k v (suc i) h = let ne : i ≢ k = omega arith in
 
 -- ---- one step along the line
 
--- a gap after a run goes on, or begins after an end of it
+-- a gap after a run continues from the gap one cell before it, or follows an end of the run
 gap_step_to : (l : List Cell) (rs : List ℕ) (n i : ℕ) → 0 < n → IsGapAfter l (n ∷ rs) i
     → (1 ≤ i) × (IsGapAfter l (n ∷ rs) (i - 1) ⊎ IsEndAfter l rs n (i - 1))
 gap_step_to l rs n zero some g = absurd (omega (arith, (gap_after_from l rs n zero g).1))
@@ -59,7 +61,7 @@ gap_step_from : (l : List Cell) (rs : List ℕ) (n i : ℕ) → 0 < n → MayBe 
 gap_step_from l rs n (suc i) some m h x = search (rules, gap_after_to l rs n (suc i) some, gap_after_from l rs n i)
 gap_step_from l rs n zero some m h x = absurd (omega arith)
 
--- the same of a run's end on a coloured line: the colour is in the run, or before the gap before it
+-- the end of a run on a line with a colour: the coloured cell is in the run, or lies before the gap before the run
 pub end_step_to : (l : List Cell) (rs : List ℕ) (n e k : ℕ) (v : Bool) → 0 < n → MayBe l v k → k ≤ e → IsEndAfter (coloured l k v) rs n e
     → CanBeUpTo l rs n v e k
 end_step_to l rs n e k v some here le x =
@@ -86,8 +88,8 @@ end_step_from l rs n e k v x (inr (enough, (low, may, gap))) =
     let behind = closed_behind_from (coloured l k v) rs (e + 1 - n) (inr (omega arith, rw start at gap)) in
     (may, omega arith, (omega arith, (behind, λ z b. coloured_other l k v true (e + 1 - n + z) (omega arith) (x.1.1 z b))))
 
--- the gap's own cell can be blank, and a cell before it what it can be one cell before, if that is a gap too,
--- or at the end of the run before, if that is an end of it
+-- how the cells before gap `i` can be coloured: its own cell is blank, and a cell before it has a colour that goes with
+-- the gap one cell before, or with the end of the run one cell before
 abbrev pub Step : List Cell → List ℕ → ℕ → ℕ → Bool → ℕ → Type 0
 Step l rs n i v k = ((k ≡ i) × (v ≡ false)) ⊎ ((1 ≤ i) × (CanBeBefore l (n ∷ rs) (i - 1) v k
     ⊎ (IsEndAfter l rs n (i - 1) × CanBeUpTo l rs n v (i - 1) k)))
@@ -109,7 +111,7 @@ before_from l rs n i v k some g (inr (h, x)) =
 
 -- ---- before the first run
 
--- no run is before a place if all cells up to it may be blank
+-- no run lies before an index if all cells up to it can be blank
 abbrev FirstGap : List Cell → ℕ → Type 0
 FirstGap l = IsFlooded (λ x. (x ≡ 0) × MayBe l false x) (MayBe l false)
 
@@ -131,20 +133,20 @@ first_from l i k g le =
     (λ x b. search (rules, cases_eq x k, coloured_same l k false (cells k le).0, coloured_other, cells x b)) in
     (le, cells k le, first_gap_to (coloured l k false) i gap)
 
--- ---- the gaps and ends of whole placings
+-- ---- feasible gaps and ends
 
--- one cell before a gap of a whole placing is one too, if the cells before allow it
+-- the cell before a feasible gap is a feasible gap too, if the cells before it allow that
 pub whole_back : (l : List Cell) (clue : List ℕ) (j i : ℕ) → j ≤ length clue → 1 ≤ i → IsGapAhead l clue j i → IsGap l clue j (i - 1)
     → IsWholeGap l clue j (i - 1)
 whole_back l clue j i jl some a g =
     let same : i - 1 + 1 ≡ i = omega arith in let b = closed_ahead_from l clue j i (inr a) in search (rules, same)
 
--- and so is the end of the run before
+-- the cell before a feasible gap is a feasible end of the run before the gap, if the cells before it allow that
 pub whole_end_back : (l : List Cell) (clue : List ℕ) (j i : ℕ) → 1 ≤ i → IsGapAhead l clue (suc j) i
     → IsEndAfter l (behind 0 clue j) (get_or clue j 0) (i - 1) → IsWholeEnd l clue j (i - 1)
 whole_end_back l clue j i some a e = search (rules, add-one, closed_ahead_from)
 
--- a gap before a run of a whole placing is one of a whole placing
+-- a gap right before a feasible run is feasible
 pub whole_before_end : (l : List Cell) (clue : List ℕ) (j e : ℕ) → j < length clue → 0 < get_or clue j 0 → get_or clue j 0 ≤ e
     → IsWholeEnd l clue j e → IsWholeGap l clue j (e - get_or clue j 0)
 whole_before_end l clue j e jl some far w =

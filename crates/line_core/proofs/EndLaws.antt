@@ -1,9 +1,9 @@
--- What the leftmost and the rightmost starts are.
+-- The leftmost and the rightmost starts are furthest in their direction, and exist if there is a placing.
 use Rattle.line_core.proofs.Names.{rules, ◌≡◌, ℕ, ◌<◌, Bool, true, List, [], ◌∷◌, length, map, Some, refl, sym, ◌∙◌, arith, inl, inr, ◌⊎◌, get_or, nat_le, filter, All-head, All-tail, All, list_all, find, range_with_len, cases_lt, leb-true, le-leb, length-map-range_with_len, get_or-map-range_with_len, Cell, runs, is_positive, placings, run_starts, all_starts, ArePositive, Side, Left, Right, outermost, IsAsFar, cases_Bool, AreStarts, common_steps}
 use Rattle.line_core.proofs.DeductionLaws.{IsPlacing, placings_listed, test_is}
 use Rattle.line_core.proofs.Outermost.{all_as_far, laid_placing, outermost_found, outermost_of, placed, pass_all}
 
--- the first that passes is a member, and passes
+-- what a search finds among the starts of some full lines passes its test, and is the starts of one of them
 found : (P : List Bool → Type 0) (p : List ℕ → Bool) (m : List ℕ) (ps : List (List Bool)) → All P ps
     → find p (map run_starts ps) ≡ Some m → (p m ≡ true) × ((x : List Bool) × P x × (run_starts x ≡ m))
 found P p m [] all e = cc
@@ -12,14 +12,14 @@ found P p m (x ∷ ps) all e = elim (cases_Bool (p (run_starts x))) [
   | inr t ↦ found P p m ps (All-tail P x ps all) (rw t at e)
 ]
 
--- the outermost starts are those of a placing, and each is as far as the same of any placing
+-- the outermost starts are those of a placing, and each run starts as far in that direction as in any other placing
 pub outermost-furthest : (side : Side) (l : List Cell) (clue m : List ℕ) → outermost side l clue ≡ Some m
     → AreStarts l clue m × ((other : List ℕ) → AreStarts l clue other → all_as_far side m other ≡ true)
 outermost-furthest side l clue m e =
     let f = found (IsPlacing l clue) (λ starts. list_all (all_as_far side starts) (all_starts l clue)) m (placings l clue)
     (placings_listed l clue).members (sym (outermost_found side l clue) ∙ e) in search (rules, pass_all, test_is)
 
--- ---- there are such starts
+-- ---- the outermost starts exist
 
 kept_positive : (ns : List ℕ) → ArePositive (filter is_positive ns)
 kept_positive [] = tt
@@ -41,7 +41,7 @@ far_then side i j k a b = search rules
 either_far : (side : Side) (i j : ℕ) → IsAsFar side i j ⊎ IsAsFar side j i
 either_far side i j = search (rules, cases_lt)
 
--- a member at which a number is furthest to a side
+-- one of `x` and `ps` has the number `f` that is furthest in a direction
 outer_member : (side : Side) (P : List Bool → Type 0) (f : List Bool → ℕ) (x : List Bool) (ps : List (List Bool)) → P x →
     All P ps → (z : List Bool) × P z × IsAsFar side (f z) (f x) × (list_all (λ y. as_far side (f z) (f y)) ps ≡ true)
 outer_member side P f x [] p all = (x, p, search rules, refl)
@@ -52,7 +52,7 @@ outer_member side P f x (y ∷ ps) p all =
           (let r = outer_member side P f y ps (All-head P y ps all) (All-tail P y ps all) in search (rules, far_is, far_then, r))
     ]
 
--- the furthest start of a run among all placings
+-- a placing in which run `j` starts furthest in a direction among all placings
 outer_at : (side : Side) (l : List Cell) (clue : List ℕ) (x : List Bool) (j : ℕ) → IsPlacing l clue x →
     (z : List Bool) × IsPlacing l clue z
     × ((y : List Bool) → IsPlacing l clue y → IsAsFar side (get_or (run_starts z) j 0) (get_or (run_starts y) j 0))
@@ -72,7 +72,8 @@ outermost-exists side l clue x p = (
     some_laid = laid_placing l clue x p;
     each = λ j h. search (rules, laid_placing, value, outer_at side l clue x j p);
     furthest = λ ss d j h.
-        let y = placed l clue ss (positive_runs x clue p.runs_are) d in grind (arith, common_steps, value, (outer_at side l clue x j p).2 y.0);
+        let y = placed l clue ss (positive_runs x clue p.runs_are) d in
+        grind (arith, common_steps, value, (outer_at side l clue x j p).2 y.0);
   }),
 )
   where

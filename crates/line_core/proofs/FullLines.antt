@@ -1,4 +1,4 @@
--- A line whose cells are all known: one full line agrees with it, whose runs a walk compares with the clue.
+-- A full line: it is the one placing of its runs, and `passed_runs` compares these with the clue.
 use Rattle.line_core.proofs.Names.{◌++◌, append-nil, append_assoc, length-reverse, lengths_turned, length_at, reverse, AreLengths, length-append, length-drop, take, ArePositive, rules, ◌≡◌, ◌≢◌, ◌↔◌, ℕ, zero, suc, ◌+◌, ◌<◌, ◌≤◌, Bool, true, false, not, cond, List, [], ◌∷◌, length, map, Option, Some, None, refl, sym, ap, ◌∙◌, subst, arith, add-one, drop, get_or, drop-cons, drop_of_length-le, ext_get_or, false_from_ne_true, Cell, Unknown, allows, agrees, is_filled, runs, has_by, runs_after, Has, has, IsMaskOf, has_true, true_has, mask_same, MayBe, runs_after-zero, runs_after-true, runs_after-close, runs_after-nil, none_has, add_comm, get_or-drop, common_steps}
 use Rattle.line_core.specs.steps.Full.{IsFull, IsFilled, turned}
 use Rattle.line_core.proofs.WholeEnds.{IsTold, told_mask, none_told}
@@ -10,35 +10,35 @@ use Rattle.line_core.proofs.Painting.{agrees_at}
 
 -- ---- the one full line that agrees
 
--- a full line that agrees has colours that the cells may have
+-- a full line that agrees with a line has only colours that its cells can have
 may_be : (l : List Cell) (x : List Bool) (v : Bool) (i : ℕ) → agrees l x ≡ true → i < length l → get_or x i false ≡ v → MayBe l v i
 may_be l x v i agree h e = (h, subst (λ (b : Bool). allows (get_or l i Unknown) b ≡ true) e (agrees_at l x i agree h))
 
--- and no others
+-- a full line that agrees with a line without unknown cells has all colours that its cells can have
 only_be : (l : List Cell) (x : List Bool) (v : Bool) (i : ℕ) → IsFull l → agrees l x ≡ true → MayBe l v i → get_or x i false ≡ v
 only_be l x v i full agree m = search (rules, may_be)
 
--- the line's filled cells, as a full line
+-- the filled cells of a line, as a full line, agree with it
 agrees_filled : (l : List Cell) → agrees l (map is_filled l) ≡ true
 agrees_filled [] = refl
 agrees_filled (c ∷ l) = search (rules, agrees_filled l)
 
--- no other agrees
+-- no other full line agrees with a line without unknown cells
 full_is : (l : List Cell) (x : List Bool) → IsFull l → agrees l x ≡ true → x ≡ map is_filled l
 full_is l x full agree = ext_get_or false x (map is_filled l) (search (rules, length-agrees, agrees_filled)) (λ k h.
     sym (only_be l (map is_filled l) _ k full (agrees_filled l) (may_be l x _ k agree (omega (arith, length-agrees l x agree)) refl)))
 
--- if its runs are the clue, each cell can be what it may be
+-- if its runs are the clue, its support is the colours of its cells
 pub full_told : (l : List Cell) (clue : List ℕ) (v : Bool) (m : ℕ) → ArePositive clue → IsFull l → runs (map is_filled l) ≡ clue
     → IsMaskOf (MayBe l v) m → IsMaskOf (IsTold l clue v) m
 full_told l clue v m pos full is p = search (rules, told_mask, agrees_filled, only_be, may_be)
 
--- and else there is no placing
+-- if its runs are not the clue, its support is empty
 pub dead_told : (l : List Cell) (clue : List ℕ) (v : Bool) (m : ℕ) → ArePositive clue → IsFull l → (runs (map is_filled l) ≡ clue → ⊥)
     → m ≡ 0 → IsMaskOf (IsTold l clue v) m
 dead_told l clue v m pos full other e = none_told l clue v m pos e (λ x agree is. other (ap runs (sym (full_is l x full agree)) ∙ is))
 
--- ---- the walk over its runs
+-- ---- comparing its runs with the clue
 
 -- the runs of cells, if the first `least` of them are blank
 abbrev pub runs_past : ℕ → List Bool → Option (List ℕ)
@@ -47,21 +47,23 @@ runs_past (suc n) [] = Some []
 runs_past (suc n) (true ∷ y) = None
 runs_past (suc n) (false ∷ y) = runs_past n y
 
--- what a walk keeps that has passed some of a clue's numbers: what is left is the mask of some cells, of which the
--- first must be blank, and whose runs come after those numbers
+-- the invariant of `passed_runs` after `j` numbers of `clue`: `left` is the mask of cells, of which the first `least`
+-- must be blank, and whose runs continue the first `j` runs of `cells`
 pub record IsWalked (cells : List Bool) (clue : List ℕ) (j least left : ℕ) : Type 0 where
   pub rest : List Bool
   pub rest_is : IsMaskOf (IsFilled rest) left
   pub to : (others : List ℕ) → runs cells ++ others ≡ clue → (ns : List ℕ) × (runs_past least rest ≡ Some ns) × (ns ++ others ≡ drop j clue)
   pub from : (ns : List ℕ) → runs_past least rest ≡ Some ns → runs cells ≡ take j clue ++ ns
 
--- runs after blank cells
-past_blanks : (least n : ℕ) (y : List Bool) → least ≤ n → ((i : ℕ) → i < n → get_or y i false ≡ false) → runs_past least y ≡ Some (runs (drop n y))
+-- blank cells at the start add no run
+past_blanks : (least n : ℕ) (y : List Bool) → least ≤ n → ((i : ℕ) → i < n → get_or y i false ≡ false)
+    → runs_past least y ≡ Some (runs (drop n y))
 past_blanks zero (suc n) (b ∷ y) h blank = search (rules, blank 0, past_blanks zero n y (omega arith) (λ i b. blank (suc i) (omega arith)))
-past_blanks (suc least) (suc n) (b ∷ y) h blank = search (rules, blank 0, past_blanks least n y (omega arith) (λ i b. blank (suc i) (omega arith)))
+past_blanks (suc least) (suc n) (b ∷ y) h blank =
+    search (rules, blank 0, past_blanks least n y (omega arith) (λ i b. blank (suc i) (omega arith)))
 past_blanks least n y h blank = search rules
 
--- none of which is filled
+-- a filled cell among the first `least` cells rules the runs out
 past_filled : (least i : ℕ) (y : List Bool) → i < least → get_or y i false ≡ true → runs_past least y ≡ None
 past_filled (suc least) (suc i) (false ∷ y) h f = past_filled least i y (omega arith) f
 past_filled least i y h f = search rules
@@ -73,11 +75,11 @@ past_runs least y ns e = search rules
 past_none : (least left : ℕ) (y : List Bool) → IsMaskOf (IsFilled y) left → left ≡ 0 → runs_past least y ≡ Some []
 past_none least left y p e = search (rules, past_blanks least (least + length y) y, false_from_ne_true, none_has, drop_of_length-le)
 
--- cells further on
+-- an element of a list without its first `n` elements
 dropped_at : (n i : ℕ) (y : List Bool) → get_or (drop n y) i false ≡ get_or y (i + n) false
 dropped_at n i y = get_or-drop n y i false ∙ ap (λ (k : ℕ). get_or y k false) (add_comm n i)
 
--- the first cells in the other colour
+-- the first `n` cells, flipped, with the rest unchanged
 abbrev crossed : ℕ → List Bool → List Bool
 crossed zero y = y
 crossed (suc n) [] = true ∷ crossed n []
@@ -95,14 +97,16 @@ crossed_is n y filled ones next p q r = mask_same _ _ next r (λ i differ. grind
     at : (i : ℕ) → get_or (crossed n y) i false ≡ cond (has ones i) (not (has filled i)) (has filled i)
     at i = search (rules, has_by, crossed_at, true_has, has_true)
 
--- a run that goes on is longer
+-- filled cells after the start of a run make it longer
 longer : (m k : ℕ) (y : List Bool) (ns : List ℕ) → runs_after (suc m) y ≡ k ∷ ns → m < k
 longer m k [] ns e = grind (arith, common_steps, runs_after-nil)
 longer m k (true ∷ y) ns e = let h = longer (suc m) k y ns (sym (runs_after-true (suc m) y) ∙ e) in omega arith
 longer m k (false ∷ y) ns e = search (rules, runs_after, runs_after-close)
 
--- a run has a length exactly if as many cells in the other colour, and the next one, are blank
-cross : (m n k : ℕ) (y : List Bool) (ns : List ℕ) → suc m + n ≡ k → (runs_after (suc m) y ≡ k ∷ ns) ↔ (runs_past (suc n) (crossed n y) ≡ Some ns)
+-- a run of which `m + 1` cells are passed has `k` cells exactly if the next `n` cells, flipped, and the one after them are
+-- blank
+cross : (m n k : ℕ) (y : List Bool) (ns : List ℕ) → suc m + n ≡ k
+    → (runs_after (suc m) y ≡ k ∷ ns) ↔ (runs_past (suc n) (crossed n y) ≡ Some ns)
 cross m zero k [] ns e = grind (arith, runs_after-nil m)
 cross m zero k (true ∷ y) ns e = grind (arith, common_steps, longer, runs_after-true)
 cross m zero k (false ∷ y) ns e = grind (arith, runs_after-close m y, runs_after-zero y)
@@ -110,22 +114,23 @@ cross m (suc n) k [] ns e = grind (arith, runs_after-nil m)
 cross m (suc n) k (true ∷ y) ns e = rw runs_after-true (cross (suc m) n k y ns (omega arith))
 cross m (suc n) k (false ∷ y) ns e = grind (arith, runs_after-close m y)
 
--- the first run of cells that begin with one
+-- the same at the start of the first run, which the next number has to equal
 cross_first : (n : ℕ) (y : List Bool) (ns : List ℕ) → 0 < n → get_or y 0 false ≡ true
     → (runs y ≡ n ∷ ns) ↔ (runs_past (n + 1) (crossed n y) ≡ Some ns)
 cross_first (suc n) (true ∷ y) ns h first =
     rw (add-one, sym (runs_after-zero (true ∷ y)) ∙ runs_after-true 0 y) (cross 0 n (suc n) y ns (omega arith))
 cross_first n y ns h first = search rules
 
--- cells that begin with a filled one have a run
+-- if the first cell is filled, there is a run, and the next number of the clue is its length
 first_run : (y : List Bool) (n : ℕ) (ns others more : List ℕ) → get_or y 0 false ≡ true → runs y ≡ ns → ns ++ others ≡ n ∷ more
     → (later : List ℕ) × (ns ≡ n ∷ later) × (later ++ others ≡ more)
 first_run y n [] others more first is e = let c = covered y [] 0 is first in absurd (omega (arith, c.inside))
 first_run y n (k ∷ ns) others more first is e = (ns, cc, cc)
 
 module _ (cells : List Bool) (clue : List ℕ) (j least left : ℕ) (p : IsWalked cells clue j least left) where
-  -- the walk goes on
-  pub walk_more : (start shifted ones next : ℕ) → j < length clue → 0 < get_or clue j 0 → Has left start → ((i : ℕ) → Has left i → start ≤ i)
+  -- one step keeps the invariant: flip as many cells as the next number says, from the first filled cell on
+  pub walk_more : (start shifted ones next : ℕ) → j < length clue → 0 < get_or clue j 0 → Has left start
+      → ((i : ℕ) → Has left i → start ≤ i)
       → least ≤ start → IsMaskOf (λ i. Has left (i + start)) shifted → IsMaskOf (λ i. i < get_or clue j 0) ones
       → IsMaskOf (λ i. has shifted i ≢ has ones i) next → IsWalked cells clue (j + 1) (get_or clue j 0 + 1) next
   walk_more start shifted ones next h some at first far s o x =
@@ -147,28 +152,31 @@ module _ (cells : List Bool) (clue : List ℕ) (j least left : ℕ) (p : IsWalke
             rw (add-one j, take-suc clue j 0 h, append_assoc) all;
       }
 
-  -- it ends where a cell is left among the first
+  -- if a filled cell is among those that must be blank, the runs are not how the clue begins
   pub walk_near : (start : ℕ) → start < least → Has left start → (others : List ℕ) → runs cells ++ others ≡ clue → ⊥
-  walk_near start h at others is = let none = past_filled least start p.rest h (p.rest_is.to start at) in let some = (p.to others is).1 in cc
+  walk_near start h at others is =
+      let none = past_filled least start p.rest h (p.rest_is.to start at) in let some = (p.to others is).1 in cc
 
-  -- where none is left all runs are passed
+  -- if no filled cell is left, the runs are the first `j` numbers of the clue
   pub walk_none : left ≡ 0 → runs cells ≡ take j clue
   walk_none e = p.from [] (past_none least left p.rest p.rest_is e) ∙ append-nil (take j clue)
 
-  -- and one that is left after the last number is of a further run
+  -- if a filled cell is left after the last number, there is one run too many
   pub walk_last : length clue ≤ j → 0 < left → (others : List ℕ) → runs cells ++ others ≡ clue → ⊥
   walk_last h some others is =
       let t = p.to others is in
       let c = covered p.rest t.0 _ (past_runs least p.rest t.0 t.1) (p.rest_is.to _ (some_place left some).1) in
       absurd (omega (arith, c.inside, length-append t.0 others, ap length t.2, length-drop j clue))
 
--- ---- a clue seen from its other end
+-- ---- a clue read from the other end
 
 pub length-turned : {A : Type 0} (t : Bool) (xs : List A) → length (turned t xs) ≡ length xs
 length-turned true xs = length-reverse xs
 length-turned false xs = refl
 
-pub number_seen : (t : Bool) (width : ℕ) (clue : List ℕ) (j n : ℕ) → AreLengths width clue → j < length clue → n ≡ get_or (turned t clue) j 0
+pub number_seen : (t : Bool) (width : ℕ) (clue : List ℕ) (j n : ℕ) → AreLengths width clue → j < length clue
+    → n ≡ get_or (turned t clue) j 0
     → (0 < n) × (n ≤ width)
-number_seen true width clue j n are h e = rw e (length_at width (reverse clue) j (lengths_turned width clue are) (omega (arith, length-reverse clue)))
+number_seen true width clue j n are h e =
+    rw e (length_at width (reverse clue) j (lengths_turned width clue are) (omega (arith, length-reverse clue)))
 number_seen false width clue j n are h e = rw e (length_at width clue j are h)

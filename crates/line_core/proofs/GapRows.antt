@@ -1,9 +1,9 @@
--- Rows of what can be before the gaps of whole placings, written gap by gap.
+-- The rows of a table of prefix supports, written gap by gap.
 use Rattle.line_core.proofs.Names.{Bool, CanBeSeen, ◌↔◌, ◌⊎◌, ◌∷◌, rules, eqb-true, none_has, true, ◌≡◌, ◌≢◌, ◌∙◌, ℕ, zero, suc, ◌+◌, ◌-◌, ◌<◌, ◌≤◌, List, ◌++◌, length, false, refl, sym, subst, arith, zero-add, inl, inr, get_or, set, take, map, Cell, Has, IsMaskOf, IsShifted, IsGapAfter, IsWholeEnd, behind, nat_eq, ◌*◌, ◌/◌, get_or-set_other, get_or-set_same, true≢false, drop, [], length-drop, drop_of_length-le, append-nil, get_or-take, get_or-drop, get_or-append-add, get_or_append_left, length-take-le, take_all, cases_eq, cases_lt, bit_at, IsMarked, number_at, length_at, add-one, AreLengths, ColourMasks, no_colours, AreColoursBefore, IsWholeGap, IsSeenIn, HasColour, AreMasks, AreMore, seen, IsRow, bit_at-suc, bit_at_lowest, bit_at-lt, same_from_bits}
 use Rattle.line_core.proofs.ColouredGaps.{before_from, before_to, gap_less, whole_back, whole_end_back, whole_before_end, Step}
 use Rattle.line_core.proofs.ColourMasks.{masks_are, masks_same}
 
--- a number with one bit less is less
+-- a number is less than another if they differ in one bit, which only the other has
 bit_less : (p a b : ℕ) → bit_at a p ≡ 1 → bit_at b p ≡ 0 → ((i : ℕ) → i ≢ p → bit_at b i ≡ bit_at a i) → b < a
 bit_less zero a b h none same =
     let half : b / 2 ≡ a / 2 = same_from_bits (b / 2) (a / 2) (λ i. sym (bit_at-suc b i) ∙ same (suc i) (omega arith) ∙ bit_at-suc a i) in
@@ -12,18 +12,20 @@ bit_less (suc p) a b h none same =
     let less = bit_less p (a / 2) (b / 2) (sym (bit_at-suc a p) ∙ h) (sym (bit_at-suc b p) ∙ none)
     (λ i ne. sym (bit_at-suc b i) ∙ same (suc i) (omega (arith, ne)) ∙ bit_at-suc a i) in omega arith
 
--- a mask with one place taken out is less
+-- a mask with one index removed is less
 pub mask_less : (a b p : ℕ) → Has a p → IsMaskOf (IsMarked (Has a) p false) b → b < a
 mask_less a b p h m = bit_less p a b h (grind (arith, bit_at-lt, true≢false)) (λ i ne. grind (arith, bit_at-lt, true≢false))
 
--- of the places of `all` those that are left are still to be written in a row, and the others hold what they should
+-- a loop over the indices of `all` has written those that are not in `left`: the element of `row` at each satisfies `Q`
 pub record IsWalk {A : Type 0} (all left : ℕ) (Q : ℕ → A → Type 0) (none : A) (row : List A) : Type 0 where
   pub within : (i : ℕ) → Has left i → Has all i
   pub done : (i : ℕ) → Has all i → (Has left i → ⊥) → Q i (get_or row i none)
 
+-- before the loop nothing is written
 pub walk_none : {A : Type 0} (all : ℕ) (Q : ℕ → A → Type 0) (none : A) (row : List A) → IsWalk all all Q none row
 walk_none all Q none row = record { within = λ i h. h; done = λ i h lacks. absurd (lacks h) }
 
+-- a step of the loop writes one element and removes its index from `left`
 pub walk_more : {A : Type 0} (all left next p q : ℕ) (Q : ℕ → A → Type 0) (none : A) (row : List A) (v : A) → p < length row → q ≡ p
     → IsMaskOf (IsMarked (Has left) p false) next → Q p v → IsWalk all left Q none row → IsWalk all next Q none (set row q v)
 walk_more all left next p q Q none row v inside at m here w = record {
@@ -31,11 +33,13 @@ walk_more all left next p q Q none row v inside at m here w = record {
   done = λ i h lacks. search (rules, cases_eq i p, get_or-set_same row p v none inside, get_or-set_other, w.done i h, m.from i);
 }
 
-pub walk_last : {A : Type 0} (all left : ℕ) (Q : ℕ → A → Type 0) (none : A) (row : List A) → nat_eq left 0 ≡ true → IsWalk all left Q none row
+-- after the loop all elements are written
+pub walk_last : {A : Type 0} (all left : ℕ) (Q : ℕ → A → Type 0) (none : A) (row : List A) → nat_eq left 0 ≡ true
+    → IsWalk all left Q none row
     → (i : ℕ) → Has all i → Q i (get_or row i none)
 walk_last all left Q none row e w i h = w.done i h (none_has left i (eqb-true left 0 e))
 
--- a gap that is left is within a row
+-- an index of a feasible gap that is still to be written is inside a row
 pub left_inside : (l : List Cell) (clue : List ℕ) (j gaps left p : ℕ) (Q : ℕ → ColourMasks → Type 0) (row : List ColourMasks)
     → IsWalk gaps left Q no_colours row → Has left p → IsMaskOf (IsWholeGap l clue j) gaps → length l ≤ 128 → p < 128
 left_inside l clue j gaps left p Q row walk h m short = omega (arith, (m.to p (walk.within p h)).0.0.0)
@@ -46,7 +50,7 @@ first_inside l gaps left p Q row walk h gap = (gap p (walk.within p h)).0.0
 
 pub ruleset walks = (left_inside, first_inside, mask_less, walk_none)
 
--- the places that are left are after the others, and what should be right before them is the last
+-- the indices in `left` come after all others, and `last` satisfies `Q` at the one right before the first of them
 abbrev pub IsLast : {A : Type 0} → ℕ → ℕ → (ℕ → A → Type 0) → A → Type 0
 IsLast all left Q last = (i k : ℕ) → Has all i → (Has left i → ⊥) → Has left k → (i < k) × (k ≡ i + 1 → Q i last)
 
@@ -61,7 +65,7 @@ last_more all left next p Q last v first least m here old i k h lacks there =
           (let x = (old i p h (λ x. lacks (m.from i (inl (x, ne)))) first).0 in (omega arith, λ next. absurd (omega (arith, after.1))))
     ]
 
--- the colours before a gap after run j, from those of the last gap and of the row before
+-- the prefix support at a gap after run `j`, from that at the gap one cell before and from the row before
 pub next_told : (t : Bool) (l : List Cell) (clue : List ℕ) (j w gaps left ends longer ended p : ℕ) (before rows : List ColourMasks)
     (last old m : ColourMasks) → AreLengths w clue → j < length clue → length l ≤ 128 → IsMaskOf (IsWholeGap l clue (j + 1)) gaps
     → IsMaskOf (IsWholeEnd l clue j) ends → IsMaskOf (IsShifted w (Has gaps) 1) longer → IsMaskOf (IsShifted w (Has ends) 1) ended → p < w
@@ -133,12 +137,12 @@ next_told t l clue j w gaps left ends longer ended p before rows last old m are 
         ends_here : Has ended p
         ends_here = em.from p (pw, one, es.from (p - 1) (whole_end_back l clue j p one whole.1 e))
 
--- a mask that is taken from a list
+-- a stored mask that is read from a list is the mask at that index
 pub kept_is : {A : Type 0} (number : A → ℕ) (P : ℕ → Type 0) (xs : List A) (i : ℕ) (d : A) (m : ℕ) → i < length xs
     → m ≡ number (get_or xs i d) → IsMaskOf P (get_or (map number xs) i 0) → IsMaskOf P m
 kept_is number P xs i d m inside e p = subst (IsMaskOf P) (sym (e ∙ number_at number xs i d inside)) p
 
--- the rows up to that of j runs are told
+-- the rows for up to `j` runs hold their prefix supports
 abbrev pub AreRowsTo : Bool → List Cell → List ℕ → ℕ → List ColourMasks → Type 0
 AreRowsTo t l clue j table = (q : ℕ) → q ≤ j → IsRow t l clue q (128 * q) table
 
@@ -146,7 +150,7 @@ pub rows_none : (t : Bool) (l : List Cell) (clue : List ℕ) (table : List Colou
     → ((i : ℕ) → IsWholeGap l clue 0 i → AreColoursBefore t l [] i (get_or table i no_colours)) → AreRowsTo t l clue 0 table
 rows_none t l clue table told q h i whole = let e : q ≡ 0 = omega arith in rw (e, zero-add) (told i (rw e at whole))
 
--- a part of a list up to its end is what is left of it, and is put back behind the first part
+-- the part of a list from an index on is what is left of it, and follows the first part when it is put back
 pub part_is : (a : ℕ) (xs : List ColourMasks) → take (length xs - a) (drop a xs) ≡ drop a xs
 part_is a xs = take_all (length xs - a) (drop a xs) (omega (arith, length-drop a xs))
 
@@ -156,12 +160,13 @@ part_long a xs = rw part_is (length-drop a xs)
 pub put_back : (a : ℕ) (xs ys : List ColourMasks) → take a xs ++ (ys ++ drop (length xs - a) (drop a xs)) ≡ take a xs ++ ys
 put_back a xs ys = rw (drop_of_length-le (drop a xs) {i = length xs - a} (omega (arith, length-drop a xs)), append-nil) refl
 
--- the last of them, seen from its place
+-- the row for `j` runs, as it is read from the table
 pub row_at : (t : Bool) (l : List Cell) (clue : List ℕ) (j : ℕ) (table : List ColourMasks) → AreRowsTo t l clue j table
     → IsRow t l clue j 0 (take (length table - 128 * j) (drop (128 * j) table))
-row_at t l clue j table told i whole = rw (part_is, get_or-drop (128 * j) table (0 + i) no_colours, zero-add i) (told j (omega arith) i whole)
+row_at t l clue j table told i whole =
+    rw (part_is, get_or-drop (128 * j) table (0 + i) no_colours, zero-add i) (told j (omega arith) i whole)
 
--- one more row, written behind the last of them
+-- the next row is written after the row for `j` runs
 pub rows_more : (t : Bool) (l : List Cell) (clue : List ℕ) (j : ℕ) (table new : List ColourMasks) → length l ≤ 128 → 128 * j ≤ length table
     → AreRowsTo t l clue j table → IsRow t l clue (j + 1) 128 new
     → ((k : ℕ) → k < 128 → get_or new k no_colours ≡ get_or (take (length table - 128 * j) (drop (128 * j) table)) k no_colours)
@@ -170,7 +175,8 @@ rows_more t l clue j table new short room told next same q le i whole =
     let front = take (128 * j) table in
     let size : length front ≡ 128 * j = length-take-le (128 * j) table room in
     let within : i < 128 = omega (arith, whole.0.0.0) in
-    let back : (k : ℕ) → get_or (front ++ new) (128 * j + k) no_colours ≡ get_or new k no_colours = λ k. rw size at (get_or-append-add front new k no_colours) in
+    let back : (k : ℕ) → get_or (front ++ new) (128 * j + k) no_colours ≡ get_or new k no_colours =
+    λ k. rw size at (get_or-append-add front new k no_colours) in
     rw put_back (elim (cases_lt q j) [
       | inl low ↦
           (let inside : 128 * q + i < 128 * j = omega arith in search (rules, get_or_append_left, get_or-take, told q))

@@ -1,4 +1,5 @@
--- What can be on a line with a cell coloured, told by what can be before and after that cell, or the run that covers it.
+-- The support of a line with one cell given a colour, combined from prefix supports, suffix supports and the run that
+-- covers the cell.
 use Rattle.line_core.proofs.Names.{AreMore, allows, rules, ap, sym, cases_eq, get_or-set_same, true≢false, not, mask_same, get_or-drop, IsShifted, nat_eq, ◌≡◌, ℕ, zero, suc, ◌+◌, ◌-◌, ◌*◌, ◌<◌, ◌≤◌, Bool, true, false, List, ◌∷◌, length, length_at, get_or, set, take, drop, reverse, refl, ◌∙◌, arith, add-one, ◌⊎◌, inl, inr, ◌↔◌, cases_lt, and_from, and_parts, length-set, ext_get_or, get_or-reverse, Has, IsMarked, IsMaskOf, Cell, Unknown, agrees, runs, behind, MayBe, IsGapAhead, IsWholeEnd, ArePositive, get_or-set_other, get_or-set_at, get_or_default, length-reverse, reverse-reverse, drop-set-lt, colour, ColourMasks, PairMasks, no_colours, no_pair, masks_if, coloured, AreColours, AreLengths, CanBeBefore, IsWholeGap, AreMasks, ArePairsMore, AreToldOf, IsLineWithin, CanBeAfter, CanBeBesideGap, CanBeBesideRun, CanBeUpTo, CanBeWithBlank, CanBeWithFilled, HasColour, IsEndOver}
 use Rattle.line_core.specs.steps.Pairs.{ArePairs}
 use Rattle.line_core.proofs.ColourMasks.{Below, masks_are, masks_same, more_more, read_at, more_same, one_below}
@@ -9,20 +10,20 @@ use Rattle.line_core.proofs.Joining.{closed_ahead_to, closed_ahead_from, blankab
 use Rattle.line_core.proofs.WholeEnds.{fillable_to, fillable_from, IsTold, told_mask}
 use Rattle.line_core.proofs.Reaching.{run_from_end}
 
--- ---- a line with a cell coloured
+-- ---- a line with one cell given a colour
 
--- placings of a coloured line are those of the line with that colour
+-- the placings of a line with a cell given a colour are those of the line with that colour there
 agrees_coloured : (l : List Cell) (k : ℕ) (d : Bool) (y : List Bool) → k < length l
     → (MayBe l d k × (agrees (coloured l k d) y ≡ true)) ↔ ((agrees l y ≡ true) × (get_or y k false ≡ d))
 agrees_coloured (c ∷ l) zero d (b ∷ y) within = search (rules, and_parts, and_from, colour_is)
 agrees_coloured (c ∷ l) (suc k) d (b ∷ y) within = search (rules, and_parts, and_from, agrees_coloured l k d y)
 agrees_coloured l k d y within = search rules
 
--- a cell can have a colour on the line with x coloured c
+-- cell `k` can have the colour `d` on the line with cell `x` given the colour `c`
 abbrev GoesWith : List Cell → List ℕ → ℕ → Bool → Bool → ℕ → Type 0
 GoesWith l clue x c d k = MayBe l d k × CanBe (coloured l k d) clue c x
 
--- two cells coloured in either order
+-- two cells can be given their colours in either order
 can_be_swap : (l : List Cell) (clue : List ℕ) (x k : ℕ) (c d : Bool) → MayBe l c x
     → ((k < length l) × CanBe (coloured l x c) clue d k) ↔ GoesWith l clue x c d k
 can_be_swap l clue x k c d may = (
@@ -30,40 +31,41 @@ can_be_swap l clue x k c d may = (
   λ (free, (y, agree, is, at)). search (rules, agrees_coloured l x c y, agrees_coloured l k d y),
 )
 
--- full cells from a place on agree with the line if they do so with the coloured one
+-- full cells that agree with the line with a colour from an index on agree with the line there
 ahead_before : (l : List Cell) (k i : ℕ) (d : Bool) (y : List Bool) → MayBe l d k → agrees (drop i (coloured l k d)) y ≡ true
     → agrees (drop i l) y ≡ true
 ahead_before l k zero d y may h = ((agrees_coloured l k d y may.0).0 (may, h)).0
 ahead_before (c ∷ l) (suc k) (suc i) d y may h = ahead_before l k i d y (omega (arith, may.0), may.1) h
 ahead_before l k (suc i) d y may h = search rules
 
--- ---- the line seen from its other end
+-- ---- the mirrored line
 
 reverse-set : (l : List Cell) (k : ℕ) (c : Cell) → k < length l → set (reverse l) (length l - 1 - k) c ≡ reverse (set l k c)
 reverse-set l k c within = ext_get_or Unknown _ _ (search (rules, length-set, length-reverse))
     (λ z h. grind (arith, get_or-set_at, get_or-set_other, get_or-reverse, length-reverse, length-set))
 
--- what is before a gap of the reversed line is after that gap
+-- the cells before a gap of the mirrored line are those after the gap
 after_turned : (l : List Cell) (clue : List ℕ) (j i k : ℕ) (d : Bool) → j ≤ length clue → i < length l → k < length l
-    → CanBeBefore (reverse l) (behind 0 (reverse clue) (length clue - j)) (length l - 1 - i) d (length l - 1 - k) ↔ CanBeAfter l clue j i d k
+    → CanBeBefore (reverse l) (behind 0 (reverse clue) (length clue - j)) (length l - 1 - i) d (length l - 1 - k)
+    ↔ CanBeAfter l clue j i d k
 after_turned l clue j i k d jl il kl =
     let ahead = rw (length-set l k (colour d)) at (reversed_gap (coloured l k d) clue j i jl (omega (arith, length-set l k (colour d)))) in
     rw (reverse-set l k (colour d) kl) (search (rules, get_or-reverse, length-reverse, ahead))
 
--- a gap of whole placings, seen from the other end
+-- a feasible gap of the line is one of the mirrored line
 pub whole_turned : (l : List Cell) (clue : List ℕ) (j i : ℕ) → j ≤ length clue → i < length l → IsWholeGap l clue j i
     → IsWholeGap (reverse l) (reverse clue) (length clue - j) (length l - 1 - i)
 whole_turned l clue j i jl il whole =
     let back = reversed_gap (reverse l) (reverse clue) (length clue - j) (length l - 1 - i) in
     search (rules, reversed_gap l clue j i jl il, back, length-reverse, reverse-reverse)
 
--- ---- what goes with a cell of some colour
+-- ---- what goes with one cell of a colour
 
 -- an unknown cell can have each colour
 pub unknown_may : (l : List Cell) (x : ℕ) (c : Bool) → x < length l → get_or l x (colour true) ≡ Unknown → MayBe l c x
 unknown_may l x c within unknown = search (rules, get_or_default)
 
--- the masks of what can be on the line with x coloured
+-- masks of the cells that go with the colour `c` at `x` are the support of the line with that colour there
 colours_of : (l : List Cell) (clue : List ℕ) (x : ℕ) (c : Bool) (m : ColourMasks) → ArePositive clue → MayBe l c x
     → AreMasks (GoesWith l clue x c) m → AreColours (coloured l x c) clue m
 colours_of l clue x c m pos may a = record { fillable_is = mask true _ a.fillable_is; blankable_is = mask false _ a.blankable_is }
@@ -93,7 +95,7 @@ run_from l clue x k j e d pos jl (from, to, whole) beside =
     kept (end, back) (inl near) = search (rules, end_step_from l (behind 0 clue j) (get_or clue j 0) e k d end near, drop-set-lt)
     kept ((enough, (front, cells)), back) (inr (next, (le, may, gap))) = search (rules, behind_coloured, coloured_other, closed_ahead_from)
 
--- with a blank cell goes what goes with it as a gap
+-- with a blank cell go the cells that go with it as a feasible gap, after some number of runs
 pub gathered_blank : (l : List Cell) (clue : List ℕ) (x : ℕ) (m : ColourMasks) → ArePositive clue → MayBe l false x
     → AreMasks (Below (length clue + 1) (CanBeWithBlank l clue x)) m → AreColours (coloured l x false) clue m
 gathered_blank l clue x m pos may_x a = colours_of l clue x false m pos may_x (masks_same _ _ m a (λ d k. (
@@ -108,7 +110,7 @@ gathered_blank l clue x m pos may_x a = colours_of l clue x false m pos may_x (m
       ],
 )))
 
--- and with a filled one what goes with the runs that cover it
+-- with a filled cell go the cells that go with some run over it
 pub gathered_filled : (l : List Cell) (clue : List ℕ) (x : ℕ) (m : ColourMasks) → ArePositive clue → MayBe l true x
     → AreMasks (Below (length clue) (CanBeWithFilled l clue x)) m → AreColours (coloured l x true) clue m
 gathered_filled l clue x m pos may_x a = colours_of l clue x true m pos may_x (masks_same _ _ m a (λ d k. (
@@ -116,16 +118,17 @@ gathered_filled l clue x m pos may_x a = colours_of l clue x true m pos may_x (m
   λ goes. let (j, jl, e, over, beside) = run_to l clue x k d goes in (j, jl, (e, over, beside)),
 )))
 
--- ---- what the tables tell
+-- ---- what the tables hold
 
--- after an end of a run in whole placings that is not at the line's end there is a gap of whole placings
-pub gap_after_end : (l : List Cell) (clue : List ℕ) (j e : ℕ) → 0 < get_or clue j 0 → j < length clue → e + 1 < length l → IsWholeEnd l clue j e
+-- after a feasible end of a run that is not the last cell of the line there is a feasible gap
+pub gap_after_end : (l : List Cell) (clue : List ℕ) (j e : ℕ) → 0 < get_or clue j 0 → j < length clue → e + 1 < length l
+    → IsWholeEnd l clue j e
     → IsWholeGap l clue (j + 1) (e + 1)
 gap_after_end l clue j e some jl within (end, back) =
     let after = closed_ahead_to l clue (j + 1) (e + 1) (omega arith) (omega arith) back in
     search (rules, after, add-one, run_from_end l _ (get_or clue j 0) e some end)
 
--- an end of a run is on the line
+-- a feasible end is on the line
 pub end_inside : (l : List Cell) (clue : List ℕ) (j e : ℕ) → 0 < get_or clue j 0 → IsWholeEnd l clue j e → e < length l
 end_inside l clue j e some whole = omega (arith, (whole.0.1.1 (get_or clue j 0 - 1) (omega arith)).0, whole.0.0)
 
@@ -133,13 +136,13 @@ pub ruleset ends = (end_inside, length_at, part_long)
 
 module _ (l : List Cell) (clue : List ℕ) (before after : List ColourMasks) (w len : ℕ) (line : IsLineWithin w l len)
     (told : AreToldOf l clue before after) where
-  -- what is told before a gap
+  -- the prefix support at a feasible gap, in the table
   near_at : (j i : ℕ) → j ≤ length clue → IsWholeGap l clue j i → (d : Bool) (k : ℕ)
       → HasColour (get_or before (128 * j + i) no_colours) d k ↔ CanBeBefore l (behind 0 clue j) i d k
   near_at j i jl whole d k =
       let are = masks_are _ _ (told.before_is j i jl whole) d k in (λ h. (are.0 h).1, λ h. are.1 (h.1.0, h))
 
-  -- as it is read
+  -- the prefix support at a feasible gap, as it is read
   pub near_are : (j i p : ℕ) (read : ColourMasks) → j ≤ length clue → IsWholeGap l clue j i → p ≡ i
       → read ≡ get_or before (128 * j + p) read
       → (d : Bool) (k : ℕ) → HasColour read d k ↔ CanBeBefore l (behind 0 clue j) i d k
@@ -147,7 +150,7 @@ module _ (l : List Cell) (clue : List ℕ) (before after : List ColourMasks) (w 
       let same = read_at before (128 * j + p) (128 * j + i) read (ap (λ (n : ℕ). 128 * j + n) at) (omega (arith, whole.0.0.0)) is in
       rw (sym same) at (near_at j i jl whole d k)
 
-  -- and after it
+  -- the suffix support at a feasible gap, as it is read
   pub far_are : (j i p : ℕ) (read : ColourMasks) → j ≤ length clue → IsWholeGap l clue j i → p ≡ len - 1 - i
       → read ≡ get_or after (128 * (length clue - j) + p) read → (d : Bool) (k : ℕ) → HasColour read d k ↔ CanBeAfter l clue j i d k
   far_are j i p read jl whole at is d k =
@@ -162,7 +165,7 @@ module _ (l : List Cell) (clue : List ℕ) (before after : List ColourMasks) (w 
       )
 
   module _ (j e : ℕ) (are : AreLengths w clue) (jl : j < length clue) (whole : IsWholeEnd l clue j e) where
-    -- what goes with a run up to its last cell
+    -- the support of the cells up to the last cell of a run, given that run
     pub up_to_is : (one up : ℕ) (m : ColourMasks) → IsMaskOf (λ i. i < get_or clue j 0) one
         → IsMaskOf (IsShifted w (Has one) (e + 1 - get_or clue j 0)) up → (let n = get_or clue j 0 in
         let table = take (length before - 128 * j) (drop (128 * j) before) in
@@ -189,7 +192,7 @@ module _ (l : List Cell) (clue : List ℕ) (before after : List ColourMasks) (w 
           ],
         ))
 
-    -- and all that goes with it: up to its last cell, and after the gap after it
+    -- the support of the line, given that run: the cells up to its end, and those after the gap after it
     pub beside_is : (p : ℕ) (read old new : ColourMasks) → e + 1 < len → p ≡ len - 1 - (e + 1)
         → read ≡ get_or after (128 * (length clue - (j + 1)) + p) read
         → AreMasks (λ d k. CanBeUpTo l (behind 0 clue j) (get_or clue j 0) d e k) old
@@ -199,17 +202,19 @@ module _ (l : List Cell) (clue : List ℕ) (before after : List ColourMasks) (w 
         let far = far_are (j + 1) (e + 1) p read (omega arith) gap at is in
         masks_same _ _ new more (λ d k. search (rules, masks_are _ old a d k, far d k))
 
--- ---- pairs that get more
+-- ---- lookaheads to which cells are added
 
 pub pairs_same : (filled : Bool) (P Q : ℕ → Bool → ℕ → Type 0) (old new : List PairMasks) → ArePairsMore filled P old new
     → ((x : ℕ) (d : Bool) (k : ℕ) → P x d k ↔ Q x d k) → ArePairsMore filled Q old new
 pairs_same filled P Q old new a same =
     record { more = λ x h. more_same _ _ _ _ (a.more x h) (same x); other = a.other; count = a.count }
 
--- one more pair gets the colours
-pub pairs_one : (filled : Bool) (from p q : ℕ) (C : Bool → ℕ → Type 0) (old sum : List PairMasks) (default new : PairMasks) → q ≡ p → p < length sum
+-- the next lookahead gets the cells of `C` too
+pub pairs_one : (filled : Bool) (from p q : ℕ) (C : Bool → ℕ → Type 0) (old sum : List PairMasks) (default new : PairMasks) → q ≡ p
+    → p < length sum
     → from ≤ p → ArePairsMore filled (λ x d k. (from ≤ x) × (x < p) × C d k) old sum
-    → AreMore C (masks_if filled (get_or sum q default)) (masks_if filled new) → masks_if (not filled) new ≡ masks_if (not filled) (get_or sum q default)
+    → AreMore C (masks_if filled (get_or sum q default)) (masks_if filled new)
+    → masks_if (not filled) new ≡ masks_if (not filled) (get_or sum q default)
     → ArePairsMore filled (λ x d k. (from ≤ x) × (x < p + 1) × C d k) old (set sum q new)
 pairs_one filled from p q C old sum default new at inside le a more other = record {
   more = λ x h. elim (cases_eq x p) [
@@ -218,7 +223,9 @@ pairs_one filled from p q C old sum default new at inside le a more other = reco
     | inr ne ↦ rw (at, get_or-set_other sum p x new no_pair ne) (more_same _ _ _ _ (a.more x h) (λ d k. search rules))
   ];
   other = λ x. elim (cases_eq x p) [
-    | inl e ↦ rw (at, e, get_or-set_same sum p new no_pair inside) (other ∙ ap (λ (m : PairMasks). masks_if (not filled) m) here ∙ rw e at (a.other x))
+    | inl e ↦
+        rw (at, e, get_or-set_same sum p new no_pair inside)
+        (other ∙ ap (λ (m : PairMasks). masks_if (not filled) m) here ∙ rw e at (a.other x))
     | inr ne ↦ rw (at, get_or-set_other sum p x new no_pair ne) (a.other x)
   ];
   count = rw at (length-set sum p new) ∙ a.count;
@@ -227,7 +234,7 @@ pairs_one filled from p q C old sum default new at inside le a more other = reco
     here : get_or sum q default ≡ get_or sum p no_pair
     here = rw at (get_or_default sum p default no_pair inside)
 
--- what is added to pairs at those of some places that are no longer left
+-- the cells of `P` were added to lookaheads for each index of `places` that is not in `left`
 pub record ArePairsAdded (filled : Bool) (places left : ℕ) (P : ℕ → ℕ → Bool → ℕ → Type 0) (old new : List PairMasks) : Type 0 where
   pub within : (i : ℕ) → Has left i → Has places i
   pub more : ArePairsMore filled (λ x d k. (i : ℕ) × Has places i × (Has left i → ⊥) × P x i d k) old new
@@ -252,7 +259,7 @@ pairs_more filled places left next p P old sum new a here marked b = record {
       λ (i, there, lacks, y). search (rules, cases_eq i p, marked.from i, lacks),
     )
 
--- a gap or an end of whole placings that is left is on the line
+-- an index of a feasible gap, or of a feasible end, that is still to be handled is on the line
 pub gap_inside : (l : List Cell) (clue : List ℕ) (j gaps left i : ℕ) (filled : Bool) (P : ℕ → ℕ → Bool → ℕ
     → Type 0) (old new : List PairMasks)
     → ArePairsAdded filled gaps left P old new → Has left i → IsMaskOf (IsWholeGap l clue j) gaps → IsWholeGap l clue j i × (i < length l)
@@ -267,9 +274,9 @@ end_left l clue w j ends left e filled P old new a h m are jl =
 
 pub ruleset places = (gap_inside, mask_less)
 
--- ---- the pairs of a line
+-- ---- the lookaheads of a line
 
--- what can be with each cell blank that has less than so many runs before it, and filled by one of the first so many
+-- lookaheads so far: with a cell blank after fewer than `gaps` runs, and with it filled by one of the first `runs` runs
 pub record AreGathered (l : List Cell) (clue : List ℕ) (gaps runs : ℕ) (pairs : List PairMasks) : Type 0 where
   pub room : length l ≤ length pairs
   pub blank : (x : ℕ) → x < length l → AreMasks (Below gaps (CanBeWithBlank l clue x)) (get_or pairs x no_pair).if_blank

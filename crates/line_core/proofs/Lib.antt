@@ -1,4 +1,4 @@
--- Lemmas on one line: its placings, what is deduced of it, and the masks that tell it.
+-- The modules of lemmas on one line: its placings, the deduced line, and the masks that determine it.
 pub mod Names
 pub mod DeductionLaws
 pub mod RunLaws

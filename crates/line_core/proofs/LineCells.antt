@@ -1,4 +1,4 @@
--- The cells of a line that may have a colour, and the lengths of runs.
+-- The colours that cells of a line can have, and the lengths of runs.
 use Rattle.std.proofs.Common.{◌↔◌, ◌≡◌, ℕ, ◌+◌, ◌<◌, ◌≤◌, true, false, List, length, reverse, get_or, set, sym, subst, arith, rules, inl, inr}
 use Rattle.grid_core.specs.declared.cells.Cell.{Cell}
 use Rattle.grid_core.specs.declared.cells.Cell.TheVariants.{Unknown}
@@ -14,18 +14,19 @@ use Rattle.line_core.specs.steps.Reach.{MayBe, AreLengths}
 free_cell : (c : Cell) → (is_filled c ≡ false) ↔ (allows c false ≡ true)
 free_cell c = search rules
 
--- the cells that may be blank are those that the set of filled ones lacks
+-- the cells that can be blank are those that are not in the set of filled cells
 pub free_is : (line : List Cell) (filled m : ℕ) → ((i : ℕ) → i < length line → has filled i ≡ is_filled (get_or line i Unknown))
     → IsMaskOf (λ i. (i < length line) × (has filled i ≡ false)) m → IsMaskOf (MayBe line false) m
 free_is line filled m same lacking = search (rules, free_cell)
 
--- a mask of nothing
+-- the empty mask is the mask of a property that no index has
 pub none_is : (P : ℕ → Type 0) (m : ℕ) → m ≡ 0 → ((i : ℕ) → P i → ⊥) → IsMaskOf P m
 none_is P m e none = subst (IsMaskOf P) (sym e) (is_none P none)
 
--- and a mask that has none is empty
+-- the mask of a property that no index has is empty
 pub none_in : (P : ℕ → Type 0) (m : ℕ) → IsMaskOf P m → ((i : ℕ) → P i → ⊥) → m ≡ 0
-none_in P m p none = elim (cases_lt 0 m) [ inl some ↦ (let x = some_place m some in absurd (none x.0 (p.to x.0 x.1))) | inr e ↦ omega arith ]
+none_in P m p none =
+    elim (cases_lt 0 m) [ inl some ↦ (let x = some_place m some in absurd (none x.0 (p.to x.0 x.1))) | inr e ↦ omega arith ]
 
 pub none_has : (m i : ℕ) → m ≡ 0 → Has m i → ⊥
 none_has m i e h = let z : Has 0 i = subst (λ (k : ℕ). Has k i) e h in omega (arith, bit_at-zero i)
@@ -33,16 +34,17 @@ none_has m i e h = let z : Has 0 i = subst (λ (k : ℕ). Has k i) e h in omega 
 pub lacks : (m i : ℕ) → (Has m i → ⊥) → has m i ≡ false
 lacks m i none = false_from_ne_true (has m i) (λ e. none (true_has m i e))
 
--- one more element written
+-- once element `j` is written too, `P` holds of all elements up to it
 pub written_more : (P : ℕ → ℕ → Type 0) (xs : List ℕ) (j v : ℕ) → j < length xs → P j v → ((k : ℕ) → k < j → P k (get_or xs k 0)) → (k : ℕ)
     → k < j + 1 → P k (get_or (set xs j v) k 0)
 written_more P xs j v l here below k h = search rules
 
--- a number of a clue is the length of a run
-pub length_at : (width : ℕ) (clue : List ℕ) (j : ℕ) → AreLengths width clue → j < length clue → (0 < get_or clue j 0) × (get_or clue j 0 ≤ width)
+-- each number of a clue is positive and at most `width`
+pub length_at : (width : ℕ) (clue : List ℕ) (j : ℕ) → AreLengths width clue → j < length clue
+    → (0 < get_or clue j 0) × (get_or clue j 0 ≤ width)
 length_at width clue j are l = (search rules, search rules)
 
--- a clue that is seen from its other end has the same numbers
+-- the numbers of a reversed clue are in the same range
 pub lengths_turned : (width : ℕ) (clue : List ℕ) → AreLengths width clue → AreLengths width (reverse clue)
 lengths_turned width clue are = record {
   positive = λ k d h. search (rules, get_or-reverse, length-reverse, are.positive);

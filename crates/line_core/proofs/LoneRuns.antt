@@ -1,4 +1,4 @@
--- A clue of one run: its starts tell which cells can be filled and which can be blank.
+-- A clue of a single run: the starts of the run determine which cells can be filled and which can be blank.
 use Rattle.line_core.proofs.Names.{false_from_ne_true, rules, ◌≡◌, ℕ, ◌+◌, ◌-◌, ◌<◌, ◌≤◌, Bool, true, false, List, [], ◌∷◌, length, ap, arith, ◌⊎◌, inl, inr, get_or, cases_lt, Cell, agrees, runs, Has, has, IsMaskOf, IsShifted, AllFrom, SomeFrom, has_true, mask_same, MayBe, IsFillable, IsBlankable, ArePositive, lacks, none_has, common_steps, true_has, true_from_ne_false}
 use Rattle.line_core.specs.steps.Lone.{IsLoneStart}
 use Rattle.line_core.proofs.Joining.{blankable_to, blankable_from}
@@ -16,8 +16,9 @@ module _ (l : List Cell) (clue : List ℕ) (one : length clue ≡ 1) where
   abbrev start_of : List Bool → ℕ
   start_of x = get_or (starts_from 0 false x) 0 0
 
-  -- a placing of the run that starts here
-  lone_placing : (s : ℕ) → ArePositive clue → IsLoneStart l number s → (x : List Bool) × (agrees l x ≡ true) × (runs x ≡ clue) × (start_of x ≡ s)
+  -- for each start of the run there is a placing
+  lone_placing : (s : ℕ) → ArePositive clue → IsLoneStart l number s
+      → (x : List Bool) × (agrees l x ≡ true) × (runs x ≡ clue) × (start_of x ≡ s)
   lone_placing s pos start =
       let p = placing_of l clue (s ∷ []) pos (search rules) in (p.0, p.1, p.2, ap (λ (ss : List ℕ). get_or ss 0 0) p.3)
 
@@ -26,24 +27,25 @@ module _ (l : List Cell) (clue : List ℕ) (one : length clue ≡ 1) where
       let d = laid l clue x agree is in
       record { window = d.windows 0 (omega arith); blanks = λ i h free. d.blanks i h (λ j k. search (rules, free)) }
 
-  -- each filled cell is in the placing's run
+  -- each filled cell of a placing is in its run
   of_run : (x : List Bool) (i : ℕ) → runs x ≡ clue → get_or x i false ≡ true → (start_of x ≤ i) × (i < start_of x + number)
   of_run x i is filled = let c = covered x clue i is filled in let e : c.index ≡ 0 = omega (arith, c.inside) in search (rules, e)
 
-  -- a start from which the run leaves the cell blank
+  -- if the run leaves a cell blank from some start, the cell is blankable
   leaves_from : (i s : ℕ) → ArePositive clue → i < length l → IsLoneStart l number s → (i < s) ⊎ (s + number ≤ i) → IsBlankable l clue i
   leaves_from i s pos within start out =
       let p = lone_placing s pos start in grind (arith, common_steps, blankable_from, false_from_ne_true, of_run)
 
-  -- ---- the masks, from that of the starts
+  -- ---- the support masks, computed from the mask of the starts
 
   module _ (starts : ℕ) (s : IsMaskOf (IsLoneStart l number) starts) where
-    -- no start, no placing
+    -- if the run has no start, the support is empty
     pub lone_none : (v : Bool) (m : ℕ) → ArePositive clue → starts ≡ 0 → m ≡ 0 → IsMaskOf (IsTold l clue v) m
     lone_none v m pos none e = none_told l clue v m pos e (λ x agree is. none_has starts _ none (s.from _ (lone_start x agree is)))
 
-    -- each cell among as many from a start on
-    pub lone_fillable : (w ends m : ℕ) → ArePositive clue → 0 < number → length l ≤ w → IsMaskOf (IsShifted w (Has starts) (number - 1)) ends
+    -- the fillable cells: `number` cells from each start on
+    pub lone_fillable : (w ends m : ℕ) → ArePositive clue → 0 < number → length l ≤ w
+        → IsMaskOf (IsShifted w (Has starts) (number - 1)) ends
         → IsMaskOf (SomeFrom (Has ends) number) m → IsMaskOf (IsFillable l clue) m
     lone_fillable w ends m pos some short p q = mask_same _ _ m q (λ i (z, below, has_end).
         let (within, enough, start) = p.to (i + z) has_end in
@@ -55,7 +57,7 @@ module _ (l : List Cell) (clue : List ℕ) (one : length clue ≡ 1) where
         let last = (start.window (number - 1) (omega arith)).0 in
         let has_start = s.from _ start in (start_of x + (number - 1) - i, omega arith, grind (arith, common_steps, p.from)))
 
-    -- each cell but those that the run fills from each start
+    -- the blankable cells: all but those that the run fills from every one of its starts
     pub lone_blankable : (w len line first last certain m : ℕ) → ArePositive clue → len ≡ length l → length l ≤ w → Has starts first
         → ((i : ℕ) → Has starts i → first ≤ i) → Has starts last → ((i : ℕ) → Has starts i → i ≤ last)
         → IsMaskOf (λ i. (i < w) × (last ≤ i) × (i < first + number)) certain → IsMaskOf (λ i. i < len) line
@@ -75,21 +77,22 @@ module _ (l : List Cell) (clue : List ℕ) (one : length clue ≡ 1) where
 module _ (l : List Cell) (number free room len line filled starts : ℕ) (e : len ≡ length l) (f : IsMaskOf (MayBe l false) free)
     (r : IsMaskOf (MayBe l true) room) (a : IsMaskOf (λ i. i < len) line) (p : IsMaskOf (λ i. Has line i × (has free i ≡ false)) filled)
     (s : IsMaskOf (AllFrom (Has room) number) starts) where
-  -- a cell may be blank unless it must be filled
+  -- a cell that is not known to be filled can be blank
   free_unless : (k : ℕ) → (Has filled k → ⊥) → k < length l → MayBe l false k
   free_unless k none within = search (rules, true_has, true_from_ne_false)
 
-  -- no cell must be filled
+  -- if no cell is known to be filled, the run starts wherever enough cells can be filled
   pub starts_anywhere : filled ≡ 0 → IsMaskOf (IsLoneStart l number) starts
   starts_anywhere none = mask_same _ _ starts s (λ i h. record {
     window = λ z b. r.to (i + z) (h z b);
     blanks = λ k b out. free_unless k (λ h. none_has filled k none h) b;
   }) (λ i start z b. r.from (i + z) (start.window z b))
 
-  -- the run has the first and the last cell that must be filled
+  -- the run has the first and the last cell that are known to be filled
   pub starts_about : (w first last before some all after m : ℕ) → 0 < number → Has filled first → ((i : ℕ) → Has filled i → first ≤ i)
       → Has filled last → ((i : ℕ) → Has filled i → i ≤ last) → first < w → IsMaskOf (λ i. i < first + 1) before
-      → IsMaskOf (λ i. Has starts i × Has before i) some → IsMaskOf (λ i. i < w) all → IsMaskOf (IsShifted w (Has all) (last + 1 - number)) after
+      → IsMaskOf (λ i. Has starts i × Has before i) some → IsMaskOf (λ i. i < w) all
+      → IsMaskOf (IsShifted w (Has all) (last + 1 - number)) after
       → IsMaskOf (λ i. Has some i × Has after i) m → IsMaskOf (IsLoneStart l number) m
   starts_about w first last before some all after m pos at_first least at_last greatest short b q c d t = mask_same _ _ m t (λ i h.
       let two = q.to i h.0 in
@@ -105,6 +108,6 @@ module _ (l : List Cell) (number free room len line filled starts : ℕ) (e : le
       let none = c.from (i - (last + 1 - number)) (omega arith) in
       (q.from i (has, b.from i (omega arith)), d.from i (omega arith, omega arith, none)))
     where
-      -- a cell that must be filled is in the run
+      -- a cell that is known to be filled is in the run
       must : (i k : ℕ) → IsLoneStart l number i → Has filled k → (i ≤ k) × (k < i + number)
       must i k start x = let y = p.to k x in let within : k < len = a.to k y.0 in search (rules, f.from k, start.blanks k)

@@ -1,4 +1,4 @@
--- The names that most proofs cite, passed on from one place. Declares nothing.
+-- Re-exports the names that most proofs of this crate use. Declares nothing.
 pub use Rattle.std.proofs.Common.{Bool, List, MatchBool, None, Option, Some, [], add-one, add-zero, add_comm, ap, append-nil, append_assoc, arith, cond, drop, drop-cons, drop_of_length-le, ext_get_or, false, filter, get_or, get_or-set_other, get_or-set_same, inl, inr, length, length-append, length-drop, map, nat_eq, nat_le, nat_lt, not, refl, replicate, reverse, rules, set, subst, suc, sym, take, true, true≢false, zero, zero-add, ℕ, ◌&&◌, ◌*◌, ◌++◌, ◌+◌, ◌-◌, ◌/◌, ◌<◌, ◌||◌, ◌↔◌, ◌∙◌, ◌∷◌, ◌≡◌, ◌≢◌, ◌≤◌, ◌⊎◌}
 pub use Rattle.std.proofs.Math.ListN.{length-set}
 pub use Rattle.std.proofs.lemmas.Bool.{and_from, and_parts, both_ways, cases_Bool, cases_eq, cases_lt, eq-eqb, eqb-false, eqb-true, false_from_ne_true, le-leb, leb-true, not-true, or_left, or_right, true_from_ne_false}

@@ -1,4 +1,4 @@
--- The placing whose starts are all least, and the one whose starts are all greatest.
+-- The leftmost and the rightmost starts: the search of the definition finds them, and so do the feasible ends.
 use Rattle.line_core.proofs.Names.{◌↔◌, inl, inr, false_from_ne_true, rules, ◌≡◌, ℕ, suc, ◌+◌, ◌-◌, ◌<◌, ◌≤◌, Bool, true, false, not, List, [], ◌∷◌, length, map, Some, None, refl, sym, ap, ◌∙◌, arith, get_or, ext_get_or, nat_le, take, MatchBool, All, list_all, find, All-head, All-tail, All-weaker, and_parts, leb-true, le-leb, list_all-map, length-take-le, get_or-take, Cell, placings, run_starts, all_starts, Side, Left, Right, outermost, IsAsFar, IsOuterStart, Has, IsMaskOf, IsWholeEnd, IsGap, IsGapAhead, HasPlacing, ArePositive, cases_Bool, common_steps}
 use lib.Pointwise.{pointwise}
 use Rattle.line_core.proofs.Joining.{positive_at, blankable_to, blankable_from}
@@ -9,8 +9,10 @@ use Rattle.line_core.proofs.Painting.{IsLaid, AreFurthest, laid, placing_of, fur
 
 -- ---- the definitions
 
-pointwise_from : (xs ys : List ℕ) → length xs ≡ length ys → ((j : ℕ) → j < length xs → get_or xs j 0 ≤ get_or ys j 0) → pointwise nat_le xs ys ≡ true
-pointwise_from (x ∷ xs) (y ∷ ys) e h = rw (le-leb x y (h 0 (omega arith)), pointwise_from xs ys (omega arith) (λ j l. h (suc j) (omega arith))) refl
+pointwise_from : (xs ys : List ℕ) → length xs ≡ length ys → ((j : ℕ) → j < length xs → get_or xs j 0 ≤ get_or ys j 0)
+    → pointwise nat_le xs ys ≡ true
+pointwise_from (x ∷ xs) (y ∷ ys) e h =
+    rw (le-leb x y (h 0 (omega arith)), pointwise_from xs ys (omega arith) (λ j l. h (suc j) (omega arith))) refl
 pointwise_from xs ys e h = search rules
 
 pointwise_to : (xs ys : List ℕ) → pointwise nat_le xs ys ≡ true → (length xs ≡ length ys) × ((j : ℕ) → get_or xs j 0 ≤ get_or ys j 0)
@@ -21,7 +23,7 @@ pub pointwise_antisym : (xs ys : List ℕ) → pointwise nat_le xs ys ≡ true �
 pointwise_antisym xs ys h k =
     ext_get_or 0 xs ys (pointwise_to xs ys h).0 (λ j l. omega (arith, (pointwise_to xs ys h).1 j, (pointwise_to ys xs k).1 j))
 
--- each of some starts is as far to a side as the other there, or further
+-- each start in the first list is as far in a direction as the one in the second list, or further
 abbrev pub all_as_far : Side → List ℕ → List ℕ → Bool
 all_as_far Left = pointwise nat_le
 all_as_far Right = λ xs ys. pointwise nat_le ys xs
@@ -33,7 +35,7 @@ as_far_from side xs ys e h = search (rules, pointwise_from)
 as_far_antisym : (side : Side) (xs ys : List ℕ) → all_as_far side xs ys ≡ true → all_as_far side ys xs ≡ true → xs ≡ ys
 as_far_antisym side xs ys h k = search (rules, pointwise_antisym)
 
--- the first that passes is the only one that does
+-- a search finds `m` if all full lines that pass the test have the starts `m`, and one passes
 find_only : (p : List ℕ → Bool) (m : List ℕ) (ps : List (List Bool)) → All (λ x. p (run_starts x) ≡ true → run_starts x ≡ m) ps
     → list_all (λ x. not (p (run_starts x))) ps ≡ false → find p (map run_starts ps) ≡ Some m
 find_only p m [] only h = cc
@@ -42,42 +44,44 @@ find_only p m (x ∷ ps) only h = elim (cases_Bool (p (run_starts x))) [
   | inr e ↦ rw e (find_only p m ps (All-tail (λ y. p (run_starts y) ≡ true → run_starts y ≡ m) x ps only) (rw e at h))
 ]
 
--- what follows of either answer
+-- what follows from either case of a test
 pub match_more : (b : Bool) (P Q R S : Type 0) → (P → R) → (Q → S) → MatchBool b P Q → MatchBool b R S
 match_more true P Q R S f g h = f h
 match_more false P Q R S f g h = g h
 
 module _ (l : List Cell) (clue : List ℕ) where
-  -- the starts of a placing lay the clue
+  -- the starts of a placing lay out the clue
   pub laid_placing : (x : List Bool) → IsPlacing l clue x → IsLaid l clue (run_starts x)
   laid_placing x p = rw run_starts-from (laid l clue x ((agrees_is l x).1 p.extends) p.runs_are)
 
-  -- a test that passes for the starts of all placings
+  -- a test that passes for all starts which lay out the clue passes for the starts of all placings
   all_pass : (p : List ℕ → Bool) → ((ss : List ℕ) → IsLaid l clue ss → p ss ≡ true) → list_all p (all_starts l clue) ≡ true
   all_pass p h =
       list_all-map p run_starts (placings l clue)
       ∙ (placings_listed l clue).every (λ x. p (run_starts x)) (λ x q. h (run_starts x) (laid_placing x q))
 
-  -- and what passes for all passes for each
-  pub pass_all : (p : List ℕ → Bool) → list_all p (all_starts l clue) ≡ true → (x : List Bool) → IsPlacing l clue x → p (run_starts x) ≡ true
+  -- a test that passes for the starts of all placings passes for those of each placing
+  pub pass_all : (p : List ℕ → Bool) → list_all p (all_starts l clue) ≡ true → (x : List Bool) → IsPlacing l clue x
+      → p (run_starts x) ≡ true
   pass_all p h x q = (placings_listed l clue).each (λ x. p (run_starts x)) (sym (list_all-map p run_starts (placings l clue)) ∙ h) x q
 
-  -- starts that lay the clue are those of a placing
+  -- starts that lay out the clue are those of a placing
   pub placed : (m : List ℕ) → ArePositive clue → IsLaid l clue m → (x : List Bool) × IsPlacing l clue x × (run_starts x ≡ m)
   placed m pos d = let x = placing_of l clue m pos d in search (rules, agrees_is, run_starts-from, x)
 
-  -- each run ends somewhere in whole placings, if there is one
+  -- if there is a placing, each run has a feasible end
   pub some_end : (j : ℕ) → ArePositive clue → HasPlacing l clue → j < length clue → (e : ℕ) × IsWholeEnd l clue j e
   some_end j pos p h =
       let e = get_or (starts_from 0 false p.0) j 0 + get_or clue j 0 - 1 in
       (e, whole_of l clue p.0 j e p.1 p.2 h (omega (arith, positive_at clue pos j h)))
 
-  laid_end : (ss : List ℕ) (j : ℕ) → ArePositive clue → IsLaid l clue ss → j < length clue → IsWholeEnd l clue j (get_or ss j 0 + get_or clue j 0 - 1)
+  laid_end : (ss : List ℕ) (j : ℕ) → ArePositive clue → IsLaid l clue ss → j < length clue
+      → IsWholeEnd l clue j (get_or ss j 0 + get_or clue j 0 - 1)
   laid_end ss j pos d h =
       let (x, agree, is, starts) = placing_of l clue ss pos d in
       whole_of l clue x j (get_or ss j 0 + get_or clue j 0 - 1) agree is h (rw starts (omega (arith, positive_at clue pos j h)))
 
-  -- a placing with no run is there exactly if the first cell is blank in one
+  -- a placing without runs exists exactly if the first cell can be blank as a gap before all runs
   pub no_run_is : (gap ahead m : ℕ) → length clue ≡ 0 → 0 < length l → IsMaskOf (IsGap l clue 0) gap → IsMaskOf (IsGapAhead l clue 0) ahead
       → IsMaskOf (λ i. Has gap i × Has ahead i) m → Has m 0 ↔ HasPlacing l clue
   no_run_is gap ahead m none some g a q = (
@@ -88,14 +92,14 @@ module _ (l : List Cell) (clue : List ℕ) where
         let first : j ≡ 0 = omega arith in q.from 0 (g.from 0 (rw first at before), a.from 0 (rw first at after)),
   )
 
--- ---- either side
+-- ---- in either direction
 
 module _ (side : Side) (l : List Cell) (clue : List ℕ) where
-  -- the outermost starts are the first that are as far as all
+  -- the outermost starts are the first that are as far as those of all placings
   pub outermost_found : outermost side l clue ≡ find (λ starts. list_all (all_as_far side starts) (all_starts l clue)) (all_starts l clue)
   outermost_found = search rules
 
-  -- starts that are as far as those of every placing are those of one placing, the outermost
+  -- starts that are as far as those of every placing are those of one placing, and are the outermost
   pub outermost_of : (m : List ℕ) → ArePositive clue → AreFurthest side l clue m → outermost side l clue ≡ Some m
   outermost_of m pos f =
       let x = placed l clue m pos (furthest_laid side l clue m f) in
@@ -106,7 +110,7 @@ module _ (side : Side) (l : List Cell) (clue : List ℕ) where
       (λ y q t. grind (arith, common_steps, as_far_antisym, pass_all)) _ listed.members in
       outermost_found ∙ find_only test m (placings l clue) only (grind (arith, common_steps, not_all, listed))
 
-  -- the starts that are furthest to a side are those of one placing, which is the outermost
+  -- if each run starts by its outermost feasible end, the starts are those of one placing, and are the outermost
   outermost_is : (m : List ℕ) → ArePositive clue → HasPlacing l clue → length m ≡ length clue
       → ((j : ℕ) → j < length clue → IsOuterStart side l clue j (get_or m j 0)) → outermost side l clue ≡ Some m
   outermost_is m pos p count each =
@@ -129,7 +133,7 @@ module _ (side : Side) (l : List Cell) (clue : List ℕ) where
       ∙ ap (λ (ps : List (List Bool)). find (λ starts. list_all (all_as_far side starts) (map run_starts ps)) (map run_starts ps))
       (none_listed l clue (placings l clue) (placings_listed l clue) (λ x p. none (x, (agrees_is l x).1 p.extends, p.runs_are)))
 
-  -- the starts of a search are the outermost ones, or there are none
+  -- `find_starts` returns the outermost starts, or nothing if there is no placing
   pub answered : (list : List ℕ) (b : Bool) → ArePositive clue → length clue ≤ length list
       → MatchBool b (HasPlacing l clue × ((j : ℕ) → j < length clue → IsOuterStart side l clue j (get_or list j 0))) (HasPlacing l clue → ⊥)
       → MatchBool b (outermost side l clue ≡ Some (take (length clue) list)) (outermost side l clue ≡ None)

@@ -1,4 +1,4 @@
--- A line with blank cells behind it has the placings of the line alone.
+-- A line that is padded with blank cells at its end has the same support on its own cells.
 use Rattle.line_core.proofs.Names.{◌↔◌, common_steps, rules, ◌≡◌, ℕ, zero, suc, ◌<◌, Bool, true, false, List, [], ◌∷◌, ◌++◌, length, replicate, get_or, refl, sym, ap, ◌∙◌, arith, length-append, and_from, and_parts, get_or_append_left, Cell, Blank, allows, agrees, runs, runs_after, Has, IsMaskOf, IsBlankable, IsFillable, ArePositive, runs_after-zero, runs_after-true, runs_after-false, runs_after-close, runs_after-nil}
 use Rattle.line_core.proofs.Certain.{CanBe}
 use Rattle.line_core.proofs.Joining.{length-agrees}
@@ -6,10 +6,11 @@ use Rattle.line_core.proofs.WholeEnds.{told_is, told_mask}
 
 runs_after-blanks : (x : List Bool) (n m : ℕ) → runs_after n (x ++ replicate m false) ≡ runs_after n x
 runs_after-blanks [] n zero = refl
-runs_after-blanks [] n (suc m) = grind (arith, runs_after-close, runs_after-false, runs_after-blanks [] zero m, runs_after-zero, runs_after-nil)
+runs_after-blanks [] n (suc m) =
+    grind (arith, runs_after-close, runs_after-false, runs_after-blanks [] zero m, runs_after-zero, runs_after-nil)
 runs_after-blanks (b ∷ x) n m = grind (arith, runs_after-true, runs_after-false, runs_after-close, runs_after-blanks x)
 
--- blank cells behind a full line are no run
+-- blank cells after a full line add no run
 runs-blanks : (x : List Bool) (m : ℕ) → runs (x ++ replicate m false) ≡ runs x
 runs-blanks x m = sym (runs_after-zero (x ++ replicate m false)) ∙ runs_after-blanks x 0 m ∙ runs_after-zero x
 
@@ -37,7 +38,7 @@ module _ (l : List Cell) (clue : List ℕ) (m : ℕ) where
   abbrev longer : List Cell
   longer = l ++ replicate m Blank
 
-  -- what a cell of the line can be
+  -- a cell of the line has the same colours in placings of the padded line and of the line alone
   alone : (c : Bool) (k : ℕ) → k < length l → CanBe longer clue c k ↔ CanBe l clue c k
   alone c k within = (
     λ (y, agree, is, at). search (rules, agrees_cut, length-agrees, runs-blanks, get_or_append_left),
@@ -45,7 +46,7 @@ module _ (l : List Cell) (clue : List ℕ) (m : ℕ) where
         let long = length-agrees l x agree in search (rules, agrees_more l x m, runs-blanks x m, get_or_append_left),
   )
 
-  -- the cells behind it can't be filled, so the same cells are filled in a placing
+  -- the padding is blank in each placing, so the same cells are fillable
   pub fillable_alone : (f : ℕ) → ArePositive clue → IsMaskOf (IsFillable longer clue) f → IsMaskOf (IsFillable l clue) f
   fillable_alone f pos are = told_mask l clue true _ f pos are (λ i. (
     λ h. let (y, agree, is, at) = ((told_is longer clue true i pos).0 h).1 in
@@ -54,7 +55,7 @@ module _ (l : List Cell) (clue : List ℕ) (m : ℕ) where
     λ h. search (rules, told_is longer clue true i pos, alone true i, length-append),
   ))
 
-  -- and of the line's cells the same are blank in one
+  -- the blankable cells of the padded line that are on the line are the blankable cells of the line
   pub blankable_alone : (b p n : ℕ) → ArePositive clue → IsMaskOf (IsBlankable longer clue) b → IsMaskOf (λ i. i < length l) p
       → IsMaskOf (λ i. Has b i × Has p i) n → IsMaskOf (IsBlankable l clue) n
   blankable_alone b p n pos are first both = told_mask l clue false _ n pos both (λ i. (

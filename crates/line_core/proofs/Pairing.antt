@@ -1,4 +1,4 @@
--- A line that is another one but for one cell, and what a table tells of it.
+-- A line with one more known cell than the line of a lookahead table, and what the table holds for it.
 use Rattle.line_core.proofs.Names.{◌||◌, CellExtends, Extends, Has, ◌≢◌, ◌≤◌, get_or-map-range_with_len, has, has_true, map, range_with_len, certain_by, rules, false, true, Filled, Blank, ArePositive, ◌≡◌, ℕ, ◌<◌, ◌∙◌, Bool, inl, inr, List, None, Some, deduced, length, get_or, set, sym, arith, refl, ap, ext_get_or, length-set, Cell, Unknown, IsMaskOf}
 use Rattle.std.proofs.lemmas.List.{get_or-set_same, get_or-set_other, get_or_default}
 use Rattle.std.proofs.lemmas.Bool.{cases_eq}
@@ -11,7 +11,7 @@ use Rattle.line_core.proofs.Telling.{told-deduced}
 use Rattle.line_core.specs.steps.Pairs.{ArePairs}
 use Rattle.line_core.specs.Told.{told_by}
 
--- if only one cell differs, the line is the other one with the colour there
+-- if only cell `x` differs from another line, the line is the other one with that colour there
 pub one_more : (base line : List Cell) (x m : ℕ) (filled : Bool) → length line ≡ length base → IsMaskOf (IsChanged base line) m
     → IsMaskOf (λ i. i ≡ x) m → get_or line x Unknown ≡ colour filled → line ≡ coloured base x filled
 one_more base line x m filled long changed only at =
@@ -20,10 +20,11 @@ one_more base line x m filled long changed only at =
     each : (i : ℕ) → i < length line → get_or line i Unknown ≡ get_or (set base x (colour filled)) i Unknown
     each i h = elim (cases_eq i x) [
       | inl e ↦ rw e (at ∙ sym (get_or-set_same base x (colour filled) Unknown (omega (arith, h, e, long))))
-      | inr n ↦ same_cells _ _ (λ d. n (only.to i (changed.from i (omega arith, d)))) ∙ sym (get_or-set_other base x i (colour filled) Unknown n)
+      | inr n ↦
+          same_cells _ _ (λ d. n (only.to i (changed.from i (omega arith, d)))) ∙ sym (get_or-set_other base x i (colour filled) Unknown n)
     ]
 
--- a line is a table's with one cell more if only an unknown cell differs, and has a colour
+-- a line has one more known cell than a table's line if only an unknown cell differs, and has a colour now
 pub is_one_more : (t u : Table) (base line : List Cell) (x m : ℕ) (filled : Bool) → u ≡ t → u.line ≡ Some base → length line ≡ length base
     → IsMaskOf (IsChanged base line) m → IsMaskOf (λ i. i ≡ x) m → get_or base x Unknown ≡ Unknown → get_or line x Unknown ≡ colour filled
     → IsOneMore t line
@@ -31,7 +32,7 @@ is_one_more t u base line x m filled same is long changed only unknown known =
     let line_is = one_more base line x m filled long changed only known in
     let inside = (changed.to x (only.from x refl)).0 in search rules
 
--- what a table tells of its line with one cell more is what is certain of that line
+-- the table's support for the line with one more known cell determines what is deduced of that line
 pub told_as : (t u : Table) (clue : List ℕ) (base line : List Cell) (x m : ℕ) (filled : Bool) (pair : PairMasks) (masks : ColourMasks)
     → IsTableOf clue t → u ≡ t → u.line ≡ Some base → get_or u.pairs x pair ≡ pair → x < length u.pairs → masks ≡ masks_if filled pair
     → length line ≡ length base → IsMaskOf (IsChanged base line) m → IsMaskOf (λ i. i ≡ x) m → get_or base x Unknown ≡ Unknown
@@ -41,11 +42,11 @@ told_as t u clue base line x m filled pair masks table same is at inside told lo
     ap (λ (n : ℕ). told_by n masks.fillable masks.blankable) long
     ∙ rw (told, one_more base line x m filled long changed only known) (rw (get_or_default u.pairs x no_pair pair inside ∙ at) at tells)
 
--- a colour is no unknown cell
+-- a cell with a colour is not unknown
 colour_known : (filled : Bool) → colour filled ≡ Unknown → ⊥
 colour_known filled e = search rules
 
--- only the cell that got a colour differs
+-- only the cell that was given a colour differs
 pub only_changed : (t u : Table) (base line : List Cell) (m : ℕ) → u ≡ t → u.line ≡ Some base → (one : IsOneMore t line)
     → IsMaskOf (IsChanged base line) m → IsMaskOf (λ i. i ≡ one.x) m
 only_changed t u base line m same is one changed = (let b = base_is in record {
@@ -63,15 +64,15 @@ only_changed t u base line m same is one changed = (let b = base_is in record {
     base_is : base ≡ one.base
     base_is = (let e = ap (λ (t : Table). t.line) same ∙ one.base_is in cc)
 
--- a cell that isn't known is unknown
+-- a cell that is not known is unknown
 pub not_known : (c : Cell) → false ≡ is_known c → c ≡ Unknown
 not_known c h = search rules
 
--- a table without a line is one of any line
+-- a table without a line is correct for every clue
 pub empty_table : (clue : List ℕ) (t : Table) → t.line ≡ None → IsTableOf clue t
 empty_table clue t none = record { told = λ line is. cc; neutral = λ line filled is. cc }
 
--- the pairs of a line tell of it
+-- lookaheads of a line determine what is deduced of it with each colour at each unknown cell
 pub pairs_tell : (line : List Cell) (clue : List ℕ) (pairs : List PairMasks) → ArePositive clue → 0 < length line
     → ArePairs line clue pairs → TellOf clue line pairs
 pairs_tell line clue pairs pos some is = record { tells = at }
@@ -86,15 +87,16 @@ pairs_tell line clue pairs pos some is = record { tells = at }
         let p = (is x within (get_or_default line x Filled Unknown within ∙ unknown)).blank_is in
         told-deduced (coloured line x false) clue (length line) _ _ pos some (length-set line x Blank) p.fillable_is p.blankable_is
 
--- what pairs tell of a line with a colour at a place, read from the pair there
+-- what is deduced with a colour at cell `x` is determined by the masks that are read from the lookahead there
 pub told_at : (line : List Cell) (clue : List ℕ) (filled : Bool) (pairs : List PairMasks) (x i : ℕ) (pair : PairMasks) (masks : ColourMasks)
     → TellOf clue line pairs → x < length line → get_or line x Unknown ≡ Unknown → i ≡ x → get_or pairs i pair ≡ pair
-    → length line ≤ length pairs → masks ≡ masks_if filled pair → told_by (length line) masks.fillable masks.blankable ≡ deduced (coloured line x filled) clue
+    → length line ≤ length pairs → masks ≡ masks_if filled pair
+    → told_by (length line) masks.fillable masks.blankable ≡ deduced (coloured line x filled) clue
 told_at line clue filled pairs x i pair masks tell inside unknown same at long is =
     rw (is, sym (rw same at at)) (rw (get_or_default pairs x no_pair pair (omega (arith, inside, long))) at
     (tell.tells x filled inside unknown))
 
--- nothing else is certain of a line with a colour if what is told leaves each other unknown cell open
+-- a colour deduces nothing else if the support with it allows both colours at each other unknown cell
 pub nothing_else : (line : List Cell) (clue : List ℕ) (x f b : ℕ) (filled : Bool)
     → told_by (length line) f b ≡ deduced (coloured line x filled) clue → (has f 0 || has b 0) ≡ true
     → ((i : ℕ) → i < length line → i ≢ x → get_or line i Unknown ≡ Unknown → Has f i × Has b i)
@@ -122,9 +124,10 @@ nothing_else line clue x f b filled told alive both = is ∙ ap (λ (cells : Lis
           search (rules, get_or-map-range_with_len, has_true, two)
     ])
 
--- a table of a line, of what pairs tell
+-- a table is correct that holds a line, its lookaheads and its inert cells
 pub table_made : (clue : List ℕ) (line : List Cell) (pairs : List PairMasks) (f b : ℕ) → TellOf clue line pairs
-    → AreNeutral clue line true f → AreNeutral clue line false b → IsTableOf clue (record { line = Some line; pairs = pairs; neutral_filled = f; neutral_blank = b })
+    → AreNeutral clue line true f → AreNeutral clue line false b
+    → IsTableOf clue (record { line = Some line; pairs = pairs; neutral_filled = f; neutral_blank = b })
 table_made clue line pairs f b tell filled blank = record {
   told = λ l is. let e : l ≡ line = cc in rw e tell;
   neutral = λ l colour is. let e : l ≡ line = cc in rw e (search rules);

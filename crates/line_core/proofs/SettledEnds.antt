@@ -1,4 +1,4 @@
--- Settled cells at both ends of a line: what is certain of the line is certain of the cells between them.
+-- Known cells at both ends of a line: what is deduced of the line is what is deduced of the cells between them.
 use Rattle.line_core.proofs.Names.{seen, has_true, true_has, get_or-take, mask_same, has, common_steps, rules, ◌≡◌, ◌↔◌, ℕ, zero, suc, ◌+◌, ◌-◌, ◌<◌, ◌≤◌, Bool, true, false, List, [], ◌∷◌, ◌++◌, length, map, Option, Some, None, refl, sym, ap, ◌∙◌, arith, take, drop, reverse, append_assoc, get_or, append-nil, length-map, length-drop, length-take-le, map-append, Has, IsMaskOf, get_or-reverse, AreLengths, length-reverse, reverse-reverse, ext_get_or, Cell, Unknown, Blank, Extends, colour, is_filled, runs, runs_after, deduced, runs_after-zero, runs_after-true, runs_after-false, runs_after-close, runs_after-nil}
 use Rattle.std.specs.Option.{option_map}
 use Rattle.std.proofs.lemmas.List.{append_cancel_left, drop-drop, take_rest, map-id, take-append-drop, reverse-append}
@@ -33,27 +33,27 @@ runs-reverse x = search (rules, onto-reverse, runs_cut x [], runs_apart (reverse
 
 -- ---- placings
 
--- parts extend parts if the whole extends the whole
+-- if the whole extends the whole, the parts extend the parts
 split : (a b c d : List Cell) → length a ≡ length b → Extends (a ++ c) (b ++ d) → Extends a b × Extends c d
 split [] [] c d e h = (tt, h)
 split (x ∷ a) (y ∷ b) c d e h = search (rules, split a b c d)
 split a b c d e h = search rules
 
--- and back
+-- if the parts extend the parts, the whole extends the whole
 join : (a b c d : List Cell) → Extends a b → Extends c d → Extends (a ++ c) (b ++ d)
 join (x ∷ a) (y ∷ b) c d h k = search (rules, join a b c d)
 join a b c d h k = search rules
 
--- what extends settled cells is the same
+-- what extends known cells equals them
 settled_same : {X : Type 0} (h : X → Cell) (f : List Bool) (x : List X) → Extends (map colour f) (map h x) → map h x ≡ map colour f
 settled_same h (b ∷ f) (c ∷ x) e = search (rules, settled_same h f x)
 settled_same h f x e = search rules
 
--- cells with settled ones before and behind them
+-- a line with the known cells `f` before and `g` after its inner cells
 abbrev pub between : List Bool → List Bool → List Cell → List Cell
 between f g d = map colour f ++ (d ++ map colour g)
 
--- what extends settled cells with others between them has the same settled cells
+-- what extends a line with known ends has the same known ends, and extends its inner cells
 inner : {X : Type 0} (h : X → Cell) (f g : List Bool) (l : List Cell) (x : List X) → Extends (between f g l) (map h x)
     → (y : List X) × (map h x ≡ between f g (map h y)) × Extends l (map h y)
 inner h (b ∷ f) g l (c ∷ x) e = let r = inner h f g l x e.1 in let first : h c ≡ colour b = search rules in (r.0, cc, r.2)
@@ -61,7 +61,7 @@ inner h [] g (b ∷ l) (c ∷ x) e = let r = inner h [] g l x e.1 in (c ∷ r.0,
 inner h [] g [] x e = ([], settled_same h g x e, tt)
 inner h f g l x e = search rules
 
--- what is known between settled cells
+-- if the inner cells extend others, so do the lines with the known ends
 between_more : (f g : List Bool) (o q : Option (List Cell)) → AtMost o q → AtMost (option_map (between f g) o) (option_map (between f g) q)
 between_more f g (Some l) (Some m) h = search (rules, join, Extends-refl)
 between_more f g o q h = search rules
@@ -70,7 +70,7 @@ module _ (f g : List Bool) (l : List Cell) (clue : List ℕ) where
   whole : (y : List Bool) → map colour (f ++ (y ++ g)) ≡ between f g (map colour y)
   whole y = search (rules, map-append)
 
-  -- each placing is one of the cells between with the settled ones
+  -- each placing of the line is the known ends and a full line that extends the inner cells
   inside : (x : List Bool) → Extends (between f g l) (map colour x)
       → (y : List Bool) × (map colour x ≡ between f g (map colour y)) × Extends l (map colour y) × (runs (f ++ (y ++ g)) ≡ runs x)
   inside x h =
@@ -78,7 +78,7 @@ module _ (f g : List Bool) (l : List Cell) (clue : List ℕ) where
       let same : x ≡ f ++ (r.0 ++ g) = full_same _ _ (rw (whole r.0, sym r.1) (Extends-refl (map colour x))) in
       (r.0, r.1, r.2, ap runs (sym same))
 
-  -- if none can be, the line is dead
+  -- if no inner cells complete the known ends to the clue, the line is dead
   dead_between : ((y : List Bool) → runs (f ++ (y ++ g)) ≡ clue → ⊥) → deduced (between f g l) clue ≡ None
   dead_between none = AtMost-antisym _ None tt (deduced-greatest (between f g l) clue None (λ x p.
       let r = inside x p.extends in none r.0 (r.3 ∙ p.runs_are)))
@@ -110,14 +110,14 @@ module _ (f g : List Bool) (l : List Cell) (clue : List ℕ) where
         (split m (map colour y) _ _ (sym (length-Extends l m r.2) ∙ length-Extends l (map colour y) p.extends)
         (split (map colour f) (map colour f) _ _ refl (rw (is, whole y) at (each y p))).1).0)))
 
-    -- what is certain of the line is what is certain of the cells between, with the settled ones
+    -- what is deduced of the line is what is deduced of the inner cells, with the known ends
     deduced_between : deduced (between f g l) clue ≡ option_map (between f g) (deduced l ns)
     deduced_between =
         let line = between f g l in
         AtMost-antisym _ _ (below _ _ (deduced-above line clue) (λ y p. deduced-below line clue _ (outside y p)) (deduced-greatest l ns))
         (deduced-greatest line clue _ (λ x p. above _ x (deduced-below l ns) p))
 
--- ---- settled cells
+-- ---- known ends
 
 blank_is : (c : Cell) → is_blank c ≡ true → c ≡ Blank
 blank_is c e = search rules
@@ -125,8 +125,9 @@ blank_is c e = search rules
 known_is : (c : Cell) → (c ≡ Unknown → ⊥) → is_known c ≡ true
 known_is c e = search rules
 
--- known cells of which the last is blank
-pub settled_is : (l : List Cell) (known last : ℕ) → known ≤ length l → AreKnown l known → is_blank (get_or l last Unknown) ≡ true → last < known
+-- known cells, up to and including the last blank one, are a known end
+pub settled_is : (l : List Cell) (known last : ℕ) → known ≤ length l → AreKnown l known → is_blank (get_or l last Unknown) ≡ true
+    → last < known
     → IsSettled l (last + 1)
 settled_is l known last within are blank low = record {
   within = omega arith;
@@ -134,7 +135,7 @@ settled_is l known last within are blank low = record {
   closed = λ some. let e : last + 1 - 1 ≡ last = omega arith in rw e (blank_is _ blank);
 }
 
--- known cells, seen from the line's other end, of which one is blank, if it is among them
+-- known cells at the other end, up to and including their last blank one, are a known end of the mirrored line
 pub settled_behind : (l : List Cell) (known first : ℕ) → known ≤ length l → AreKnown (reverse l) known
     → (first < known → is_blank (get_or l (first + (length l - known)) Unknown) ≡ true) → IsSettled (reverse l) (known - first)
 settled_behind l known first within are blank = record {
@@ -145,11 +146,12 @@ settled_behind l known first within are blank = record {
       rw (get_or-reverse l (known - first - 1) Unknown (omega arith), e) (blank_is _ (blank (omega arith)));
 }
 
--- what a set tells of a line that is seen from its other end
+-- the mask of a test of the line's cells, on the mirrored line or as it is
 pub seen_told : (t : Bool) (φ : Cell → Bool) (l : List Cell) (len set m : ℕ) → len ≡ length l
     → ((i : ℕ) → i < length l → has set i ≡ φ (get_or l i Unknown)) → ((i : ℕ) → i < len → has m i ≡ has set (seen t len i))
     → (i : ℕ) → i < len → has m i ≡ φ (get_or (turned t l) i Unknown)
-seen_told true φ l len set m e told same i h = rw (get_or-reverse l i Unknown (omega arith), sym e) (same i h ∙ told (len - 1 - i) (omega arith))
+seen_told true φ l len set m e told same i h =
+    rw (get_or-reverse l i Unknown (omega arith), sym e) (same i h ∙ told (len - 1 - i) (omega arith))
 seen_told false φ l len set m e told same i h = same i h ∙ told i (omega arith)
 
 -- which of the first cells are filled
@@ -169,7 +171,7 @@ module _ (l : List Cell) (unknown : ℕ) (u : IsMaskOf (IsUnknownCell l) unknown
   known_before first has least =
       let within = (u.to first has).0 in (omega arith, λ i h. known_is _ (λ e. omega (arith, least i (u.from i (omega arith, e)))))
 
-  -- and those after the last one, seen from the line's other end
+  -- the cells after the last unknown one, from the other end, are known
   pub known_after : (len last : ℕ) → len ≡ length l → ((i : ℕ) → Has unknown i → i ≤ last)
       → (len - 1 - last ≤ length l) × AreKnown (reverse l) (len - 1 - last)
   known_after len last e greatest = (
@@ -179,10 +181,11 @@ module _ (l : List Cell) (unknown : ℕ) (u : IsMaskOf (IsUnknownCell l) unknown
         rw (get_or-reverse l i Unknown (omega arith)) (known_is _ (λ same. omega (arith, greatest k (u.from k (omega arith, same))))),
   )
 
--- ---- the numbers that are left
+-- ---- the numbers of the clue that are left
 
--- no run goes on after settled cells
-pub settled_apart : (l : List Cell) (n : ℕ) → IsSettled l n → (y : List Bool) → runs (filled_first n l ++ y) ≡ runs (filled_first n l) ++ runs y
+-- no run continues from a known end into the cells after it
+pub settled_apart : (l : List Cell) (n : ℕ) → IsSettled l n → (y : List Bool)
+    → runs (filled_first n l ++ y) ≡ runs (filled_first n l) ++ runs y
 settled_apart l zero settled y = refl
 settled_apart l (suc n) settled y =
     let before = map is_filled (take n l) in
@@ -191,15 +194,19 @@ settled_apart l (suc n) settled y =
     rw (take-suc l n Unknown settled.within, rw last at (settled.closed (omega arith)), map-append is_filled) refl in
     rw (e, append_assoc, runs_apart before y, runs_apart before [], append-nil) refl
 
--- cells behind others that are seen from the line's other end
-runs_behind : (b y : List Bool) → ((z : List Bool) → runs (b ++ z) ≡ runs b ++ runs z) → runs (y ++ reverse b) ≡ reverse (runs b ++ reverse (runs y))
+-- the runs of cells with a known end after them, which is given from the other end
+runs_behind : (b y : List Bool) → ((z : List Bool) → runs (b ++ z) ≡ runs b ++ runs z)
+    → runs (y ++ reverse b) ≡ reverse (runs b ++ reverse (runs y))
 runs_behind b y apart =
     let e : y ++ reverse b ≡ reverse (b ++ reverse y) = search (rules, reverse-append, reverse-reverse) in
     rw (e, runs-reverse (b ++ reverse y), apart (reverse y), runs-reverse y) refl
 
--- a list that begins with some elements has the others behind them
+-- a list that begins with `xs` has the rest of its elements after it
 parts : (xs ys all : List ℕ) (n : ℕ) → xs ≡ take n all → (xs ++ ys ≡ all) ↔ (ys ≡ drop n all)
-parts xs ys all n e = (λ is. append_cancel_left xs ys (drop n all) (rw (sym (take-append-drop n all), sym e) at is), λ is. rw (e, is, take-append-drop n all) refl)
+parts xs ys all n e = (
+  λ is. append_cancel_left xs ys (drop n all) (rw (sym (take-append-drop n all), sym e) at is),
+  λ is. rw (e, is, take-append-drop n all) refl,
+)
 
 turned_back : (xs ys : List ℕ) → (reverse xs ≡ ys) ↔ (xs ≡ reverse ys)
 turned_back xs ys = search (rules, reverse-reverse)
@@ -244,27 +251,31 @@ module _ (l : List Cell) (n m : ℕ) (front : IsSettled l n) (back : IsSettled (
             (λ is. turn.0 (behind.0 (first.0 is)) ∙ left, λ is. first.1 (behind.1 (turn.1 (is ∙ sym left)))),
       )
 
--- the numbers of a part of a clue
+-- the numbers of a part of a clue are in the same range
 pub lengths_part : (width n m : ℕ) (clue : List ℕ) → AreLengths width clue → AreLengths width (take n (drop m clue))
 lengths_part width n m clue are =
     record { positive = search (rules, All-take, All-drop, are.positive); short = search (rules, All-take, All-drop, are.short) }
 
 -- ---- the deduced line
 
--- a line with another part
+-- the line with the cells from index `n` on replaced by `p`
 abbrev pub with_cells : ℕ → List Cell → List Cell → List Cell
 with_cells n p l = take n l ++ (p ++ drop (n + length p) l)
 
 known_colour : (c : Cell) → is_known c ≡ true → colour (is_filled c) ≡ c
 known_colour c e = search rules
 
--- the colours of settled cells
+-- the colours of a known end
 settled_colours : (l : List Cell) (n : ℕ) → IsSettled l n → map colour (filled_first n l) ≡ take n l
 settled_colours l n settled =
     let long = length-map (filled_first n l) colour ∙ length-map (take n l) is_filled in
     ext_get_or Unknown _ _ long (λ k h.
     let low : k < n = omega (arith, long, length-take-le n l settled.within) in
-    rw (get_or-map_colour (filled_first n l) k (omega (arith, length-map (filled_first n l) colour)), filled_at n k l low, get_or-take n l k Unknown low)
+    rw (
+      get_or-map_colour (filled_first n l) k (omega (arith, length-map (filled_first n l) colour)),
+      filled_at n k l low,
+      get_or-take n l k Unknown low,
+    )
     (known_colour _ (settled.known k low)))
 
 map_reverse : (x : List Bool) → map colour (reverse x) ≡ reverse (map colour x)
@@ -275,30 +286,33 @@ drop_turned : (n : ℕ) (xs : List Cell) → reverse (take n (reverse xs)) ≡ d
 drop_turned n xs = ext_get_or Unknown _ _ (grind (arith, common_steps, length-reverse)) (λ k h. grind (arith, common_steps, get_or-reverse))
 
 module _ (l : List Cell) (n m : ℕ) (front : IsSettled l n) (back : IsSettled (reverse l) m) (some : n + m < length l) (clue : List ℕ) where
-  -- the cells between settled ones
+  -- the inner cells, between the known ends
   abbrev middle : List Cell
   middle = take (length l - n - m) (drop n l)
 
   pub length-middle : length middle ≡ length l - n - m
   length-middle = omega (arith, length-take-le (length l - n - m) (drop n l), length-drop n l)
 
-  -- others in their place
-  with_between : (d : List Cell) → length d ≡ length middle → with_cells n d l ≡ between (filled_first n l) (reverse (filled_first m (reverse l))) d
+  -- with other inner cells the line still has its known ends
+  with_between : (d : List Cell) → length d ≡ length middle
+      → with_cells n d l ≡ between (filled_first n l) (reverse (filled_first m (reverse l))) d
   with_between d long =
       let at : length l - m ≡ n + length d = omega (arith, length-middle) in
       rw (settled_colours l n front, map_reverse, settled_colours (reverse l) m back, drop_turned, at) refl
 
   deduced_is : deduced l clue ≡ deduced (between (filled_first n l) (reverse (filled_first m (reverse l))) middle) clue
   deduced_is =
-      let itself : with_cells n middle l ≡ l = rw (length-middle, ← drop-drop (length l - n - m) n l, take-append-drop, take-append-drop) refl in
+      let itself : with_cells n middle l ≡ l =
+      rw (length-middle, ← drop-drop (length l - n - m) n l, take-append-drop, take-append-drop) refl in
       ap (λ (w : List Cell). deduced w clue) (sym itself ∙ with_between middle refl)
 
-  -- if no numbers are left for the cells between, the line is dead
+  -- if no numbers are left for the inner cells, the line is dead
   pub open_dead : AreLeft (filled_first n l) (filled_first m (reverse l)) clue None → None ≡ deduced l clue
   open_dead none =
       sym (deduced_is ∙ dead_between (filled_first n l) (reverse (filled_first m (reverse l))) middle clue none)
 
-  module _ (ns : List ℕ) (left : (y : List Bool) → (runs (filled_first n l ++ (y ++ reverse (filled_first m (reverse l)))) ≡ clue) ↔ (runs y ≡ ns)) where
+  module _ (ns : List ℕ) (left : (y : List Bool) → (runs (filled_first n l ++ (y ++ reverse (filled_first m (reverse l)))) ≡ clue)
+      ↔ (runs y ≡ ns)) where
     deduced_as : (o : Option (List Cell)) → o ≡ deduced middle ns
         → option_map (between (filled_first n l) (reverse (filled_first m (reverse l)))) o ≡ deduced l clue
     deduced_as o e =
@@ -306,7 +320,7 @@ module _ (l : List Cell) (n m : ℕ) (front : IsSettled l n) (back : IsSettled (
         let g = reverse (filled_first m (reverse l)) in
         ap (option_map (between f g)) e ∙ sym (deduced_is ∙ deduced_between f g middle clue ns left)
 
-    -- what is certain of them is certain of the line
+    -- if the inner cells are dead, so is the line
     pub open_none : None ≡ deduced middle ns → None ≡ deduced l clue
     open_none e = deduced_as None e
 

@@ -1,4 +1,4 @@
--- What masks of the cells that can be filled, and of those that can be blank, tell of a line.
+-- The support masks of a line determine the deduced line.
 use Rattle.line_core.proofs.Names.{rules, ◌∙◌, ◌≡◌, ℕ, ◌<◌, ◌⊎◌, inl, inr, Bool, true, false, not, ◌&&◌, List, length, get_or, Some, None, refl, arith, ext_get_or, length-map-range_with_len, get_or-map-range_with_len, Cell, Unknown, Has, has, IsMaskOf, has_true, true_has, deduced, IsFillable, IsBlankable, ArePositive, has_by, ◌||◌, cases_Bool, certain_by, told_by, zero-add, placings, shared, false_from_ne_true, or_right, or_left, ◌∷◌, [], ap}
 use Rattle.grid_core.specs.Lines.{cell_with, line_cells}
 use Rattle.grid_core.proofs.LineCells.{line_is}
@@ -9,7 +9,7 @@ use Rattle.line_core.proofs.Certain.{CanBe, Tells, certain_is}
 pub either_first : (f b m : ℕ) → IsMaskOf (λ i. Has f i ⊎ Has b i) m → (has f 0 || has b 0) ≡ has m 0
 either_first f b m p = grind (arith, p.to 0, p.from 0, has_true, true_has, has_by)
 
--- the answer if the first cell can have no colour
+-- if the first cell can have no colour, the line is dead
 pub told_dead : (len f b m : ℕ) → IsMaskOf (λ i. Has f i ⊎ Has b i) m → has m 0 ≡ false → None ≡ told_by len f b
 told_dead len f b m p none = rw (either_first f b m p, none) refl
 
@@ -20,7 +20,7 @@ without_at len f b all d n i l pa pd p = search rules
 told_cell : (f b : Bool) → certain_by f b ≡ cell_with (f && not b) (b && not f)
 told_cell f b = grind arith
 
--- and the answer if it can have one
+-- if the first cell can have a colour, each cell is deduced from the two masks
 pub told_some : (len f b m all df db nf nb : ℕ) → IsMaskOf (λ i. Has f i ⊎ Has b i) m → has m 0 ≡ true → IsMaskOf (λ i. i < len) all
     → IsMaskOf (λ i. Has f i × (has b i ≡ false)) df → IsMaskOf (λ i. Has b i × (has f i ≡ false)) db
     → IsMaskOf (λ i. Has df i × Has all i) nf → IsMaskOf (λ i. Has db i × Has all i) nb → Some (line_cells len nf nb) ≡ told_by len f b
@@ -32,7 +32,7 @@ told_some len f b m all df db nf nb p some pa pf pb qf qb =
 
 -- ---- the deduction
 
--- what the masks of both colours tell is the deduction
+-- what is computed from the support masks is the deduced line
 pub told-deduced : (l : List Cell) (clue : List ℕ) (len f b : ℕ) → ArePositive clue → 0 < len → length l ≡ len
     → IsMaskOf (IsFillable l clue) f → IsMaskOf (IsBlankable l clue) b → told_by len f b ≡ deduced l clue
 told-deduced l clue len f b pos some long fill blank = by (placings l clue) (placings_listed l clue)

@@ -1,10 +1,10 @@
--- The ends of a run in whole placings, and the placings that have them.
+-- The feasible ends of a run and the placings that have them; support by feasible gaps and ends is support by placings.
 use Rattle.line_core.proofs.Names.{Bool, false, ◌↔◌, IsBlankable, IsMaskOf, none_is, ◌≡◌, ℕ, ◌+◌, ◌-◌, ◌<◌, true, List, ◌∷◌, ◌++◌, length, replicate, sym, ap, ◌∙◌, arith, add-one, drop, get_or, drop-cons, Cell, Unknown, agrees, runs, behind, IsWholeEnd, IsFillable, ArePositive, rules}
 use Rattle.line_core.proofs.Certain.{CanBe}
 use Rattle.line_core.proofs.Joining.{filled_agrees, blankable_to, blankable_from, onto, length-agrees, length_behind, onto_behind, onto_agrees, agrees_onto, run_agrees, agrees_span, positive_at, runs_about}
 use Rattle.line_core.proofs.RunStarts.{starts_from, start_of_cut, length-onto, run_of, in_run, covered}
 
--- a run of a placing ends at one of its ends in whole placings
+-- a run of a placing ends at a feasible end
 pub whole_of : (l : List Cell) (clue : List ℕ) (x : List Bool) (k e : ℕ) → agrees l x ≡ true → runs x ≡ clue → k < length clue
     → e + 1 ≡ get_or (starts_from 0 false x) k 0 + get_or clue k 0 → IsWholeEnd l clue k e
 whole_of l clue x k e agree is h at =
@@ -17,7 +17,7 @@ whole_of l clue x k e agree is h at =
     (rw (onto_behind Unknown l s (omega (arith, r.start)), r.whole) agree) in
     let run = run_agrees l c s r.back cut.1 in search (rules, add-one)
 
--- and each such end is one in a placing
+-- for each feasible end there is a placing in which the run ends there
 pub placing_with : (l : List Cell) (clue : List ℕ) (k e : ℕ) → ArePositive clue → k < length clue → IsWholeEnd l clue k e
     → (x : List Bool) × (agrees l x ≡ true) × (runs x ≡ clue) × (get_or (starts_from 0 false x) k 0 ≡ e + 1 - get_or clue k 0)
 placing_with l clue k e pos h ((enough, ((a, agree_a, runs_a, closed_a), cells)), (b, agree_b, runs_b, closed_b)) =
@@ -32,35 +32,35 @@ placing_with l clue k e pos h ((enough, ((a, agree_a, runs_a, closed_a), cells))
     let whole = agrees_onto (behind Unknown l s) (drop s l) a (replicate c true ++ b) agree_a here in
     (onto a (replicate c true ++ b), search (rules, onto_behind), search (rules, runs_about, onto_behind), search (rules, start_of_cut))
 
--- a cell that the masks tell filled is filled in a placing
+-- a cell that is fillable by the feasible ends is filled in a placing
 pub fillable_to : (l : List Cell) (clue : List ℕ) (i : ℕ) → ArePositive clue → IsFillable l clue i → CanBe l clue true i
 fillable_to l clue i pos (j, jl, (z, zb, w)) =
     let x = placing_with l clue j (i + z) pos jl w in (x.0, x.1, x.2, grind (arith, in_run x.0 clue j i x.2 jl, w.0.0))
 
--- and a cell that is filled in a placing is told so
+-- a cell that is filled in a placing is fillable by the feasible ends
 pub fillable_from : (l : List Cell) (clue : List ℕ) (i : ℕ) → CanBe l clue true i → IsFillable l clue i
 fillable_from l clue i (x, agree, is, at) =
     let c = covered x clue i is at in
     let z = get_or (starts_from 0 false x) c.index 0 + get_or clue c.index 0 - 1 - i in
     (c.index, c.inside, (z, omega (arith, c.from, c.to), whole_of l clue x c.index (i + z) agree is c.inside (omega (arith, c.from, c.to))))
 
--- a cell can have a colour, as the masks tell it
+-- a cell can have the colour `v`, by the feasible gaps and ends
 abbrev pub IsTold : List Cell → List ℕ → Bool → ℕ → Type 0
 IsTold l clue true = IsFillable l clue
 IsTold l clue false = IsBlankable l clue
 
--- it can exactly if it has the colour in a placing
+-- a cell can have a colour by the feasible gaps and ends exactly if it has it in some placing
 pub told_is : (l : List Cell) (clue : List ℕ) (v : Bool) (i : ℕ) → ArePositive clue
     → IsTold l clue v i ↔ ((i < length l) × CanBe l clue v i)
 told_is l clue true i pos = (λ h. let x = fillable_to l clue i pos h in (filled_agrees l x.0 i x.1 x.3, x), λ h. fillable_from l clue i h.1)
 told_is l clue false i pos = (λ h. (h.2.0.0, blankable_to l clue i h), λ h. blankable_from l clue i h.0 h.1)
 
--- so a mask of what is so exactly then is the mask of the colour
+-- so a mask of the cells that have a colour in some placing is a support mask of that colour
 pub told_mask : (l : List Cell) (clue : List ℕ) (v : Bool) (P : ℕ → Type 0) (m : ℕ) → ArePositive clue → IsMaskOf P m
     → ((i : ℕ) → P i ↔ ((i < length l) × CanBe l clue v i)) → IsMaskOf (IsTold l clue v) m
 told_mask l clue v P m pos p same = search (rules, told_is)
 
--- and if there is no placing, the mask is empty
+-- if there is no placing, the empty mask is a support mask
 pub none_told : (l : List Cell) (clue : List ℕ) (v : Bool) (m : ℕ) → ArePositive clue → m ≡ 0
     → ((x : List Bool) → agrees l x ≡ true → runs x ≡ clue → ⊥) → IsMaskOf (IsTold l clue v) m
 none_told l clue v m pos e none = none_is _ m e (λ i h. let x = ((told_is l clue v i pos).0 h).1 in none x.0 x.1 x.2)

@@ -1,4 +1,5 @@
--- The definitions that public contracts rest on; those that only private calls need are the steps.
+-- The definitions that public contracts use, and, in `steps`, those that only private contracts
+-- use.
 pub mod Placings
 pub mod Deduction
 pub mod Order

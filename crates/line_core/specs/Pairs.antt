@@ -1,4 +1,4 @@
--- What is certain of a line once one more of its cells is known.
+-- Lookahead: the support of a line after one more of its cells is known, and tables of it.
 use Rattle.std.specs.Prelude.{◌≡◌, ℕ, ◌<◌, ◌≤◌, Bool, true, false, List, [], length, Option, Some, None, slice_set, slice_index_or}
 use Rattle.grid_core.specs.declared.cells.Cell.{Cell}
 use Rattle.grid_core.specs.declared.cells.Cell.TheVariants.{Unknown}
@@ -7,40 +7,44 @@ use Rattle.line_core.specs.Deduction.{deduced}
 use Rattle.line_core.specs.Told.{told_by}
 use Rattle.place_sets.specs.Masks.{Has}
 
--- masks of cells that can be filled, and of cells that can be blank
+-- the bits of a line's support: the cells filled in some placing, and the cells blank in some
 pub record ColourMasks : Type 0 where
   pub fillable : ℕ
   pub blankable : ℕ
 
+-- the empty support
 abbrev pub no_colours : ColourMasks
 no_colours = record { fillable = 0; blankable = 0 }
 
--- what can be if a cell is filled, and if it is blank
+-- the bits of the support of a line after one of its cells is filled, and after it is made blank
 pub record PairMasks : Type 0 where
   pub if_filled : ColourMasks
   pub if_blank : ColourMasks
 
+-- the pair of two empty supports
 abbrev pub no_pair : PairMasks
 no_pair = record { if_filled = no_colours; if_blank = no_colours }
 
--- what can be if a cell has a colour
+-- the support after the cell is filled if the first argument is true, or else after it is made
+-- blank
 abbrev pub masks_if : Bool → PairMasks → ColourMasks
 masks_if true pair = pair.if_filled
 masks_if false pair = pair.if_blank
 
--- the line with a colour at a place
+-- the line with cell `k` filled if `filled`, or else blank
 abbrev pub coloured : List Cell → ℕ → Bool → List Cell
 coloured line k filled = slice_set line k (colour filled)
 
--- a table: its line, if it has one, for each cell what can be with a colour there, and masks of cells with which,
--- filled or blank, nothing else is certain
+-- a lookahead table: its line, if it has one; for each cell the support after it is filled and
+-- after it is made blank; and the bits of the inert cells, those that can be filled, or made blank,
+-- without anything else being deduced
 pub record Table : Type 0 where
   pub line : Option (List Cell)
   pub pairs : List PairMasks
   pub neutral_filled : ℕ
   pub neutral_blank : ℕ
 
--- the neutral cells of a colour
+-- the cells that are inert when filled if the first argument is true, or else when blank
 abbrev pub neutral_if : Bool → Table → ℕ
 neutral_if true table = table.neutral_filled
 neutral_if false table = table.neutral_blank
@@ -49,28 +53,40 @@ neutral_if false table = table.neutral_blank
 abbrev pub no_table : Table
 no_table = record { line = None; pairs = []; neutral_filled = 0; neutral_blank = 0 }
 
--- there is room for lines of `width` cells, and what can be with each cell of the line
-pub record IsTableIn (width : ℕ) (its_line : Option (List Cell)) (pairs : List PairMasks) (room : ℕ) : Type 0 where
+-- the memory of a table suffices for lines of `width` cells, and there is an entry for each cell of
+-- its line
+pub record IsTableIn
+    (width : ℕ) (its_line : Option (List Cell))
+    (pairs : List PairMasks) (room : ℕ) : Type 0 where
   pub fits : width ≤ room
   pub written : (line : List Cell) → its_line ≡ Some line → length line ≤ length pairs
 
--- for each unknown cell of a line and each colour pairs tell what is certain of the line with it
-pub record TellOf (clue : List ℕ) (line : List Cell) (pairs : List PairMasks) : Type 0 where
-  pub tells : (x : ℕ) (filled : Bool) → x < length line → slice_index_or line x Unknown ≡ Unknown
+-- for each unknown cell of `line` and each colour, `pairs` have a support by which the line with
+-- that colour there is deduced
+pub record TellOf
+    (clue : List ℕ) (line : List Cell) (pairs : List PairMasks) : Type 0 where
+  pub tells : (x : ℕ) (filled : Bool)
+      → x < length line → slice_index_or line x Unknown ≡ Unknown
       → (let masks = masks_if filled (slice_index_or pairs x no_pair) in
-      told_by (length line) masks.fillable masks.blankable ≡ deduced (coloured line x filled) clue)
+      told_by (length line) masks.fillable masks.blankable
+      ≡ deduced (coloured line x filled) clue)
 
--- nothing else is certain of a line with a colour at one of these cells, if it is unknown
+-- each unknown cell of `line` that is in `cells` is inert: once it is filled, if `filled`, or else
+-- made blank, nothing else is deduced
 pub record AreNeutral (clue : List ℕ) (line : List Cell) (filled : Bool) (cells : ℕ) : Type 0 where
-  pub nothing_else : (x : ℕ) → x < length line → slice_index_or line x Unknown ≡ Unknown → Has cells x
+  pub nothing_else : (x : ℕ) → x < length line → slice_index_or line x Unknown ≡ Unknown
+      → Has cells x
       → deduced (coloured line x filled) clue ≡ Some (coloured line x filled)
 
--- a table's pairs and its neutral cells are those of its line
+-- the supports and the inert cells of `table` are those of its line and of `clue`
 pub record IsTableOf (clue : List ℕ) (table : Table) : Type 0 where
-  pub told : (line : List Cell) → table.line ≡ Some line → TellOf clue line table.pairs
-  pub neutral : (line : List Cell) (filled : Bool) → table.line ≡ Some line → AreNeutral clue line filled (neutral_if filled table)
+  pub told : (line : List Cell) → table.line ≡ Some line
+      → TellOf clue line table.pairs
+  pub neutral : (line : List Cell) (filled : Bool) → table.line ≡ Some line
+      → AreNeutral clue line filled (neutral_if filled table)
 
--- a line is that of a table but for one unknown cell, which has a colour
+-- `line` is the line of `table`, but for cell `x`, which is unknown in that one, and known in
+-- `line`
 pub record IsOneMore (table : Table) (line : List Cell) : Type 0 where
   pub base : List Cell
   pub x : ℕ

@@ -1,9 +1,9 @@
--- How many places sets have.
+-- The number of indices of each set width.
 use Rattle.std.specs.Prelude.{ℕ}
 use Rattle.line_core.specs.declared.widths.Width.{Width}
 use Rattle.line_core.specs.declared.widths.Width.TheVariants.{Narrow, Middle, Wide}
 
--- how many places sets of a width have
+-- the number of indices of the sets of a width
 abbrev pub places_of : Width → ℕ
 places_of Narrow = 64
 places_of Middle = 128

@@ -1,4 +1,4 @@
--- The definitions that only private calls need.
+-- The definitions that only private contracts use.
 pub mod Full
 pub mod Lone
 pub mod Outermost

@@ -1,4 +1,4 @@
-//! What can be on a line before a gap between its runs, once one of its cells has a colour.
+//! Prefix supports: the support of the cells up to a gap, given that gap.
 
 ghost use Rattle.std.specs.Prelude.{◌≡◌, ◌+◌, ◌-◌, ◌*◌, ◌<◌, ◌≤◌, ◌⊎◌, ℕ, List, [], ◌∷◌, false, length, map, slice_index_or, true};
 ghost use Rattle.grid_core.specs.declared.cells.Cell.{Cell};
@@ -17,10 +17,12 @@ use crate::spans::Span;
 use grid_core::MOST_RUNS;
 use place_sets::{PlaceSet, first_places, windows_within};
 
-/// How many places of the table the gaps after the same runs have.
+/// The number of entries in a row of a table of prefix supports: one for each index of a gap on a
+/// line of at most 128 cells. The table has one row for each number of runs before the gap.
 pub const ROW: usize = 128;
 
-/// Writes the gaps before each run and after the last one, and the ends of each run, in whole placings.
+/// Writes the feasible gaps of a line, before each run and after the last one, and the feasible
+/// ends of each run. `ahead` is a buffer for the suffix gaps.
 pub fn write_wholes<W: PlaceSet>(
     span: &Span<W>,
     clue: &[u16],
@@ -29,7 +31,8 @@ pub fn write_wholes<W: PlaceSet>(
     ends: &mut [W::Kept; GAPS],
 )
     ghost line: { List Cell }
-    requires span { IsSpanOf W.WIDTH line span.now.len (W.number span.now.free) (W.number span.now.room) }
+    requires span { IsSpanOf W.WIDTH line span.now.len
+        (W.number span.now.free) (W.number span.now.room) }
     requires clue { AreLengths W.WIDTH clue.now }
     requires count { length clue.now ≤ MOST_RUNS }
     ensures gaps { AreWholeGaps line clue.now (map W.kept_number gaps.new) }
@@ -50,8 +53,8 @@ pub fn write_wholes<W: PlaceSet>(
     }
 }
 
-/// Some adjacent cells of a line of `len` cells by their places as they are seen, from the line's other end
-/// or not: as many first places are shifted there.
+/// Returns the indices `first..first + count`, or, if `TURNED`, these mirrored within the first
+/// `len` indices, by a shift of `places`, the first `count` indices.
 fn seen_cells<W: PlaceSet, const TURNED: bool>(len: u16, first: u16, count: u16, places: W) -> W
     requires len { len ≤ W.WIDTH }
     requires count { (0 < count) × (first + count ≤ len) }
@@ -62,8 +65,9 @@ fn seen_cells<W: PlaceSet, const TURNED: bool>(len: u16, first: u16, count: u16,
     places.shifted_up(from)
 }
 
-/// The colours before a gap, as far as a longer gap gives them: its own cell is blank, and the others can be
-/// what they can before the last gap, if that is one cell before.
+/// Returns the part of the support of the cells up to the gap at `place` for which no run ends
+/// right before the gap: its own cell is blank, and, if `longer` has `place`, the cells before have
+/// the prefix support `last` of the gap one cell before.
 fn colours_in_gap<W: PlaceSet, const TURNED: bool>(
     len: u16,
     place: u16,
@@ -72,7 +76,8 @@ fn colours_in_gap<W: PlaceSet, const TURNED: bool>(
 ) -> Colours<W>
     requires len { len ≤ W.WIDTH }
     requires place { place < len }
-    ensures { AreMasks (λ filled k. ((filled ≡ false) × IsSeenIn TURNED len place (place + 1) k)
+    ensures { AreMasks (λ filled k.
+        ((filled ≡ false) × IsSeenIn TURNED len place (place + 1) k)
         ⊎ (Has (W.number longer) place × HasColour last.now filled k)) result }
 {
     let own = Colours {
@@ -86,12 +91,14 @@ fn colours_in_gap<W: PlaceSet, const TURNED: bool>(
     }
 }
 
-/// The colours with a run that starts at a place: its own cells are filled, and the others can be what they can
-/// before the gap before it.
+/// Returns the support of the cells up to the end of a run that starts at `start`: those of `run`
+/// are filled, and the cells before have the prefix support of the gap right before it, from the
+/// row `before`.
 pub fn run_and_before<W: PlaceSet>(start: u16, run: W, before: &[Colours<W>]) -> Colours<W>
     requires { start ≤ length before.now }
     ensures { AreMasks (λ filled k. ((filled ≡ true) × Has (W.number run) k)
-        ⊎ ((0 < start) × HasColour (slice_index_or before.now (start - 1) no_colours) filled k)) result }
+        ⊎ ((0 < start) × HasColour (slice_index_or before.now (start - 1) no_colours) filled k))
+        result }
 {
     let own = Colours {
         fillable: run,
@@ -103,7 +110,9 @@ pub fn run_and_before<W: PlaceSet>(start: u16, run: W, before: &[Colours<W>]) ->
     own.with(&before[usize::from(start - 1)])
 }
 
-/// The colours before a gap: those in the gap, and what a run gives if it ends right before the gap.
+/// Returns the support of the cells up to the gap at `place`: `in_gap`, that without a run right
+/// before the gap, and, if `place` is in `ended`, the support given a run of `number` cells that
+/// ends right before it.
 fn colours_before<W: PlaceSet, const TURNED: bool>(
     in_gap: Colours<W>,
     len: u16,
@@ -119,8 +128,11 @@ fn colours_before<W: PlaceSet, const TURNED: bool>(
     requires places { IsMaskOf (λ i. i < number) (W.number places) }
     requires ended { Has (W.number ended) place → number ≤ place }
     requires before { place ≤ length before.now }
-    ensures { AreMore (λ filled k. Has (W.number ended) place × (((filled ≡ true) × IsSeenIn TURNED len (place - number) place k)
-        ⊎ ((number < place) × HasColour (slice_index_or before.now (place - number - 1) no_colours) filled k))) in_gap result }
+    ensures { AreMore (λ filled k. Has (W.number ended) place
+        × (((filled ≡ true) × IsSeenIn TURNED len (place - number) place k)
+        ⊎ ((number < place)
+        × HasColour (slice_index_or before.now (place - number - 1) no_colours) filled k)))
+        in_gap result }
 {
     if !ended.contains(place) {
         return in_gap;
@@ -130,7 +142,8 @@ fn colours_before<W: PlaceSet, const TURNED: bool>(
     in_gap.with(&run_and_before(start, run, before))
 }
 
-/// Writes the colours before each gap of whole placings that has no run before it.
+/// Writes the prefix support of each feasible gap before the first run: all cells up to the gap are
+/// blank.
 #[tactic(auto, using(crate::proofs::GapRows::walks))]
 fn write_first<W: PlaceSet, const TURNED: bool>(len: u16, gaps: W, row: &mut [Colours<W>])
     ghost line: { List Cell }
@@ -138,7 +151,8 @@ fn write_first<W: PlaceSet, const TURNED: bool>(len: u16, gaps: W, row: &mut [Co
     requires short { length line ≤ 128 }
     requires gaps { (i : ℕ) → Has (W.number gaps) i → IsGapAfter line [] i }
     requires room { length line ≤ length row.old }
-    ensures row { (i : ℕ) → Has (W.number gaps) i → AreColoursBefore TURNED line [] i (slice_index_or row.new i no_colours) }
+    ensures row { (i : ℕ) → Has (W.number gaps) i
+        → AreColoursBefore TURNED line [] i (slice_index_or row.new i no_colours) }
     ensures count { length row.new ≡ length row.old }
 {
     let mut left = gaps;
@@ -152,8 +166,8 @@ fn write_first<W: PlaceSet, const TURNED: bool>(len: u16, gaps: W, row: &mut [Co
     }
 }
 
-/// Writes the colours before each gap of whole placings after run j into the second of two rows, of which the first
-/// has those before the gaps before the run.
+/// Writes the prefix support of each feasible gap after run `j` to the second row of `rows`. The
+/// first row has those of the gaps before the run.
 #[tactic(auto, using(crate::proofs::GapRows::walks))]
 fn write_row<W: PlaceSet, const TURNED: bool>(
     len: u16,
@@ -173,7 +187,8 @@ fn write_row<W: PlaceSet, const TURNED: bool>(
     requires before { IsRow TURNED line clue.now j 0 rows.old }
     requires room { 256 ≤ length rows.old }
     ensures row { IsRow TURNED line clue.now (j + 1) 128 rows.new }
-    ensures before { (k : ℕ) → k < 128 → slice_index_or rows.new k no_colours ≡ slice_index_or rows.old k no_colours }
+    ensures before { (k : ℕ) → k < 128
+        → slice_index_or rows.new k no_colours ≡ slice_index_or rows.old k no_colours }
     ensures count { length rows.new ≡ length rows.old }
 {
     let number = clue[j];
@@ -181,6 +196,8 @@ fn write_row<W: PlaceSet, const TURNED: bool>(
     let ended = ends.shifted_up(1);
     let (before, row) = rows.split_at_mut(ROW);
     let places = first_places::<W>(number);
+    // From left to right: a gap right after another one takes over the prefix support of that one,
+    // which is `last` then.
     let mut last = Colours::none();
     let mut left = gaps;
     while !left.is_empty() {
@@ -192,8 +209,9 @@ fn write_row<W: PlaceSet, const TURNED: bool>(
     }
 }
 
-/// Writes for each gap of whole placings the colours that cells up to it can have together with it, by their places
-/// as they are seen.
+/// Writes, for each number of runs and each feasible gap after them, the support of the cells up to
+/// that gap, given that gap. If `TURNED`, the gaps are those of the mirrored line; the cells keep
+/// their own indices.
 pub fn write_before<W: PlaceSet, const TURNED: bool>(
     len: u16,
     clue: &[u16],

@@ -1,4 +1,4 @@
-//! What is certain of a line.
+//! Deduction: finds the cells of a line that have the same colour in all placings.
 
 ghost use Rattle.std.specs.Prelude.{◌≡◌, ◌<◌, ◌≤◌, List, Some, length, map, vec_capacity, IfOk, All};
 ghost use Rattle.grid_core.specs.declared.cells.Cell.{Cell};
@@ -26,10 +26,12 @@ use place_sets::{LEVELS, PlaceSet, Wide, add_spread, first_places, spread_levels
 use std::alloc::Global;
 use std::marker::Model;
 
-/// The cells that are filled in some placing, and those that are blank in some.
+/// Returns the cells that are filled in some placing, and the cells that are blank in some, by a
+/// prefix scan of the line. `gaps` are its suffix gaps, as `write_gaps_ahead` writes them.
 fn possible_colours<W: PlaceSet>(span: &Span<W>, clue: &[u16], gaps: &[W::Kept; GAPS]) -> (W, W)
     ghost line: { List Cell }
-    requires span { IsSpanOf W.WIDTH line span.now.len (W.number span.now.free) (W.number span.now.room) }
+    requires span { IsSpanOf W.WIDTH line span.now.len
+        (W.number span.now.free) (W.number span.now.room) }
     requires clue { AreLengths W.WIDTH clue.now }
     requires count { length clue.now ≤ MOST_RUNS }
     requires ahead { AreGapsAhead line clue.now (map W.kept_number gaps.now) }
@@ -42,7 +44,11 @@ fn possible_colours<W: PlaceSet>(span: &Span<W>, clue: &[u16], gaps: &[W::Kept; 
     if clue.is_empty() {
         return (W::empty(), blankable);
     }
+    // The ends of each run are collected by its length, and all are extended to whole runs at once
+    // in the end.
     let mut spread = [W::empty(); LEVELS];
+    // The last run is scanned after the loop: only it may end at the last cell of the line, and the
+    // others are spared the test for that.
     let last = clue.len() - 1;
     for j in 0..last {
         let ends = pass.step(&windows, clue[j]);
@@ -59,11 +65,12 @@ fn possible_colours<W: PlaceSet>(span: &Span<W>, clue: &[u16], gaps: &[W::Kept; 
     (spread_levels(&mut spread), blankable)
 }
 
-/// The cells that are filled in some placing, and those that are blank in some,
-/// with room for the gaps of the runs.
+/// Returns the cells that are filled in some placing, and the cells that are blank in some, of any
+/// line. `gaps` is a buffer for the suffix gaps.
 fn known_colours<W: PlaceSet>(span: &Span<W>, clue: &[u16], gaps: &mut [W::Kept; GAPS]) -> (W, W)
     ghost line: { List Cell }
-    requires span { IsSpanOf W.WIDTH line span.now.len (W.number span.now.free) (W.number span.now.room) }
+    requires span { IsSpanOf W.WIDTH line span.now.len
+        (W.number span.now.free) (W.number span.now.room) }
     requires clue { AreLengths W.WIDTH clue.now }
     requires count { length clue.now ≤ MOST_RUNS }
     ensures filled { IsMaskOf (IsFillable line clue.now) (W.number result.0) }
@@ -76,10 +83,14 @@ fn known_colours<W: PlaceSet>(span: &Span<W>, clue: &[u16], gaps: &mut [W::Kept;
     possible_colours(span, clue, gaps)
 }
 
-/// The same, of which a line whose cells are all unknown, or all known, needs no pass, and others are padded.
+/// Returns the cells that are filled in some placing, and the cells that are blank in some. Lines
+/// whose cells are all unknown or all known are computed directly; any other line is padded to the
+/// width of the sets, and scanned unless its clue is a single run. `gaps` is a buffer for the
+/// suffix gaps.
 pub fn colours<W: PlaceSet>(span: &Span<W>, clue: &[u16], gaps: &mut [W::Kept; GAPS]) -> (W, W)
     ghost line: { List Cell }
-    requires span { IsSpanOf W.WIDTH line span.now.len (W.number span.now.free) (W.number span.now.room) }
+    requires span { IsSpanOf W.WIDTH line span.now.len
+        (W.number span.now.free) (W.number span.now.room) }
     requires clue { AreLengths W.WIDTH clue.now }
     requires count { length clue.now ≤ MOST_RUNS }
     ensures filled { IsMaskOf (IsFillable line clue.now) (W.number result.0) }
@@ -91,16 +102,20 @@ pub fn colours<W: PlaceSet>(span: &Span<W>, clue: &[u16], gaps: &mut [W::Kept; G
     if is_full(span) {
         return full_colours(span, clue);
     }
+    // A padded line is mirrored without a shift. The appended cells are blank in each placing, so
+    // they have to be removed from the second set only.
     let (fillable, blankable) = known_colours(&padded(span), clue, gaps);
     (fillable, blankable.intersection(first_places(span.len)))
 }
 
-/// What is certain of a line, from the cells that can be filled and those that can be blank:
-/// none if the first can be neither.
+/// Returns the line of `len` cells in which each cell that is in just one of the sets has its
+/// colour, and any other cell is unknown: the deduced line, if the sets are the cells that are
+/// filled, and blank, in some placing. Returns `None` if the first cell is in neither set.
 pub fn certain<W: PlaceSet>(len: u16, fillable: W, blankable: W) -> Option<LineOf<W>>
     requires { (1 ≤ len) × (len ≤ W.WIDTH) }
     ensures { result ≡ told_by len (W.number fillable) (W.number blankable) }
 {
+    // In a placing the first cell has a colour, so if it can take none there is no placing.
     if !fillable.union(blankable).contains(0) {
         return None;
     }
@@ -110,8 +125,8 @@ pub fn certain<W: PlaceSet>(len: u16, fillable: W, blankable: W) -> Option<LineO
     Some(LineOf::of_sets(len, filled, blank))
 }
 
-/// What is certain of a line, given the numbers of its clue, with room for the gaps of the runs:
-/// what all placings share, or none if there is no placing.
+/// Returns the deduced line for the numbers of a clue, or `None` if there is no placing. The vector
+/// is the buffer for the suffix gaps, which is initialized on first use.
 fn deduce_numbers<W: PlaceSet>(
     room: &mut Vec<[W::Kept; GAPS]>,
     line: &LineOf<W>,
@@ -131,7 +146,9 @@ fn deduce_numbers<W: PlaceSet>(
     certain(span.len, fillable, blankable)
 }
 
-/// What is certain of a part of a line, by sets of 64 places if they have room for it and for the clue's numbers.
+/// Returns the deduced line, or `None` if there is no placing. Uses sets of 64 indices if these
+/// hold the line and the numbers of the clue, and sets of type `W` if not; the two vectors are the
+/// gap buffers of these sets.
 fn deduce_part<W: PlaceSet>(
     narrow: &mut Vec<[u64; GAPS]>,
     room: &mut Vec<[W::Kept; GAPS]>,
@@ -155,7 +172,8 @@ fn deduce_part<W: PlaceSet>(
     }
 }
 
-/// What is certain of a line, found on its cells between the settled ones at both ends, if these are worth cutting off.
+/// Returns the deduced line, or `None` if there is no placing. Trims the known cells at both ends
+/// first, if there are enough of them, and deduces the cells between them alone.
 fn deduce_open<W: PlaceSet>(
     narrow: &mut Vec<[u64; GAPS]>,
     room: &mut Vec<[W::Kept; GAPS]>,
@@ -175,6 +193,7 @@ fn deduce_open<W: PlaceSet>(
         return deduce_numbers(room, line, clue);
     }
     let (from, to) = open_numbers(line, front, back, clue)?;
+    // What remains may fit into sets of 64 indices, on which each operation costs less.
     let open = line.part(front, line.len() - front - back);
     match deduce_part(narrow, room, &open, &clue[from..to]) {
         None => None,
@@ -182,7 +201,7 @@ fn deduce_open<W: PlaceSet>(
     }
 }
 
-/// The room that deducing takes, for lines up to a length.
+/// The buffers for deducing lines of at most `longest` cells. Contracts see them as that length.
 #[derive(Drop)]
 pub struct Tables {
     longest: u16,
@@ -198,7 +217,8 @@ impl Model for Tables {
 }
 
 impl Tables {
-    /// Tables for lines of at most `longest` cells, 1 to 256.
+    /// Allocates the buffers for lines of at most `longest` cells, 1 to 256. Returns `NoMemory` if
+    /// an allocation fails.
     pub fn new(alloc: Global, longest: u16) -> Result<Tables, NoMemory>
         requires { (1 ≤ longest) × (longest ≤ LONGEST_SIDE) }
         ensures { IfOk result (λ tables. tables ≡ longest) }
@@ -210,7 +230,8 @@ impl Tables {
     }
 }
 
-/// What is certain of a line, given its clue, whose numbers are no greater than its sets have places.
+/// Returns the deduced line, or `None` if there is no placing. No number of the clue may exceed the
+/// width of the sets. The vector is the gap buffer of that width.
 fn deduce_within<W: PlaceSet>(
     room: &mut Vec<[W::Kept; GAPS]>,
     line: &LineOf<W>,
@@ -224,8 +245,9 @@ fn deduce_within<W: PlaceSet>(
     deduce_numbers(room, line, clue.numbers())
 }
 
-/// Writes for each unknown cell of a line of at most 128 cells and each colour what can be on the line with that
-/// colour there.
+/// Writes, for each unknown cell of a line of at most 128 cells, the line's support after that cell
+/// is filled and after it is made blank. `ahead` is the gap buffer. The entries of known cells are
+/// unspecified.
 fn write_pairs_within<W: PlaceSet>(
     ahead: &mut Vec<[W::Kept; GAPS]>,
     room: &mut PairRoom<W>,
@@ -247,17 +269,19 @@ fn write_pairs_within<W: PlaceSet>(
     room.write_pairs(line, clue.numbers(), &mut ahead[0], pairs);
 }
 
-/// Sets that lines are kept in and deduced by.
+/// A bit set in which lines are stored and deduced.
 pub trait LineSet: PlaceSet {
-    /// What is certain of a line, given its clue, whose numbers are no greater than the sets have places:
-    /// what all placings share, or none if there is no placing.
+    /// Returns the line in which each cell has the colour that all placings share, and is unknown
+    /// if they differ; `None` if there is no placing. No number of `clue` may exceed the width of
+    /// the sets.
     fn deduce(tables: &mut Tables, line: &LineOf<Self>, clue: &Clue) -> Option<LineOf<Self>>
         requires { All (λ number. number ≤ Self.WIDTH) clue.now }
         ensures answer { result ≡ deduced line.now clue.now }
         ensures room { tables.new ≡ tables.old };
 
-    /// Writes for each unknown cell of a line of at most 128 cells and each colour what can be on the line with that
-    /// colour there, given the line's clue, whose numbers are no greater than the sets have places.
+    /// Writes, for each unknown cell of `line`, the support of the line after that cell is filled
+    /// and after it is made blank. The line has at most 128 cells, and no number of `clue` may
+    /// exceed the width of the sets. The entries of known cells are unspecified.
     fn write_pairs(
         tables: &mut Tables,
         room: &mut PairRoom<Self>,
@@ -325,7 +349,8 @@ impl LineSet for Wide {
     }
 }
 
-/// What is certain of a line, by sets that have room for it and for the clue's numbers.
+/// Returns the deduced line, or `None` if there is no placing, using sets of type `W`, which have
+/// to hold the line and the numbers of the clue.
 fn deduce_as<W: LineSet>(tables: &mut Tables, line: &Line, clue: &Clue) -> Option<Line>
     requires line { length line.now ≤ W.WIDTH }
     requires clue { All (λ number. number ≤ W.WIDTH) clue.now }
@@ -340,8 +365,10 @@ fn deduce_as<W: LineSet>(tables: &mut Tables, line: &Line, clue: &Clue) -> Optio
     }
 }
 
-/// What is certain of a line, given its clue: what all placings share, or none if there is no placing.
-/// It is found by the narrowest sets that have room for both.
+/// Returns the line in which each cell has the colour that all placings of `clue` on `line` share,
+/// and is unknown if they differ; `None` if there is no placing. Uses the narrowest sets that hold
+/// both the line and the numbers of the clue. The line may have no more cells than `tables` was
+/// made for.
 pub fn deduce(tables: &mut Tables, line: &Line, clue: &Clue) -> Option<Line>
     requires { length line.now ≤ tables.old }
     ensures answer { result ≡ deduced line.now clue.now }

@@ -1,4 +1,5 @@
-//! Deduction on a line whose cells are all known: its runs are the clue's, or it has no placing.
+//! Deduction of a line whose cells are all known: it is its own placing if its runs are the clue,
+//! and has none otherwise.
 
 ghost use Rattle.std.specs.Prelude.{◌≡◌, ◌<◌, ◌≤◌, ◌↔◌, IsTrue, Bool, List, length, slice_index_or};
 ghost use Rattle.grid_core.specs.declared.cells.Cell.{Cell};
@@ -11,17 +12,19 @@ ghost use Rattle.line_core.specs.steps.Reach.{AreLengths, IsFillable, IsBlankabl
 use crate::spans::Span;
 use place_sets::{PlaceSet, first_places};
 
-/// Whether all cells of a line are known: none of those that may be blank may be filled.
+/// Reports whether all cells of a line are known: no cell can still take both colours.
 #[tactic(auto, using(crate::proofs::LineCells::none_in, crate::proofs::LineCells::none_has))]
 pub fn is_full<W: PlaceSet>(span: &Span<W>) -> bool
     ghost line: { List Cell }
-    requires { IsSpanOf W.WIDTH line span.now.len (W.number span.now.free) (W.number span.now.room) }
+    requires { IsSpanOf W.WIDTH line span.now.len
+        (W.number span.now.free) (W.number span.now.room) }
     ensures { IsTrue result ↔ IsFull line }
 {
     span.free.intersection(span.room).is_empty()
 }
 
-/// Number j of a clue, counted from the clue's other end or not.
+/// Returns number `j` of `clue`, counted from 0 at its first number, or, if `TURNED`, at its last
+/// one.
 fn number_seen<const TURNED: bool>(clue: &[u16], j: usize) -> u16
     requires { j < length clue.now }
     ensures { result ≡ slice_index_or (turned TURNED clue.now) j 0 }
@@ -33,12 +36,13 @@ fn number_seen<const TURNED: bool>(clue: &[u16], j: usize) -> u16
     }
 }
 
-/// How many of a clue's first numbers are the lengths of the runs of filled cells, all seen from the line's other
-/// end or not; none if these aren't how the clue begins. Each run that is passed is taken away: if it has another
-/// length, a cell is left within it or next to it, before the next run can start.
+/// Compares the runs of `filled` with the first numbers of `clue`, or, if `TURNED`, with its last
+/// ones in reverse order. Returns how many runs there are, or `None` if they are not the beginning
+/// of the clue.
 pub fn passed_runs<W: PlaceSet, const TURNED: bool>(filled: W, clue: &[u16]) -> Option<usize>
     requires { AreLengths W.WIDTH clue.now }
-    ensures { (cells : List Bool) → IsMaskOf (IsFilled cells) (W.number filled) → ArePassed cells (turned TURNED clue.now) result }
+    ensures { (cells : List Bool) → IsMaskOf (IsFilled cells) (W.number filled)
+        → ArePassed cells (turned TURNED clue.now) result }
 {
     let mut left = filled;
     let mut least = 0;
@@ -51,6 +55,8 @@ pub fn passed_runs<W: PlaceSet, const TURNED: bool>(filled: W, clue: &[u16]) -> 
             return None;
         }
         let number = number_seen::<TURNED>(clue, j);
+        // Flips as many cells as the number demands, which clears the run. If its length differs, a
+        // cell remains at or below index `number`, where the next run may not start.
         left = left
             .shifted_down(start)
             .symmetric_difference(first_places(number));
@@ -62,7 +68,7 @@ pub fn passed_runs<W: PlaceSet, const TURNED: bool>(filled: W, clue: &[u16]) -> 
     Some(clue.len())
 }
 
-/// Whether the runs of a line's filled cells have the lengths that a clue tells.
+/// Reports whether the lengths of the runs of `filled` are exactly the numbers of `clue`.
 fn has_runs<W: PlaceSet>(filled: W, clue: &[u16]) -> bool
     ghost cells: { List Bool }
     requires cells { IsMaskOf (IsFilled cells) (W.number filled) }
@@ -75,11 +81,13 @@ fn has_runs<W: PlaceSet>(filled: W, clue: &[u16]) -> bool
     }
 }
 
-/// The cells that are filled in some placing, and those that are blank in some, on a line whose cells are all
-/// known: as they are, if its runs are the clue's.
+/// Returns the cells that are filled in some placing, and the cells that are blank in some, of a
+/// line whose cells are all known: its filled and its blank cells if its runs are the clue, and no
+/// cells otherwise.
 pub fn full_colours<W: PlaceSet>(span: &Span<W>, clue: &[u16]) -> (W, W)
     ghost line: { List Cell }
-    requires span { IsSpanOf W.WIDTH line span.now.len (W.number span.now.free) (W.number span.now.room) }
+    requires span { IsSpanOf W.WIDTH line span.now.len
+        (W.number span.now.free) (W.number span.now.room) }
     requires clue { AreLengths W.WIDTH clue.now }
     requires full { IsFull line }
     ensures filled { IsMaskOf (IsFillable line clue.now) (W.number result.0) }

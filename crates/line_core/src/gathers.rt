@@ -1,5 +1,5 @@
-//! What can be on a line with a cell of some colour, gathered from what is told before and after each gap and each run
-//! of whole placings.
+//! Combines the prefix supports of a line and of the mirrored line into the support of the line
+//! after each of its unknown cells is filled or made blank.
 
 ghost use Rattle.std.specs.Prelude.{◌≡◌, ◌+◌, ◌*◌, ◌<◌, ◌≤◌, ℕ, List, length, map, slice_index_or, true, false};
 ghost use Rattle.grid_core.specs.declared.cells.Cell.{Cell};
@@ -15,7 +15,8 @@ use crate::reach::GAPS;
 use grid_core::MOST_RUNS;
 use place_sets::{PlaceSet, first_places};
 
-/// Adds colours to what can be with each cell from one up to another one, which has a colour.
+/// Adds `colours` to the lookahead of each cell in `from..to`: to the support after that cell is
+/// filled, if `filled`, and otherwise to the one after it is made blank.
 fn add_to_each<W: PlaceSet>(
     pairs: &mut [Pair<W>],
     filled: bool,
@@ -24,14 +25,17 @@ fn add_to_each<W: PlaceSet>(
     colours: &Colours<W>,
 )
     requires { (from ≤ to) × (to ≤ length pairs.old) }
-    ensures { ArePairsMore filled (λ x colour k. (from ≤ x) × (x < to) × HasColour colours.now colour k) pairs.old pairs.new }
+    ensures { ArePairsMore filled
+        (λ x colour k. (from ≤ x) × (x < to) × HasColour colours.now colour k)
+        pairs.old pairs.new }
 {
     for place in from..to {
         pairs[usize::from(place)].add_if(filled, colours);
     }
 }
 
-/// What can be on a line with a gap of whole placings that has j runs before it.
+/// Returns the support of the line, given the feasible gap at `place` after `j` runs: the prefix
+/// support of the gap together with that of the same gap on the mirrored line.
 fn colours_with_gap<W: PlaceSet>(
     len: u16,
     clue: &[u16],
@@ -52,7 +56,7 @@ fn colours_with_gap<W: PlaceSet>(
     before[ROW * j + usize::from(place)].with(&after[ROW * (clue.len() - j) + turned])
 }
 
-/// What can be on a line with run j at one of its ends in whole placings.
+/// Returns the support of the line, given that run `j` ends at `end`, one of its feasible ends.
 #[tactic(auto, using(crate::proofs::Gathering::ends))]
 fn colours_with_run<W: PlaceSet>(
     len: u16,
@@ -75,6 +79,7 @@ fn colours_with_run<W: PlaceSet>(
     let start = next - clue[j];
     let run = first_places::<W>(clue[j]).shifted_up(start);
     let mut colours = run_and_before(start, run, &before[ROW * j..]);
+    // The last run may end at the last cell of the line, without a gap after it.
     if next < len {
         let turned = usize::from(len - 1 - next);
         colours.add(&after[ROW * (clue.len() - (j + 1)) + turned]);
@@ -82,7 +87,8 @@ fn colours_with_run<W: PlaceSet>(
     colours
 }
 
-/// Adds what can be with each blank cell that has j runs before it.
+/// Adds, for each feasible gap after `j` runs, the support of the line given that gap to the
+/// support after that cell is made blank.
 #[tactic(auto, using(crate::proofs::Gathering::places))]
 fn add_gaps<W: PlaceSet>(
     len: u16,
@@ -100,7 +106,8 @@ fn add_gaps<W: PlaceSet>(
     requires gaps { IsMaskOf (IsWholeGap line clue.now j) (W.number gaps) }
     requires told { AreToldOf line clue.now before.now after.now }
     requires pairs { length line ≤ length pairs.old }
-    ensures { ArePairsMore false (λ x. CanBeWithBlank line clue.now x j) pairs.old pairs.new }
+    ensures { ArePairsMore false (λ x. CanBeWithBlank line clue.now x j)
+        pairs.old pairs.new }
 {
     let mut left = gaps;
     while !left.is_empty() {
@@ -111,7 +118,8 @@ fn add_gaps<W: PlaceSet>(
     }
 }
 
-/// Adds what can be with each filled cell that run j covers.
+/// Adds, for each feasible end of run `j`, the support of the line given that end to the supports
+/// after each cell of that run is filled.
 #[tactic(auto, using(crate::proofs::Gathering::places))]
 fn add_run<W: PlaceSet>(
     len: u16,
@@ -130,7 +138,8 @@ fn add_run<W: PlaceSet>(
     requires ends { IsMaskOf (IsWholeEnd line clue.now j) (W.number ends) }
     requires told { AreToldOf line clue.now before.now after.now }
     requires pairs { length line ≤ length pairs.old }
-    ensures { ArePairsMore true (λ x. CanBeWithFilled line clue.now x j) pairs.old pairs.new }
+    ensures { ArePairsMore true (λ x. CanBeWithFilled line clue.now x j)
+        pairs.old pairs.new }
 {
     let mut left = ends;
     while !left.is_empty() {
@@ -142,7 +151,7 @@ fn add_run<W: PlaceSet>(
     }
 }
 
-/// Clears the pairs of a line.
+/// Resets the entries of the first `len` cells to empty supports.
 fn clear<W: PlaceSet>(pairs: &mut [Pair<W>], len: u16)
     requires { len ≤ length pairs.old }
     ensures none { (x : ℕ) → x < len → slice_index_or pairs.new x no_pair ≡ no_pair }
@@ -153,8 +162,9 @@ fn clear<W: PlaceSet>(pairs: &mut [Pair<W>], len: u16)
     }
 }
 
-/// Writes for each unknown cell of a line and each colour what can be on the line with that colour there,
-/// from the gaps and ends of whole placings, and what is told before and after each such gap.
+/// Writes, for each unknown cell of a line, the line's support after that cell is filled and after
+/// it is made blank. `gaps` and `ends` are the feasible ones, `before` are the prefix supports of
+/// the line, and `after` those of the mirrored line.
 pub fn gather_pairs<W: PlaceSet>(
     len: u16,
     clue: &[u16],

@@ -1,4 +1,5 @@
-//! What is certain of one line of a nonogram, of up to 256 cells.
+//! Line logic: deduces the cells of one line of a nonogram, of up to 256 cells, from its clue;
+//! finds its leftmost and rightmost placings; and builds lookahead tables.
 #![tactic(auto)]
 
 mod befores;

@@ -1,4 +1,4 @@
-//! Lines of any length.
+//! The public type of lines, of 1 to 256 cells.
 
 ghost use Rattle.std.specs.Prelude.{◌≡◌, ◌<◌, ◌≤◌, length, replicate, slice_index_or, slice_set};
 ghost use Rattle.grid_core.specs.declared.cells.Cell.TheVariants.{Unknown};
@@ -7,7 +7,7 @@ use grid_core::{Cell, LONGEST_SIDE, LineOf};
 use place_sets::Wide;
 use std::marker::Model;
 
-/// The cells of a line, 1 to 256 of them, seen as the list of its cells.
+/// A line of 1 to 256 cells, stored in the widest sets. Contracts see it as the list of its cells.
 #[derive(Drop)]
 pub struct Line {
     pub(crate) cells: LineOf<Wide>,
@@ -23,7 +23,7 @@ impl Model for Line {
 }
 
 impl Line {
-    /// A line of `len` cells, 1 to 256, of which nothing is known.
+    /// Returns a line of `len` unknown cells, 1 to 256.
     pub fn unknown(len: u16) -> Line
         requires { (1 ≤ len) × (len ≤ LONGEST_SIDE) }
         ensures { result ≡ replicate len Unknown }
@@ -33,7 +33,7 @@ impl Line {
         }
     }
 
-    /// How many cells it has.
+    /// Returns the number of cells, 1 to 256.
     pub fn len(&self) -> u16
         ensures len { result ≡ length self.now }
         ensures within { (1 ≤ length self.now) × (length self.now ≤ LONGEST_SIDE) }
@@ -41,7 +41,7 @@ impl Line {
         self.cells.len()
     }
 
-    /// What is known of the cell at a place, counted from 0.
+    /// Returns the cell at index `i`, counted from 0, which has to be less than the length.
     pub fn get(&self, i: u16) -> Cell
         requires { i < length self.now }
         ensures { result ≡ slice_index_or self.now i Unknown }
@@ -49,7 +49,7 @@ impl Line {
         self.cells.get(i)
     }
 
-    /// Changes what is known of the cell at a place.
+    /// Replaces the cell at index `i`, counted from 0, which has to be less than the length.
     pub fn set(&mut self, i: u16, cell: Cell)
         requires { i < length self.old }
         ensures { self.new ≡ slice_set self.old i cell }

@@ -1,4 +1,4 @@
-//! Deduction on a line whose clue is one run: the places at which it can start tell all.
+//! Deduction of a line whose clue is a single run, from the indices at which the run can start.
 
 ghost use Rattle.std.specs.Prelude.{◌≡◌, ◌+◌, ◌<◌, ◌≤◌, List, length};
 ghost use Rattle.grid_core.specs.declared.cells.Cell.{Cell};
@@ -10,11 +10,12 @@ ghost use Rattle.line_core.specs.steps.Reach.{AreLengths, IsFillable, IsBlankabl
 use crate::spans::Span;
 use place_sets::{PlaceSet, first_places, spread, starts_within};
 
-/// The starts of a run of `number` cells that is alone on its line:
-/// from there on as many cells may be filled, and each cell that is filled is among them.
+/// Returns the indices at which a single run of `number` cells can start: all of its cells can be
+/// filled, and it covers each cell that is known to be filled.
 fn lone_starts<W: PlaceSet>(span: &Span<W>, number: u16) -> W
     ghost line: { List Cell }
-    requires span { IsSpanOf W.WIDTH line span.now.len (W.number span.now.free) (W.number span.now.room) }
+    requires span { IsSpanOf W.WIDTH line span.now.len
+        (W.number span.now.free) (W.number span.now.room) }
     requires number { (0 < number) × (number ≤ W.WIDTH) }
     ensures { IsMaskOf (IsLoneStart line number) (W.number result) }
 {
@@ -23,6 +24,7 @@ fn lone_starts<W: PlaceSet>(span: &Span<W>, number: u16) -> W
     if filled.is_empty() {
         return starts;
     }
+    // The run ends no earlier than at the last filled cell, and starts no later than at the first.
     let least = (filled.last_place() + 1).saturating_sub(number);
     let greatest = filled.first_place();
     starts
@@ -30,12 +32,13 @@ fn lone_starts<W: PlaceSet>(span: &Span<W>, number: u16) -> W
         .intersection(W::full().shifted_up(least))
 }
 
-/// The cells that a run of `number` cells fills from each of its starts, given the least and the greatest.
+/// Returns the cells that a run of `number` cells fills wherever in `least..=greatest` it starts.
 fn lone_overlap<W: PlaceSet>(least: u16, greatest: u16, number: u16) -> W
     requires order { least ≤ greatest }
     requires within { greatest < W.WIDTH }
     requires number { (0 < number) × (number ≤ W.WIDTH) }
-    ensures { IsMaskOf (λ i. (i < W.WIDTH) × (greatest ≤ i) × (i < least + number)) (W.number result) }
+    ensures { IsMaskOf (λ i. (i < W.WIDTH) × (greatest ≤ i) × (i < least + number))
+        (W.number result) }
 {
     if least + number <= greatest {
         return W::empty();
@@ -43,10 +46,12 @@ fn lone_overlap<W: PlaceSet>(least: u16, greatest: u16, number: u16) -> W
     first_places::<W>(least + number - greatest).shifted_up(greatest)
 }
 
-/// The cells that are filled in some placing, and those that are blank in some, by a clue of one run.
+/// Returns the cells that are filled in some placing, and the cells that are blank in some, for a
+/// clue of one run.
 pub fn lone_colours<W: PlaceSet>(span: &Span<W>, clue: &[u16]) -> (W, W)
     ghost line: { List Cell }
-    requires span { IsSpanOf W.WIDTH line span.now.len (W.number span.now.free) (W.number span.now.room) }
+    requires span { IsSpanOf W.WIDTH line span.now.len
+        (W.number span.now.free) (W.number span.now.room) }
     requires clue { AreLengths W.WIDTH clue.now }
     requires one { length clue.now ≡ 1 }
     ensures filled { IsMaskOf (IsFillable line clue.now) (W.number result.0) }

@@ -1,5 +1,5 @@
-//! Deduction on a line of which nothing is known: a run fills for certain what it fills at each
-//! of its starts.
+//! Deduction of a line whose cells are all unknown: a run longer than the slack fills the overlap
+//! of its leftmost and rightmost positions in all placings.
 
 ghost use Rattle.std.specs.Prelude.{◌≡◌, ◌+◌, ◌<◌, ◌≤◌, ◌↔◌, IsTrue, List, length, replicate};
 ghost use Rattle.grid_core.specs.declared.cells.Cell.{Cell};
@@ -13,16 +13,18 @@ use crate::spans::Span;
 use grid_core::{LONGEST_SIDE, MOST_RUNS};
 use place_sets::{PlaceSet, first_places};
 
-/// Whether nothing is known of a line: the cells that may be blank are those that may be filled.
+/// Reports whether all cells of a line are unknown: those that can be blank are those that can be
+/// filled.
 pub fn is_unknown<W: PlaceSet>(span: &Span<W>) -> bool
     ghost line: { List Cell }
-    requires { IsSpanOf W.WIDTH line span.now.len (W.number span.now.free) (W.number span.now.room) }
+    requires { IsSpanOf W.WIDTH line span.now.len
+        (W.number span.now.free) (W.number span.now.room) }
     ensures { IsTrue result ↔ (line ≡ replicate span.now.len Unknown) }
 {
     span.free.symmetric_difference(span.room).is_empty()
 }
 
-/// How many cells the runs of a clue need, each with a blank cell after it.
+/// Returns the number of cells that the runs of a clue take if each has a blank cell after it.
 #[tactic(auto, using(crate::proofs::Packing::start_few))]
 fn cells_needed(clue: &[u16]) -> u16
     requires clue { AreLengths LONGEST_SIDE clue.now }
@@ -36,8 +38,8 @@ fn cells_needed(clue: &[u16]) -> u16
     needed
 }
 
-/// The cells that a run fills at each of its starts, which are its least start and those up
-/// to `slack` cells further.
+/// Returns the cells that some run fills wherever it starts, if the starts of each run are its
+/// least start and the next `slack` indices.
 fn overlaps<W: PlaceSet>(clue: &[u16], slack: u16) -> W
     requires clue { AreLengths W.WIDTH clue.now }
     requires fits { needed clue.now + slack ≤ W.WIDTH + 1 }
@@ -54,8 +56,8 @@ fn overlaps<W: PlaceSet>(clue: &[u16], slack: u16) -> W
     certain
 }
 
-/// The cells that are filled in some placing, and those that are blank in some, on a line of `len` cells
-/// of which nothing is known.
+/// Returns the cells that are filled in some placing, and the cells that are blank in some, of a
+/// line of `len` unknown cells.
 pub fn unknown_colours<W: PlaceSet>(len: u16, clue: &[u16]) -> (W, W)
     requires len { (1 ≤ len) × (len ≤ W.WIDTH) }
     requires clue { AreLengths W.WIDTH clue.now }
@@ -63,6 +65,7 @@ pub fn unknown_colours<W: PlaceSet>(len: u16, clue: &[u16]) -> (W, W)
     ensures filled { IsMaskOf (IsFillable (replicate len Unknown) clue.now) (W.number result.0) }
     ensures blank { IsMaskOf (IsBlankable (replicate len Unknown) clue.now) (W.number result.1) }
 {
+    // The blank cell that is counted after the last run may lie outside the line.
     let needed = cells_needed(clue);
     if len + 1 < needed {
         return (W::empty(), W::empty());
@@ -70,6 +73,8 @@ pub fn unknown_colours<W: PlaceSet>(len: u16, clue: &[u16]) -> (W, W)
     let slack = len + 1 - needed;
     let certain = overlaps::<W>(clue, slack);
     let line = first_places::<W>(len);
+    // With any slack, each cell is filled in some placing, unless the clue is empty; with none,
+    // there is one placing, and the overlaps are its runs.
     let fillable = if slack == 0 || clue.is_empty() {
         certain
     } else {

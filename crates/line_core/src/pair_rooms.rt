@@ -1,4 +1,4 @@
-//! All pairs of a line, in room that is made once.
+//! Computes the lookahead of all unknown cells of a line, in buffers that are allocated once.
 
 ghost use Rattle.std.specs.Prelude.{◌≡◌, ◌+◌, ◌*◌, ◌<◌, ◌≤◌, List, length, map, reverse, true, vec_capacity, vec_len, IfOk};
 ghost use Rattle.grid_core.specs.declared.cells.Cell.{Cell};
@@ -18,7 +18,8 @@ use grid_core::{LineOf, MOST_RUNS, NoMemory};
 use place_sets::PlaceSet;
 use std::alloc::Global;
 
-/// Makes the rows of a table that a clue of `runs` runs takes: one for each gap.
+/// Extends `table` to the rows that a clue of `runs` runs needs, one of 128 entries for each gap.
+/// Allocates nothing: the capacity has to suffice.
 fn make_rows<W: PlaceSet>(table: &mut Vec<Colours<W>>, runs: usize)
     requires runs { runs ≤ MOST_RUNS }
     requires fits { 128 * (runs + 1) ≤ vec_capacity table.old }
@@ -30,8 +31,9 @@ fn make_rows<W: PlaceSet>(table: &mut Vec<Colours<W>>, runs: usize)
     }
 }
 
-/// Writes the gaps and the ends of runs in whole placings, and the colours before each of those gaps, by the places of
-/// cells as they are seen.
+/// Writes the feasible gaps and the feasible ends of runs of a line, and the prefix supports of
+/// these gaps. The cells in `table` have their indices in the line, or, if `TURNED`, those in the
+/// mirrored line. `ahead` is a buffer.
 fn write_told<W: PlaceSet, const TURNED: bool>(
     span: &Span<W>,
     clue: &[u16],
@@ -41,7 +43,8 @@ fn write_told<W: PlaceSet, const TURNED: bool>(
     table: &mut [Colours<W>],
 )
     ghost line: { List Cell }
-    requires span { IsSpanOf W.WIDTH line span.now.len (W.number span.now.free) (W.number span.now.room) }
+    requires span { IsSpanOf W.WIDTH line span.now.len
+        (W.number span.now.free) (W.number span.now.room) }
     requires clue { AreLengths W.WIDTH clue.now }
     requires count { length clue.now ≤ MOST_RUNS }
     requires short { length line ≤ 128 }
@@ -55,8 +58,8 @@ fn write_told<W: PlaceSet, const TURNED: bool>(
     write_before::<W, TURNED>(span.len, clue, gaps, ends, table);
 }
 
-/// Writes the same of the line and of the clue as they are seen from their other end; the cells of colours have
-/// their own places.
+/// Writes the prefix supports of the mirrored line and clue, in which the cells keep the indices of
+/// the line itself. All other slices but `clue` are buffers.
 fn write_told_turned<W: PlaceSet>(
     span: &Span<W>,
     clue: &[u16],
@@ -66,7 +69,8 @@ fn write_told_turned<W: PlaceSet>(
     table: &mut [Colours<W>],
 )
     ghost line: { List Cell }
-    requires span { IsSpanOf W.WIDTH line span.now.len (W.number span.now.free) (W.number span.now.room) }
+    requires span { IsSpanOf W.WIDTH line span.now.len
+        (W.number span.now.free) (W.number span.now.room) }
     requires clue { AreLengths W.WIDTH clue.now }
     requires count { length clue.now ≤ MOST_RUNS }
     requires short { length line ≤ 128 }
@@ -81,8 +85,8 @@ fn write_told_turned<W: PlaceSet>(
     write_told::<W, true>(&reversed(span), turned, ahead, gaps, ends, table);
 }
 
-/// Writes for each unknown cell of a line and each colour what can be on the line with that colour there, with room
-/// for gaps and ends, and for the colours before and after gaps.
+/// Writes, for each unknown cell of a line, the line's support after that cell is filled and after
+/// it is made blank. All slices but `clue` and `pairs` are buffers.
 fn write_pairs<W: PlaceSet>(
     span: &Span<W>,
     clue: &[u16],
@@ -94,7 +98,8 @@ fn write_pairs<W: PlaceSet>(
     pairs: &mut [Pair<W>],
 )
     ghost line: { List Cell }
-    requires span { IsSpanOf W.WIDTH line span.now.len (W.number span.now.free) (W.number span.now.room) }
+    requires span { IsSpanOf W.WIDTH line span.now.len
+        (W.number span.now.free) (W.number span.now.room) }
     requires clue { AreLengths W.WIDTH clue.now }
     requires count { length clue.now ≤ MOST_RUNS }
     requires short { length line ≤ 128 }
@@ -104,22 +109,25 @@ fn write_pairs<W: PlaceSet>(
     ensures pairs { ArePairs line clue.now pairs.new }
     ensures count { length pairs.new ≡ length pairs.old }
 {
+    // The mirrored line comes first: both calls write gaps and ends to the same buffers, and only
+    // those of the line itself are needed afterwards.
     write_told_turned(span, clue, ahead, gaps, ends, after);
     write_told::<W, false>(span, clue, ahead, gaps, ends, before);
     gather_pairs(span.len, clue, gaps, ends, before, after, pairs);
 }
 
-/// The room that pairs of lines take, each part of it written only once it is needed.
+/// The buffers for computing lookahead for clues of at most `most_runs` runs. All are allocated
+/// once, and initialized as far as they are used.
 pub struct PairRoom<W: PlaceSet> {
-    /// The gaps in whole placings.
+    /// The feasible gaps of a line.
     gaps: Vec<[W::Kept; GAPS]>,
-    /// The ends of runs in whole placings.
+    /// The feasible ends of its runs.
     ends: Vec<[W::Kept; GAPS]>,
-    /// The colours before each gap.
+    /// Its prefix supports, in rows of 128 entries, one row for each gap.
     before: Vec<Colours<W>>,
-    /// The colours before each gap as seen from the other end of the line.
+    /// The prefix supports of the mirrored line, in rows of 128 entries, one row for each gap.
     after: Vec<Colours<W>>,
-    /// How many runs there is room for.
+    /// The greatest number of runs of a clue.
     most_runs: usize,
     ghost gaps_fit: { 0 < vec_capacity gaps },
     ghost ends_fit: { 0 < vec_capacity ends },
@@ -128,7 +136,8 @@ pub struct PairRoom<W: PlaceSet> {
     ghost few: { most_runs ≤ MOST_RUNS },
 }
 
-/// A call of its own, so that a proof takes it as one step.
+/// Written by hand so that callers' proofs see one call: a derived drop is expanded at each exit of
+/// each caller.
 impl<W: PlaceSet> Drop for PairRoom<W> {
     fn drop(self) {
         let PairRoom {
@@ -142,7 +151,8 @@ impl<W: PlaceSet> Drop for PairRoom<W> {
 }
 
 impl<W: PlaceSet> PairRoom<W> {
-    /// Makes the room, for clues of at most `most_runs` runs, 0 to 128.
+    /// Allocates the buffers for clues of at most `most_runs` runs, 0 to 128. Returns `NoMemory` if
+    /// an allocation fails.
     pub fn new(alloc: Global, most_runs: usize) -> Result<PairRoom<W>, NoMemory>
         requires { most_runs ≤ MOST_RUNS }
         ensures { IfOk result (λ room. room.most_runs ≡ most_runs) }
@@ -157,15 +167,15 @@ impl<W: PlaceSet> PairRoom<W> {
         })
     }
 
-    /// For clues of how many runs there is room.
+    /// Returns the greatest number of runs of a clue for which the buffers suffice.
     pub fn most_runs(&self) -> usize
         ensures { result ≡ self.now.most_runs }
     {
         self.most_runs
     }
 
-    /// Writes for each unknown cell of a line and each colour what can be on the line with that colour there,
-    /// with room for the gaps of the runs.
+    /// Writes, for each unknown cell of `line`, the support of the line after that cell is filled
+    /// and after it is made blank. `ahead` is a buffer; the entries of known cells are unspecified.
     pub(crate) fn write_pairs(
         &mut self,
         line: &LineOf<W>,

@@ -1,4 +1,4 @@
-//! Tables of what is certain of a line once one more of its cells is known.
+//! Lookahead tables: what a line deduces after one more of its cells is known.
 
 ghost use Rattle.std.specs.Prelude.{◌≡◌, ◌≢◌, ◌↔◌, ◌<◌, ◌≤◌, ℕ, List, None, Some, length, vec_capacity, vec_len, All, IfOk, IfSome, IsTrue};
 ghost use Rattle.place_sets.specs.Masks.{IsMaskOf};
@@ -15,18 +15,19 @@ use place_sets::PlaceSet;
 use std::alloc::Global;
 use std::marker::Model;
 
-/// For one line, if it has one, what is certain of it once an unknown cell has a colour, for each such cell and
-/// both colours, in room that is made once.
+/// The lookahead table of one line, or of none: for each unknown cell, the support of the line
+/// after that cell is filled and after it is made blank. All its memory is allocated once.
 pub struct PairTable<W: LineSet> {
     line: Option<LineOf<W>>,
     pairs: Vec<Pair<W>>,
-    /// The unknown cells with which, filled, nothing else is certain.
+    /// The unknown cells that can be filled without anything else being deduced on the line.
     neutral_filled: W,
-    /// And those with which it is so if they are blank.
+    /// The unknown cells that can be made blank without anything else being deduced on the line.
     neutral_blank: W,
 }
 
-/// A call of its own, so that a proof takes it as one step.
+/// Written by hand so that callers' proofs see one call: a derived drop is expanded at each exit of
+/// each caller.
 impl<W: LineSet> Drop for PairTable<W> {
     fn drop(self) {
         let PairTable {
@@ -52,12 +53,14 @@ impl<W: LineSet> Model for PairTable<W> {
       neutral_blank = W.number t.neutral_blank;
     } };
 
-    ghost invariant = { λ t. IsTableIn W.WIDTH t.line t.pairs.items (vec_capacity t.pairs) };
+    ghost invariant = { λ t.
+        IsTableIn W.WIDTH t.line t.pairs.items (vec_capacity t.pairs) };
 }
 
-/// The place of a set that has just one.
+/// Returns the only index of a set, or `None` if the set has none, or more than one.
 fn only_place<W: PlaceSet>(places: W) -> Option<u16>
-    ensures place { IfSome result (λ place. (place < W.WIDTH) × IsMaskOf (λ i. i ≡ place) (W.number places)) }
+    ensures place { IfSome result (λ place.
+        (place < W.WIDTH) × IsMaskOf (λ i. i ≡ place) (W.number places)) }
     ensures found { (x : ℕ) → IsMaskOf (λ i. i ≡ x) (W.number places) → result ≢ None }
 {
     if places.is_empty() {
@@ -71,7 +74,8 @@ fn only_place<W: PlaceSet>(places: W) -> Option<u16>
     }
 }
 
-/// Makes entries for the cells of a line of `len` cells.
+/// Extends `pairs` to an entry for each cell of a line of `len` cells. Allocates nothing: the
+/// capacity has to suffice.
 fn make_entries<W: LineSet>(pairs: &mut Vec<Pair<W>>, len: u16)
     requires { len ≤ vec_capacity pairs.old }
     ensures entries { len ≤ vec_len pairs.new }
@@ -82,11 +86,13 @@ fn make_entries<W: LineSet>(pairs: &mut Vec<Pair<W>>, len: u16)
     }
 }
 
-/// The unknown cells of a line of which pairs tell that nothing else is certain with a colour there.
+/// Returns the unknown cells of `line` that can be filled, or, unless `filled`, made blank, without
+/// anything else being deduced. `pairs` have the support of the line after each of these steps.
 #[tactic(auto, using(crate::proofs::GapRows::mask_less))]
 fn neutral_cells<W: LineSet>(line: &LineOf<W>, pairs: &[Pair<W>], filled: bool) -> W
     requires { length line.now ≤ length pairs.now }
-    ensures { (clue : List ℕ) → TellOf clue line.now pairs.now → AreNeutral clue line.now filled (W.number result) }
+    ensures { (clue : List ℕ) → TellOf clue line.now pairs.now
+        → AreNeutral clue line.now filled (W.number result) }
 {
     let unknown = line.unknown_cells();
     let mut neutral = W::empty();
@@ -102,7 +108,8 @@ fn neutral_cells<W: LineSet>(line: &LineOf<W>, pairs: &[Pair<W>], filled: bool) 
 }
 
 impl<W: LineSet> PairTable<W> {
-    /// A table without a line, with all the room that it takes.
+    /// Returns a table without a line, and allocates all its memory. Returns `NoMemory` if an
+    /// allocation fails.
     #[tactic(auto, using(crate::proofs::Pairing::empty_table))]
     pub fn new(alloc: Global) -> Result<PairTable<W>, NoMemory>
         ensures line { IfOk result (λ table. table.line ≡ None) }
@@ -116,14 +123,14 @@ impl<W: LineSet> PairTable<W> {
         })
     }
 
-    /// Takes its line away.
+    /// Clears the table, which then has no line.
     pub fn forget(&mut self)
         ensures { self.new.line ≡ None }
     {
         self.line = None;
     }
 
-    /// Whether its line is this one.
+    /// Reports whether this is the table of `line`.
     pub fn is_of(&self, line: &LineOf<W>) -> bool
         ensures { IsTrue result ↔ (self.now.line ≡ Some line.now) }
     {
@@ -133,7 +140,7 @@ impl<W: LineSet> PairTable<W> {
         }
     }
 
-    /// Makes the table of a line of at most 128 cells.
+    /// Builds the table of a line of at most 128 cells.
     fn write_new(
         &mut self,
         tables: &mut Tables,
@@ -155,9 +162,10 @@ impl<W: LineSet> PairTable<W> {
         self.line = Some(line.copy());
     }
 
-    /// Makes the table of a line, given its clue, whose numbers are no greater than its sets have places,
-    /// if it isn't the table of it already. It takes the old one away, and makes none if the line is longer than 128
-    /// cells, or if there is no room for the clue's runs.
+    /// Builds the table of `line` and `clue`, unless it is the table of that line already. Clears
+    /// the table if the line has more than 128 cells, or the clue more runs than the buffers are
+    /// for. No number of the clue may exceed the width of the sets, and the old table has to be of
+    /// the same clue.
     #[tactic(auto, using(crate::proofs::Pairing::empty_table))]
     pub fn write(
         &mut self,
@@ -169,7 +177,8 @@ impl<W: LineSet> PairTable<W> {
         requires clue { All (λ number. number ≤ W.WIDTH) clue.now }
         requires table { IsTableOf clue.now self.old }
         ensures table { IsTableOf clue.now self.new }
-        ensures line { length line.now ≤ LONGEST_PAIRED → length clue.now ≤ room.old.most_runs → self.new.line ≡ Some line.now }
+        ensures line { length line.now ≤ LONGEST_PAIRED → length clue.now ≤ room.old.most_runs
+            → self.new.line ≡ Some line.now }
         ensures room { room.new.most_runs ≡ room.old.most_runs }
     {
         if self.is_of(line) {
@@ -181,7 +190,9 @@ impl<W: LineSet> PairTable<W> {
         }
     }
 
-    /// Those of the unknown cells of its line with which nothing else is certain if they are filled, or else blank.
+    /// Returns the unknown cells of the table's line that can be filled, or, unless `filled`, made
+    /// blank, without anything else being deduced on the line. Unspecified if the table has no
+    /// line.
     pub fn neutral_cells(&self, filled: bool) -> W
         ensures { W.number result ≡ neutral_if filled self.now }
     {
@@ -192,14 +203,17 @@ impl<W: LineSet> PairTable<W> {
         }
     }
 
-    /// What can be on a line that is the table's but for one unknown cell that got a colour. `None` for another
-    /// line.
+    /// Returns the support of `line` if it differs from the table's line in one cell only, which is
+    /// unknown in the table's line and known in `line`. Returns `None` for any other line, or if
+    /// the table has no line.
     pub fn colours_of(&self, line: &LineOf<W>) -> Option<&Colours<W>>
         ensures colours { IfSome result (λ colours. (clue : List ℕ) → IsTableOf clue self.now
-            → told_by (length line.now) colours.now.fillable colours.now.blankable ≡ deduced line.now clue) }
+            → told_by (length line.now) colours.now.fillable colours.now.blankable
+            ≡ deduced line.now clue) }
         ensures asked { (result ≢ None) ↔ IsOneMore self.now line.now }
     {
         let base = self.line.as_ref()?;
+        // The cells of lines can be compared only if the lines have the same length.
         if base.len() != line.len() {
             return None;
         }

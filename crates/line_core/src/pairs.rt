@@ -1,4 +1,4 @@
-//! What is certain of a line once one more of its cells is known.
+//! Lookahead: the support of a line after one more of its cells is known.
 
 ghost use Rattle.std.specs.Prelude.{◌≡◌, ◌<◌, ◌≤◌, List, length, not, slice_index_or, true, IsTrue};
 ghost use Rattle.grid_core.specs.declared.cells.Cell.{Cell};
@@ -18,10 +18,11 @@ use grid_core::{LineOf, MOST_RUNS};
 use place_sets::PlaceSet;
 use std::marker::Model;
 
-/// The longest line of which pairs are kept.
+/// The greatest length of a line, in cells, for which a lookahead table is built.
 pub const LONGEST_PAIRED: u16 = 128;
 
-/// The cells that are filled in some placing, and those that are blank in some.
+/// The support of a line: the cells that are filled in some placing, and the cells that are blank
+/// in some.
 #[derive(Drop)]
 pub struct Colours<W: PlaceSet> {
     pub fillable: W,
@@ -33,11 +34,12 @@ impl<W: PlaceSet> Model for Colours<W> {
 
     ghost Value = { ColourMasks };
 
-    ghost view = { λ c. record { fillable = W.number c.fillable; blankable = W.number c.blankable } };
+    ghost view = { λ c.
+        record { fillable = W.number c.fillable; blankable = W.number c.blankable } };
 }
 
 impl<W: PlaceSet> Colours<W> {
-    /// No cell of either colour.
+    /// Returns the empty support, that of a dead line.
     pub fn none() -> Colours<W>
         ensures { result ≡ no_colours }
     {
@@ -47,7 +49,7 @@ impl<W: PlaceSet> Colours<W> {
         }
     }
 
-    /// Adds the cells of others.
+    /// Adds the cells of `more`, colour by colour.
     pub(crate) fn add(&mut self, more: &Colours<W>)
         ensures { AreMore (HasColour more.now) self.old self.new }
     {
@@ -55,7 +57,7 @@ impl<W: PlaceSet> Colours<W> {
         self.blankable = self.blankable.union(more.blankable);
     }
 
-    /// The same cells once more.
+    /// Returns a copy of `self`.
     pub(crate) fn copied(&self) -> Colours<W>
         ensures { result ≡ self.now }
     {
@@ -65,7 +67,7 @@ impl<W: PlaceSet> Colours<W> {
         }
     }
 
-    /// The cells of both.
+    /// Returns the union with `more`, colour by colour.
     pub(crate) fn with(&self, more: &Colours<W>) -> Colours<W>
         ensures { AreMore (HasColour more.now) self.now result }
     {
@@ -75,7 +77,8 @@ impl<W: PlaceSet> Colours<W> {
         }
     }
 
-    /// What is certain of a line of `len` cells: none if its first cell can have no colour.
+    /// Returns the deduced line of `len` cells with this support, or `None`, for a dead line, if
+    /// the first cell is in it in neither colour.
     pub fn certain(&self, len: u16) -> Option<LineOf<W>>
         requires { (1 ≤ len) × (len ≤ W.WIDTH) }
         ensures { result ≡ told_by len self.now.fillable self.now.blankable }
@@ -83,7 +86,8 @@ impl<W: PlaceSet> Colours<W> {
         certain(len, self.fillable, self.blankable)
     }
 
-    /// Whether the first cell can have a colour, and each of some cells both.
+    /// Reports whether the first cell is in the support in some colour, so that the line is alive,
+    /// and each of `cells` is in both, so that it stays unknown.
     pub(crate) fn leave_open(&self, cells: W) -> bool
         ensures { IsTrue result → LeaveOpen self.now (W.number cells) }
     {
@@ -92,7 +96,8 @@ impl<W: PlaceSet> Colours<W> {
     }
 }
 
-/// What can be on a line if one of its cells is filled, and if it is blank.
+/// The support of a line after one of its unknown cells is filled, and after that cell is made
+/// blank.
 #[derive(Drop)]
 pub struct Pair<W: PlaceSet> {
     pub if_filled: Colours<W>,
@@ -108,7 +113,7 @@ impl<W: PlaceSet> Model for Pair<W> {
 }
 
 impl<W: PlaceSet> Pair<W> {
-    /// Nothing with either colour.
+    /// Returns the pair of two empty supports.
     pub fn none() -> Pair<W>
         ensures { result ≡ no_pair }
     {
@@ -118,7 +123,8 @@ impl<W: PlaceSet> Pair<W> {
         }
     }
 
-    /// What can be on the line if the cell has a colour.
+    /// Returns the support after the cell is filled, if `filled`, and otherwise the one after it is
+    /// made blank.
     pub fn colours_if(&self, filled: bool) -> &Colours<W>
         ensures { result.now ≡ masks_if filled self.now }
     {
@@ -129,9 +135,11 @@ impl<W: PlaceSet> Pair<W> {
         }
     }
 
-    /// Adds colours to what can be if the cell has a colour.
+    /// Adds `more` to the support after the cell is filled, if `filled`, and otherwise to the one
+    /// after it is made blank.
     pub(crate) fn add_if(&mut self, filled: bool, more: &Colours<W>)
-        ensures more { AreMore (HasColour more.now) (masks_if filled self.old) (masks_if filled self.new) }
+        ensures more { AreMore (HasColour more.now)
+            (masks_if filled self.old) (masks_if filled self.new) }
         ensures other { masks_if (not filled) self.new ≡ masks_if (not filled) self.old }
     {
         if filled {

@@ -1,4 +1,4 @@
-//! How far the runs of a clue reach on a line, from both of its ends.
+//! The suffix gaps of a line, and the ends of runs that occur in some placing.
 
 ghost use Rattle.std.specs.Prelude.{◌≡◌, ◌+◌, ◌-◌, ◌<◌, ◌≤◌, List, length, map, true};
 ghost use Rattle.grid_core.specs.declared.cells.Cell.{Cell};
@@ -12,16 +12,17 @@ use crate::spans::{Span, reversed};
 use grid_core::MOST_RUNS;
 use place_sets::{PlaceSet, windows_within};
 
-/// How many masks of gaps a clue needs at most: one before each run, and one after the last.
+/// The greatest number of gaps of a clue: one before each run, and one after the last.
 pub const GAPS: usize = MOST_RUNS + 1;
 
-/// Writes the gaps before each run and after the last one, as the cells before allow them,
-/// of a line and a clue that are both seen from their other end.
-// Called, it would cost a deduction 30 instructions.
+/// Writes the prefix gaps of the mirrored line and clue: `gaps[j]` is the gap after `j` runs of the
+/// mirrored clue.
+// Forced inline: as a call it would add 30 instructions to each deduction.
 #[inline(always)]
 fn write_reversed_gaps<W: PlaceSet>(span: &Span<W>, clue: &[u16], gaps: &mut [W::Kept; GAPS])
     ghost line: { List Cell }
-    requires span { IsSpanOf W.WIDTH line span.now.len (W.number span.now.free) (W.number span.now.room) }
+    requires span { IsSpanOf W.WIDTH line span.now.len
+        (W.number span.now.free) (W.number span.now.room) }
     requires clue { AreLengths W.WIDTH clue.now }
     requires count { length clue.now ≤ MOST_RUNS }
     ensures gaps { AreReversedGaps line clue.now (map W.kept_number gaps.new) }
@@ -38,7 +39,7 @@ fn write_reversed_gaps<W: PlaceSet>(span: &Span<W>, clue: &[u16], gaps: &mut [W:
     }
 }
 
-/// Sees each of the masks from a line's other end.
+/// Mirrors each set of `masks` within the first `len` indices, and drops its elements beyond them.
 fn reverse_all<W: PlaceSet>(masks: &mut [W::Kept], len: u16)
     requires { (0 < len) × (len ≤ W.WIDTH) }
     ensures { AreReversedMasks len (map W.kept_number masks.old) (map W.kept_number masks.new) }
@@ -48,20 +49,25 @@ fn reverse_all<W: PlaceSet>(masks: &mut [W::Kept], len: u16)
     }
 }
 
-/// Writes the gaps before each run and after the last one, as the cells after allow them, the last one first.
+/// Writes the suffix gaps before each run and after the last one, the last one first: the gap after
+/// `j` runs of `clue` is `gaps[clue.len() - j]`.
 #[inline(always)]
 pub fn write_gaps_ahead<W: PlaceSet>(span: &Span<W>, clue: &[u16], gaps: &mut [W::Kept; GAPS])
     ghost line: { List Cell }
-    requires span { IsSpanOf W.WIDTH line span.now.len (W.number span.now.free) (W.number span.now.room) }
+    requires span { IsSpanOf W.WIDTH line span.now.len
+        (W.number span.now.free) (W.number span.now.room) }
     requires clue { AreLengths W.WIDTH clue.now }
     requires count { length clue.now ≤ MOST_RUNS }
     ensures { AreGapsAhead line clue.now (map W.kept_number gaps.new) }
 {
+    // The suffix gaps are the prefix gaps of the mirrored line, mirrored, so that the prefix scan
+    // serves both directions.
     write_reversed_gaps(span, clue, gaps);
     reverse_all::<W>(&mut gaps[..clue.len() + 1], span.len);
 }
 
-/// The gaps before run j, or after the last one, as the cells after allow them.
+/// Returns the suffix gap after `j` runs: the cells that can be blank with exactly the other runs
+/// of `clue` after them. `gaps` are those of `write_gaps_ahead`.
 pub fn gap_ahead<W: PlaceSet>(clue: &[u16], gaps: &[W::Kept; GAPS], j: usize) -> W
     ghost line: { List Cell }
     requires count { length clue.now ≤ MOST_RUNS }
@@ -72,7 +78,8 @@ pub fn gap_ahead<W: PlaceSet>(clue: &[u16], gaps: &[W::Kept; GAPS], j: usize) ->
     W::of_kept(gaps[clue.len() - j])
 }
 
-/// The last cell of a line, if the run that may end there is the last one; else none.
+/// Returns the set of the last cell of a line of `len` cells if `last` is set, or else the empty
+/// set.
 fn last_end<W: PlaceSet>(len: u16, last: bool) -> W
     requires { (0 < len) × (len ≤ W.WIDTH) }
     ensures { IsMaskOf (λ i. (i ≡ len - 1) × (last ≡ true)) (W.number result) }
@@ -84,11 +91,14 @@ fn last_end<W: PlaceSet>(len: u16, last: bool) -> W
     }
 }
 
-/// The ends of a run in whole placings.
+/// Returns the ends of run `j` that occur in some placing. `ends` are the ends that the cells
+/// before them allow, `ahead` is the suffix gap after the run. Only the last run may end at the
+/// last cell of the line.
 #[tactic(auto, using(place_sets::proofs::Doubling::one_within))]
 pub fn whole_ends<W: PlaceSet>(span: &Span<W>, clue: &[u16], j: usize, ends: W, ahead: W) -> W
     ghost line: { List Cell }
-    requires span { IsSpanOf W.WIDTH line span.now.len (W.number span.now.free) (W.number span.now.room) }
+    requires span { IsSpanOf W.WIDTH line span.now.len
+        (W.number span.now.free) (W.number span.now.room) }
     requires clue { AreLengths W.WIDTH clue.now }
     requires j { j < length clue.now }
     requires ends { IsMaskOf (IsEnd line clue.now j) (W.number ends) }
@@ -99,7 +109,9 @@ pub fn whole_ends<W: PlaceSet>(span: &Span<W>, clue: &[u16], j: usize, ends: W, 
     ends.intersection(ahead.shifted_down(1).union(last))
 }
 
-/// The ends in whole placings of a run that is not the last one.
+/// Returns the ends of run `j`, which is not the last one, that occur in some placing. `ends` are
+/// the ends that the cells before them allow, `ahead` is the suffix gap after the run. Saves the
+/// test of `whole_ends` for the last cell of the line.
 #[tactic(auto, using(place_sets::proofs::Doubling::one_within))]
 pub fn inner_ends<W: PlaceSet>(clue: &[u16], j: usize, ends: W, ahead: W) -> W
     ghost line: { List Cell }

@@ -1,4 +1,4 @@
-//! Room for the gaps between the runs of a clue.
+//! The buffers for the gaps of a clue.
 
 ghost use Rattle.std.specs.Prelude.{◌<◌, vec_capacity, vec_len};
 
@@ -7,20 +7,22 @@ use grid_core::NoMemory;
 use place_sets::{PlaceSet, Wide, Words};
 use std::alloc::Global;
 
-/// Room for the gaps in sets of 64, 128 and 256 places, each written only once it is needed.
+/// The buffers for the gaps of a clue, one for each set width. Each is allocated once, and
+/// initialized on first use.
 pub struct Rooms {
-    /// Sets of 64 places.
+    /// Gaps in sets of 64 indices.
     pub narrow: Vec<[u64; GAPS]>,
-    /// Sets of 128 places.
+    /// Gaps in sets of 128 indices.
     pub middle: Vec<[Words; GAPS]>,
-    /// Sets of 256 places.
+    /// Gaps in sets of 256 indices.
     pub wide: Vec<[Wide; GAPS]>,
     ghost narrow_fits: { 0 < vec_capacity narrow },
     ghost middle_fits: { 0 < vec_capacity middle },
     ghost wide_fits: { 0 < vec_capacity wide },
 }
 
-/// A call of its own, so that a proof takes it as one step.
+/// Written by hand so that callers' proofs see one call: a derived drop is expanded at each exit of
+/// each caller.
 impl Drop for Rooms {
     fn drop(self) {
         let Rooms {
@@ -32,7 +34,7 @@ impl Drop for Rooms {
 }
 
 impl Rooms {
-    /// Makes the room of all three.
+    /// Allocates all three buffers. Returns `NoMemory` if an allocation fails.
     pub fn new(alloc: Global) -> Result<Rooms, NoMemory> {
         Ok(Rooms {
             narrow: Vec::with_capacity(alloc, 1)?,
@@ -42,12 +44,13 @@ impl Rooms {
     }
 }
 
-/// Clears the room of one width, if it was not yet used.
+/// Initializes a buffer with empty sets on its first use. Allocates nothing.
 pub fn make_ready<W: PlaceSet>(room: &mut Vec<[W::Kept; GAPS]>)
     requires { 0 < vec_capacity room.old }
     ensures ready { 0 < vec_len room.new }
     ensures fits { 0 < vec_capacity room.new }
 {
+    // Not done where it is allocated: a buffer of a width that no line needs is never written.
     if room.is_empty() {
         room.push_reserved([W::empty().kept(); GAPS]);
     }

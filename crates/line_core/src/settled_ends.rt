@@ -1,4 +1,4 @@
-//! The settled cells at both ends of a line, which can be cut off before it is deduced.
+//! The known cells at both ends of a line, which are trimmed before it is deduced.
 
 ghost use Rattle.std.specs.Prelude.{◌≡◌, ◌+◌, ◌<◌, ◌≤◌, ℕ, length, reverse};
 ghost use Rattle.place_sets.specs.Masks.{has};
@@ -11,13 +11,14 @@ use crate::full::passed_runs;
 use grid_core::LineOf;
 use place_sets::{PlaceSet, first_places, reversed_within};
 
-/// So many settled cells at an end, and no fewer, are worth cutting off.
+/// The least number of known cells at an end of a line for which trimming pays.
 const WORTH_CUTTING: u16 = 16;
 
-/// A set of places of a line of `len` cells, seen from the line's other end or not.
+/// Returns `set`, mirrored within the first `len` indices if `TURNED`.
 fn seen_set<W: PlaceSet, const TURNED: bool>(set: W, len: u16) -> W
     requires { (0 < len) × (len ≤ W.WIDTH) }
-    ensures { (i : ℕ) → i < len → has (W.number result) i ≡ has (W.number set) (seen TURNED len i) }
+    ensures { (i : ℕ) → i < len
+        → has (W.number result) i ≡ has (W.number set) (seen TURNED len i) }
 {
     if TURNED {
         reversed_within(set, len)
@@ -26,8 +27,9 @@ fn seen_set<W: PlaceSet, const TURNED: bool>(set: W, len: u16) -> W
     }
 }
 
-/// How many settled cells in front can be cut off, if that is worth it: of the first `known` ones, which are known,
-/// those up to the last blank one.
+/// Returns how many cells to trim at the left end, whose first `known` cells are known: all up to
+/// the last blank one of these, so that no run is cut in two. Returns 0 if none is blank, or if
+/// `known` is too small for trimming to pay.
 fn settled_front<W: PlaceSet>(line: &LineOf<W>, known: u16) -> u16
     requires known { (known ≤ length line.now) × AreKnown line.now known }
     requires fits { known < W.WIDTH }
@@ -44,8 +46,9 @@ fn settled_front<W: PlaceSet>(line: &LineOf<W>, known: u16) -> u16
     blank.last_place() + 1
 }
 
-/// How many settled cells behind can be cut off, if that is worth it: of the last `known` ones, which are known,
-/// those from the first blank one on.
+/// Returns how many cells to trim at the right end, whose last `known` cells are known: all from
+/// the first blank one of these on, so that no run is cut in two. Returns 0 if none is blank, or if
+/// `known` is too small for trimming to pay.
 fn settled_back<W: PlaceSet>(line: &LineOf<W>, known: u16) -> u16
     requires { (known ≤ length line.now) × AreKnown (reverse line.now) known }
     ensures settled { IsSettled (reverse line.now) result }
@@ -61,7 +64,8 @@ fn settled_back<W: PlaceSet>(line: &LineOf<W>, known: u16) -> u16
     known.saturating_sub(blank.first_place())
 }
 
-/// How many settled cells can be cut off in front and behind, if that is worth it. Some cell is left.
+/// Returns how many known cells to trim at the left and at the right end, 0 where trimming does not
+/// pay. At least one cell remains.
 pub fn settled_ends<W: PlaceSet>(line: &LineOf<W>) -> (u16, u16)
     ensures front { IsSettled line.now result.0 }
     ensures back { IsSettled (reverse line.now) result.1 }
@@ -78,7 +82,9 @@ pub fn settled_ends<W: PlaceSet>(line: &LineOf<W>) -> (u16, u16)
     )
 }
 
-/// How many of a clue's numbers are the runs of settled cells at an end, or none if these aren't how it begins there.
+/// Matches the runs of the first `cells` cells with the first numbers of `clue`, or, if `TURNED`,
+/// those of the last `cells` cells with its last numbers. Returns how many runs there are, or
+/// `None` if they do not match.
 fn end_runs<W: PlaceSet, const TURNED: bool>(
     line: &LineOf<W>,
     cells: u16,
@@ -86,7 +92,9 @@ fn end_runs<W: PlaceSet, const TURNED: bool>(
 ) -> Option<usize>
     requires cells { cells ≤ length line.now }
     requires clue { AreLengths W.WIDTH clue.now }
-    ensures { ArePassed (filled_first cells (turned TURNED line.now)) (turned TURNED clue.now) result }
+    ensures { ArePassed
+        (filled_first cells (turned TURNED line.now))
+        (turned TURNED clue.now) result }
 {
     if cells == 0 {
         return Some(0);
@@ -95,8 +103,9 @@ fn end_runs<W: PlaceSet, const TURNED: bool>(
     passed_runs::<W, TURNED>(seen.intersection(first_places(cells)), clue)
 }
 
-/// Which of a clue's numbers are left for the cells between settled ones, from which one on and up to which one;
-/// none if the settled ones leave no placing.
+/// Returns the range of the clue's numbers that remain for the cells between the first `front` and
+/// the last `back` ones, as its start and its exclusive end; `None` if the line has no placing
+/// because of the trimmed cells.
 pub fn open_numbers<W: PlaceSet>(
     line: &LineOf<W>,
     front: u16,
@@ -106,9 +115,11 @@ pub fn open_numbers<W: PlaceSet>(
     requires front { IsSettled line.now front }
     requires back { IsSettled (reverse line.now) back }
     requires clue { AreLengths W.WIDTH clue.now }
-    ensures { AreLeft (filled_first front line.now) (filled_first back (reverse line.now)) clue.now result }
+    ensures { AreLeft
+        (filled_first front line.now) (filled_first back (reverse line.now)) clue.now result }
 {
     let from = end_runs::<W, false>(line, front, clue)?;
+    // Matched with the numbers that the front leaves, so that no number is used at both ends.
     let runs = end_runs::<W, true>(line, back, &clue[from..])?;
     Some((from, clue.len() - runs))
 }

@@ -1,4 +1,4 @@
-//! Lines as words of some width.
+//! The domain of a line: the colours that its cells can still take, as bit sets of one width.
 
 ghost use Rattle.std.specs.Prelude.{◌≡◌, ◌<◌, ◌≤◌, List, reverse};
 ghost use Rattle.grid_core.specs.declared.cells.Cell.{Cell};
@@ -7,7 +7,8 @@ ghost use Rattle.line_core.specs.steps.Passes.{IsSpanOf, padded};
 use grid_core::LineOf;
 use place_sets::{PlaceSet, complement_within, first_places, reversed_within};
 
-/// How many cells a line has, and those of them that may be blank, and that may be filled.
+/// The colours that each cell of a line of `len` cells can still take: `free` has the cells that
+/// are not known to be filled, `room` those that are not known to be blank.
 #[derive(Drop)]
 pub struct Span<W: PlaceSet> {
     pub len: u16,
@@ -16,9 +17,10 @@ pub struct Span<W: PlaceSet> {
 }
 
 impl<W: PlaceSet> Span<W> {
-    /// How many cells a line has, and those that may be blank, and that may be filled.
+    /// Returns the domain of `line`.
     pub fn of(line: &LineOf<W>) -> Span<W>
-        ensures { IsSpanOf W.WIDTH line.now result.len (W.number result.free) (W.number result.room) }
+        ensures { IsSpanOf W.WIDTH line.now result.len
+            (W.number result.free) (W.number result.room) }
     {
         let len = line.len();
         Span {
@@ -29,11 +31,13 @@ impl<W: PlaceSet> Span<W> {
     }
 }
 
-/// The line seen from its other end.
+/// Returns the domain of the mirrored line.
 pub fn reversed<W: PlaceSet>(span: &Span<W>) -> Span<W>
     ghost line: { List Cell }
-    requires { IsSpanOf W.WIDTH line span.now.len (W.number span.now.free) (W.number span.now.room) }
-    ensures { IsSpanOf W.WIDTH (reverse line) result.len (W.number result.free) (W.number result.room) }
+    requires { IsSpanOf W.WIDTH line span.now.len
+        (W.number span.now.free) (W.number span.now.room) }
+    ensures { IsSpanOf W.WIDTH (reverse line) result.len
+        (W.number result.free) (W.number result.room) }
 {
     Span {
         len: span.len,
@@ -42,12 +46,14 @@ pub fn reversed<W: PlaceSet>(span: &Span<W>) -> Span<W>
     }
 }
 
-/// The line with blank cells behind it, up to as many as the sets have places: seen from the other end it
-/// needs no shift.
+/// Returns the domain of the line with blank cells appended until it is as long as the sets are
+/// wide: mirroring it then takes no shift.
 pub fn padded<W: PlaceSet>(span: &Span<W>) -> Span<W>
     ghost line: { List Cell }
-    requires { IsSpanOf W.WIDTH line span.now.len (W.number span.now.free) (W.number span.now.room) }
-    ensures { IsSpanOf W.WIDTH (padded W.WIDTH line) result.len (W.number result.free) (W.number result.room) }
+    requires { IsSpanOf W.WIDTH line span.now.len
+        (W.number span.now.free) (W.number span.now.room) }
+    ensures { IsSpanOf W.WIDTH (padded W.WIDTH line) result.len
+        (W.number result.free) (W.number result.room) }
 {
     let behind = W::full().difference(first_places(span.len));
     Span {

@@ -1,4 +1,4 @@
-//! The leftmost and the rightmost placing.
+//! The leftmost and the rightmost placing of a line.
 
 ghost use Rattle.std.specs.Prelude.{◌≡◌, ◌<◌, ◌≤◌, [], length, map, take, slice_index, vec_capacity, ℕ, List, Some, None, IfOk, MatchBool};
 ghost use Rattle.grid_core.specs.declared.cells.Cell.{Cell};
@@ -20,14 +20,15 @@ use place_sets::{PlaceSet, Wide, windows_within};
 use std::alloc::Global;
 use std::marker::Model;
 
-/// The side of a line towards which runs are moved.
+/// The direction in which the runs of a placing are moved as far as they can be.
 #[derive(Clone, Copy)]
 pub enum Side {
     Left,
     Right,
 }
 
-/// The place of a set that is furthest to a side.
+/// Returns the index of a nonempty set that is furthest in a direction: the least or the greatest
+/// one.
 fn outermost_place<W: PlaceSet>(side: Side, places: W) -> u16
     requires { 0 < W.number places }
     ensures within { result < W.WIDTH }
@@ -40,10 +41,12 @@ fn outermost_place<W: PlaceSet>(side: Side, places: W) -> u16
     }
 }
 
-/// Whether a line has a placing with no run: its first cell is blank in one.
+/// Reports whether a line has a placing for an empty clue, that is, whether its first cell can be
+/// blank without any run before or after it. `gaps` are its suffix gaps.
 fn may_have_no_run<W: PlaceSet>(span: &Span<W>, clue: &[u16], gaps: &[W::Kept; GAPS]) -> bool
     ghost line: { List Cell }
-    requires span { IsSpanOf W.WIDTH line span.now.len (W.number span.now.free) (W.number span.now.room) }
+    requires span { IsSpanOf W.WIDTH line span.now.len
+        (W.number span.now.free) (W.number span.now.room) }
     requires clue { length clue.now ≡ 0 }
     requires ahead { AreGapsAhead line clue.now (map W.kept_number gaps.now) }
     ensures { MatchBool result (HasPlacing line clue.now) (HasPlacing line clue.now → ⊥) }
@@ -53,14 +56,15 @@ fn may_have_no_run<W: PlaceSet>(span: &Span<W>, clue: &[u16], gaps: &[W::Kept; G
     blankable.contains(0)
 }
 
-/// Room for the start of each run.
+/// A buffer for the start of each run of a placing.
 #[derive(Drop)]
 struct StartList {
     starts: [u16; MOST_RUNS],
 }
 
-/// Writes the start of each run that is furthest to a side among all placings.
-/// Returns whether there is a placing.
+/// Writes, for each run, the start that is furthest in a direction among all placings. Returns
+/// whether there is a placing; if not, the contents of `list` are unspecified. `gaps` are the
+/// suffix gaps of the line.
 fn write_starts<W: PlaceSet>(
     side: Side,
     span: &Span<W>,
@@ -69,17 +73,21 @@ fn write_starts<W: PlaceSet>(
     list: &mut StartList,
 ) -> bool
     ghost line: { List Cell }
-    requires span { IsSpanOf W.WIDTH line span.now.len (W.number span.now.free) (W.number span.now.room) }
+    requires span { IsSpanOf W.WIDTH line span.now.len
+        (W.number span.now.free) (W.number span.now.room) }
     requires clue { AreLengths W.WIDTH clue.now }
     requires count { (0 < length clue.now) × (length clue.now ≤ MOST_RUNS) }
     requires ahead { AreGapsAhead line clue.now (map W.kept_number gaps.now) }
     ensures starts { MatchBool result
-        ((j : ℕ) → j < length clue.now → IsOuterStart side line clue.now j (slice_index list.new.starts j))
+        ((j : ℕ) → j < length clue.now
+        → IsOuterStart side line clue.now j (slice_index list.new.starts j))
         (HasPlacing line clue.now → ⊥) }
     ensures len { length list.new.starts ≡ length list.old.starts }
 {
     let windows = windows_within(span.room);
     let mut pass = Pass::new(span);
+    // For each run the outermost of all its ends in placings is taken. Together these belong to one
+    // placing, so the choice for one run does not restrict those for others.
     for j in 0..clue.len() {
         let ends = pass.step(&windows, clue[j]);
         let ahead = gap_ahead(clue, gaps, j + 1);
@@ -92,8 +100,9 @@ fn write_starts<W: PlaceSet>(
     true
 }
 
-/// Writes the starts of the placing that is furthest to a side, found in sets of one width.
-/// Returns whether there is a placing.
+/// Writes the starts of the placing that is outermost in a direction, using sets of type `W`.
+/// Returns whether there is a placing; if not, the contents of `list` are unspecified. The vector
+/// is the gap buffer of these sets.
 fn find_starts<W: PlaceSet>(
     side: Side,
     line: &LineOf<W>,
@@ -122,8 +131,9 @@ fn find_starts<W: PlaceSet>(
     }
 }
 
-/// Writes the starts of the placing that is furthest to a side, found in the narrowest sets
-/// that have room for the line and the clue's numbers. Returns whether there is a placing.
+/// Writes the starts of the placing that is outermost in a direction, using the narrowest sets that
+/// hold the line and the numbers of the clue. Returns whether there is a placing; if not, the
+/// contents of `list` are unspecified.
 fn find_by_width(
     side: Side,
     line: &Line,
@@ -162,7 +172,8 @@ fn find_by_width(
     }
 }
 
-/// The starts of a placing's runs, in order, and the room that finding them takes.
+/// The starts of the runs of a placing, in order, with the buffers for finding them. Contracts see
+/// it as the list of the starts.
 #[derive(Drop)]
 pub struct Starts {
     count: usize,
@@ -182,7 +193,8 @@ impl Model for Starts {
 }
 
 impl Starts {
-    /// No starts yet.
+    /// Allocates the buffers, with an empty list of starts. Returns `NoMemory` if an allocation
+    /// fails.
     pub fn new(alloc: Global) -> Result<Starts, NoMemory>
         ensures { IfOk result (λ starts. starts ≡ []) }
     {
@@ -195,14 +207,17 @@ impl Starts {
         })
     }
 
-    /// The starts that the last call of `leftmost` or `rightmost` left here, counted from 0: none at first.
+    /// Returns the starts that the last call of `leftmost` or `rightmost` stored here, as cell
+    /// indices counted from 0. The list is empty if that call found no placing, and before the
+    /// first call.
     pub fn list(&self) -> &[u16]
         ensures { result.now ≡ self.now }
     {
         &self.list.starts[..self.count]
     }
 
-    /// The starts of the placing that is furthest to a side.
+    /// Stores the starts of the placing that is outermost in a direction. Returns whether there is
+    /// a placing; if not, the list of starts is empty.
     fn find(&mut self, side: Side, line: &Line, clue: &[u16]) -> bool
         requires clue { AreLengths LONGEST_SIDE clue.now }
         requires count { length clue.now ≤ MOST_RUNS }
@@ -216,8 +231,8 @@ impl Starts {
     }
 }
 
-/// Lists the starts of the placing each of whose starts is least among all placings.
-/// Returns false, with no starts, if there is no placing.
+/// Stores the starts of the leftmost placing, each of which is the least start of its run among all
+/// placings. Returns `false`, with an empty list of starts, if there is no placing.
 pub fn leftmost(line: &Line, clue: &Clue, starts: &mut Starts) -> bool
     ensures { MatchBool result
         (leftmost line.now clue.now ≡ Some starts.new)
@@ -226,8 +241,8 @@ pub fn leftmost(line: &Line, clue: &Clue, starts: &mut Starts) -> bool
     starts.find(Side::Left, line, clue.numbers())
 }
 
-/// Lists the starts of the placing each of whose starts is greatest among all placings.
-/// Returns false, with no starts, if there is no placing.
+/// Stores the starts of the rightmost placing, each of which is the greatest start of its run among
+/// all placings. Returns `false`, with an empty list of starts, if there is no placing.
 pub fn rightmost(line: &Line, clue: &Clue, starts: &mut Starts) -> bool
     ensures { MatchBool result
         (rightmost line.now clue.now ≡ Some starts.new)

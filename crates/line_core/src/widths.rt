@@ -1,4 +1,4 @@
-//! The widths of sets, and how many places a line and a clue need.
+//! The widths of bit sets, and the width that a line and its clue need.
 
 ghost use Rattle.std.specs.Prelude.{◌≤◌, ℕ};
 ghost use Rattle.std.specs.List.{All};
@@ -7,23 +7,24 @@ ghost use Rattle.line_core.specs.declared.widths.Width.{Width};
 
 use grid_core::LONGEST_SIDE;
 
-/// How many places sets have.
+/// The number of indices of a kind of bit set: 64, 128 or 256.
 #[derive(Clone, Copy, Debug, PartialEq, Eq)]
 pub enum Width {
-    /// 64.
+    /// 64 indices.
     Narrow,
-    /// 128.
+    /// 128 indices.
     Middle,
-    /// 256.
+    /// 256 indices.
     Wide,
 }
 
 impl Width {
-    /// The least width in which a number of places has room.
+    /// Returns the least width that holds `places` indices, at most 256.
     pub fn of(places: u16) -> Width
         requires { places ≤ LONGEST_SIDE }
         ensures room { places ≤ places_of result }
-        ensures least { (width : Width) → places ≤ places_of width → places_of result ≤ places_of width }
+        ensures least { (width : Width)
+            → places ≤ places_of width → places_of result ≤ places_of width }
     {
         if places <= 64 {
             Width::Narrow
@@ -35,13 +36,15 @@ impl Width {
     }
 }
 
-/// How many places sets need for a line of `len` cells and for a clue:
-/// `len`, or the clue's greatest number if that is greater.
+/// Returns how many indices the sets for a line of `len` cells and its clue need: `len`, or the
+/// greatest number of the clue if that is greater.
 pub fn places_needed(len: u16, clue: &[u16]) -> u16
     ensures line { len ≤ result }
     ensures clue { All (λ n. n ≤ result) clue.now }
     ensures least { (most : ℕ) → len ≤ most → All (λ n. n ≤ most) clue.now → result ≤ most }
 {
+    // A number greater than `len` leaves no placing, but to find that out the set operations need
+    // it within their width.
     let mut needed = len;
     for number in clue {
         needed = needed.max(*number);

@@ -1,4 +1,4 @@
-//! The program: solves and grades nonograms.
+//! The executable `nonograde`: runs the program on the words and streams of its process.
 #![tactic(auto)]
 
 use program::{refuse_words, run, words_of};

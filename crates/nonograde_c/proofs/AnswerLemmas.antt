@@ -10,25 +10,25 @@ use Rattle.reports.specs.declared.converting.ConvertFault.TheVariants as convert
 use Rattle.nonograde_c.specs.Calls.{Gives, MayLackMemory, fault_of_convert, of_conversion, of_entry}
 use Rattle.nonograde_c.specs.declared.faults.Fault.TheVariants.{Entry}
 
--- `NoMemory` may stand in place of what an entry gives
+-- `NoMemory` may replace the answer of a call that reads an entry
 entry_may : (answer : Result (List ℕ) EntryFault) → MayLackMemory (of_entry answer)
 entry_may (Ok text) = tt
 entry_may (Err fault) = tt
 
--- the fault of an entry is that of the call
+-- an entry's fault is the answer of the call
 pub entry_refused : (fault : EntryFault) (answer : Result (List ℕ) EntryFault)
     → GivesText (Err fault) answer → Gives (Err (Entry fault)) (of_entry answer)
 entry_refused (Text NoMemory) answer gives = entry_may answer
 entry_refused fault answer gives = ap of_entry gives
 
--- `NoMemory` may stand in place of what a conversion gives
+-- `NoMemory` may replace the answer of a call that converts
 conversion_may : (answer : Result (List ℕ) ConvertFault) → MayLackMemory (of_conversion answer)
 conversion_may (Ok text) = tt
 conversion_may (Err (convert.Entry fault)) = tt
 conversion_may (Err convert.Ambiguous) = tt
 conversion_may (Err convert.NoMemory) = tt
 
--- the fault of a conversion is that of the call
+-- a conversion's fault is the answer of the call
 pub conversion_refused : (fault : ConvertFault) (answer : Result (List ℕ) ConvertFault)
     → GivesConverted (Err fault) answer → Gives (Err (fault_of_convert fault)) (of_conversion answer)
 conversion_refused convert.NoMemory answer gives = conversion_may answer

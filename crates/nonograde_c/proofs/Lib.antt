@@ -1,3 +1,3 @@
--- Lemmas on the answers of calls and on what they leave in a room.
+-- Lemmas about the answers of calls and about what they write to a buffer.
 mod AnswerLemmas
 mod RoomLemmas

@@ -1,4 +1,5 @@
--- What the calls give: their answers, the numbers of their statuses, and what they leave in the caller's room.
+-- The answers of the calls, the numbers of their statuses, and what they write to the caller's
+-- buffer.
 use Rattle.std.specs.Prelude.{◌≡◌, ℕ, zero, suc, ◌<◌, ◌≤◌, ◌++◌, List, length, drop, codes, nat_le, if◌then◌else◌, Option, Some, None, Result, Ok, Err}
 use Rattle.lane_core.specs.declared.jobs.TheConstants.{MOST_GUESSES}
 use Rattle.puzzle_text.specs.Words.{word_of}
@@ -38,7 +39,7 @@ number_of status.BadGoal = 12
 number_of status.Ambiguous = 13
 number_of status.NoMemory = 14
 
--- the status at a fault of a puzzle's text
+-- the status of a fault of a puzzle's text
 abbrev pub status_of_text : TextFault → Status
 status_of_text text.TooLong = status.TooLong
 status_of_text text.NoSize = status.NoSize
@@ -51,98 +52,106 @@ status_of_text (text.BadNumber _) = status.BadNumber
 status_of_text (text.BadGoal _) = status.BadGoal
 status_of_text text.NoMemory = status.NoMemory
 
--- the status at a fault
+-- the status of a fault
 abbrev pub status_of : Fault → Status
 status_of Setting = status.BadSetting
 status_of (Entry entry.UnknownFormat) = status.UnknownFormat
 status_of (Entry (entry.Text fault)) = status_of_text fault
 status_of Ambiguous = status.Ambiguous
 
--- the word of a fault
+-- the fault word
 abbrev pub fault_word : Fault → List ℕ
 fault_word Setting = codes "BadSetting"
 fault_word (Entry fault) = word_of fault
 fault_word Ambiguous = codes "Ambiguous"
 
--- the rule for guesses of a number, if there is one
+-- the guess rule with this number, if there is one
 abbrev pub pick_numbered : ℕ → Option Pick
 pick_numbered zero = Some First
 pick_numbered (suc zero) = Some Most
 pick_numbered (suc (suc _)) = None
 
--- the format of a number, if there is one
+-- the format with this number, if there is one
 abbrev pub format_numbered : ℕ → Option Format
 format_numbered zero = Some Non
 format_numbered (suc zero) = Some Mk
 format_numbered (suc (suc zero)) = Some Nin
 format_numbered (suc (suc (suc _))) = None
 
--- an entry's answer as that of a call
+-- the answer of a call that reads an entry
 abbrev pub of_entry : Result (List ℕ) EntryFault → Result (List ℕ) Fault
 of_entry (Ok text) = Ok text
 of_entry (Err fault) = Err (Entry fault)
 
--- why a call gives no text if a puzzle is not converted
+-- the fault of a call whose conversion failed
 abbrev pub fault_of_convert : ConvertFault → Fault
 fault_of_convert (convert.Entry fault) = Entry fault
 fault_of_convert convert.Ambiguous = Ambiguous
 fault_of_convert convert.NoMemory = Entry (entry.Text text.NoMemory)
 
--- a conversion's answer as that of a call
+-- the answer of a call that converts
 abbrev pub of_conversion : Result (List ℕ) ConvertFault → Result (List ℕ) Fault
 of_conversion (Ok text) = Ok text
 of_conversion (Err fault) = Err (fault_of_convert fault)
 
--- the text's puzzle closed by lines
+-- the answer of line logic to the puzzle with this name and text
 abbrev pub lines_answer : List ℕ → List ℕ → Result (List ℕ) Fault
 lines_answer name body = of_entry (text_or_fault lines_text (said name body))
 
--- the text's puzzle graded by a rule, with its solutions, if there is such a rule
+-- the answer to grading the puzzle by a guess rule; without a rule, the fault of a bad setting
 abbrev pub solve_by : ℕ → Option Pick → List ℕ → List ℕ → Result (List ℕ) Fault
 solve_by guesses None name body = Err Setting
-solve_by guesses (Some pick) name body = of_entry (text_or_fault (solve_text name guesses pick) (said name body))
+solve_by guesses (Some pick) name body =
+    of_entry (text_or_fault (solve_text name guesses pick) (said name body))
 
--- the rule of a number, if the number of guesses is in its range
+-- the guess rule with the number `pick`, if there is one and `guesses` is in its range
 abbrev pub pick_within : ℕ → ℕ → Option Pick
 pick_within guesses pick = if nat_le guesses MOST_GUESSES then pick_numbered pick else None
 
--- the text's puzzle graded, with its solutions
+-- the answer to grading the puzzle, with the guess rule as a number
 abbrev pub solve_answer : ℕ → ℕ → List ℕ → List ℕ → Result (List ℕ) Fault
 solve_answer guesses pick name body = solve_by guesses (pick_within guesses pick) name body
 
--- the text's puzzle in a format, if there is such a format
+-- the answer to converting the puzzle; without a format, the fault of a bad setting
 abbrev pub convert_to : Option Format → List ℕ → List ℕ → Result (List ℕ) Fault
 convert_to None name body = Err Setting
 convert_to (Some format) name body = of_conversion (converted format (said name body))
 
--- the text's puzzle in the format of a number
+-- the answer to converting the puzzle, with the format as a number
 abbrev pub convert_answer : ℕ → List ℕ → List ℕ → Result (List ℕ) Fault
 convert_answer format name body = convert_to (format_numbered format) name body
 
--- `NoMemory` may stand in place of this answer: of any but a bad setting.
+-- an allocation may fail before this answer is reached: any answer but the fault of a bad setting
 abbrev pub MayLackMemory : Result (List ℕ) Fault → Type 0
 MayLackMemory (Ok _) = Unit {0}
 MayLackMemory (Err Setting) = ⊥
 MayLackMemory (Err (Entry _)) = Unit {0}
 MayLackMemory (Err Ambiguous) = Unit {0}
 
--- What a call answered is this answer, or `NoMemory` in its place.
+-- the first answer is the second one, or `NoMemory` in place of an answer that it may replace
 abbrev pub Gives : Result (List ℕ) Fault → Result (List ℕ) Fault → Type 0
 Gives (Err (Entry (entry.Text text.NoMemory))) answer = MayLackMemory answer
 Gives given answer = answer ≡ given
 
--- Bytes are left in a room: if it holds them they come first, and the rest is as it was; in a smaller room all is as it
--- was. The reply tells the status, or that the room is too small, and how many bytes there are.
-pub record LeavesBytes (number : ℕ) (bytes : List ℕ) (reply : Reply) (old new : List ℕ) : Type 0 where
+-- `bytes` are written to a buffer: if they fit they stand at its start, and the rest is unchanged;
+-- if
+-- not, all of it is unchanged. The reply has the status with this number, or that the buffer is too
+-- small, and the length of `bytes`.
+pub record LeavesBytes (number : ℕ) (bytes : List ℕ) (reply : Reply)
+    (old new : List ℕ) : Type 0 where
   pub told : reply.length ≡ length bytes
-  pub held : length bytes ≤ length old → (reply.status ≡ number) × (new ≡ bytes ++ drop (length bytes) old)
-  pub refused : length old < length bytes → (reply.status ≡ number_of status.RoomTooSmall) × (new ≡ old)
+  pub held : length bytes ≤ length old →
+      (reply.status ≡ number) × (new ≡ bytes ++ drop (length bytes) old)
+  pub refused : length old < length bytes →
+      (reply.status ≡ number_of status.RoomTooSmall) × (new ≡ old)
 
--- an answer is left in a room: the text, or the fault's word
+-- an answer is written to a buffer: the text, or the fault word
 abbrev pub Leaves : Result (List ℕ) Fault → Reply → List ℕ → List ℕ → Type 0
 Leaves (Ok text) reply old new = LeavesBytes (number_of status.Answered) text reply old new
-Leaves (Err fault) reply old new = LeavesBytes (number_of (status_of fault)) (fault_word fault) reply old new
+Leaves (Err fault) reply old new =
+    LeavesBytes (number_of (status_of fault)) (fault_word fault) reply old new
 
--- a call leaves what it answers
+-- a call writes this answer, or `NoMemory` in its place, to the buffer
 abbrev pub Answers : Result (List ℕ) Fault → Reply → List ℕ → List ℕ → Type 0
-Answers answer reply old new = (given : Result (List ℕ) Fault) × Gives given answer × Leaves given reply old new
+Answers answer reply old new =
+    (given : Result (List ℕ) Fault) × Gives given answer × Leaves given reply old new

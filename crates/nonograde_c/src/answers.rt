@@ -1,4 +1,4 @@
-//! The answers of calls, before they are left in a room.
+//! The answers of the calls for C, before they are written to the caller's buffer.
 
 ghost use Rattle.std.specs.Prelude.{◌≡◌, ◌<◌, true, false, length, Err, IsSome};
 ghost use Rattle.puzzle_text.specs.Formats.{is_format};
@@ -11,10 +11,11 @@ use puzzle_text::{EntryFault, LONGEST_PUZZLE, TextFault};
 use reports::{ConvertFault, convert, lines_report, solve_report};
 use std::alloc::Global;
 
-/// The grid of a puzzle's text closed by lines.
+/// Returns what `lines` prints for a puzzle's text: a line, and the grid that line logic reaches.
 pub fn lines_answer(alloc: Global, name: &[u8], text: &[u8]) -> Result<Vec<u8>, Fault>
     ensures answer { Gives (shown result) (lines_answer name.now text.now) }
-    ensures unknown { is_format name.now ≡ false → result ≡ Err (Fault.Entry EntryFault.UnknownFormat) }
+    ensures unknown { is_format name.now ≡ false →
+        result ≡ Err (Fault.Entry EntryFault.UnknownFormat) }
     ensures too_long { is_format name.now ≡ true → LONGEST_PUZZLE < length text.now →
         result ≡ Err (Fault.Entry (EntryFault.Text TextFault.TooLong)) }
 {
@@ -24,7 +25,8 @@ pub fn lines_answer(alloc: Global, name: &[u8], text: &[u8]) -> Result<Vec<u8>, 
     }
 }
 
-/// The line of a puzzle's text in a survey and its solutions, by settings as numbers.
+/// Returns what `solve` prints for a puzzle's text: its line in a survey, and its solutions. `pick`
+/// is the number of a guess rule.
 pub fn solve_answer(
     alloc: Global,
     name: &[u8],
@@ -35,7 +37,8 @@ pub fn solve_answer(
     ensures answer { Gives (shown result) (solve_answer guesses pick name.now text.now) }
     ensures unknown { IsSome (pick_within guesses pick) → is_format name.now ≡ false →
         result ≡ Err (Fault.Entry EntryFault.UnknownFormat) }
-    ensures too_long { IsSome (pick_within guesses pick) → is_format name.now ≡ true → LONGEST_PUZZLE < length text.now →
+    ensures too_long { IsSome (pick_within guesses pick) → is_format name.now ≡ true →
+        LONGEST_PUZZLE < length text.now →
         result ≡ Err (Fault.Entry (EntryFault.Text TextFault.TooLong)) }
 {
     let Some(pick) = pick_within(guesses, pick) else {
@@ -47,7 +50,7 @@ pub fn solve_answer(
     }
 }
 
-/// Why a call gives no text if a puzzle is not converted.
+/// Returns the fault of a call whose conversion failed.
 fn fault_of_convert(fault: ConvertFault) -> Fault
     ensures { result ≡ fault_of_convert fault }
 {
@@ -58,7 +61,7 @@ fn fault_of_convert(fault: ConvertFault) -> Fault
     }
 }
 
-/// A puzzle's text in the format of a number.
+/// Returns a puzzle's text in another format. `format` is the number of a format.
 pub fn convert_answer(
     alloc: Global,
     name: &[u8],
@@ -68,7 +71,8 @@ pub fn convert_answer(
     ensures answer { Gives (shown result) (convert_answer format name.now text.now) }
     ensures unknown { IsSome (format_numbered format) → is_format name.now ≡ false →
         result ≡ Err (Fault.Entry EntryFault.UnknownFormat) }
-    ensures too_long { IsSome (format_numbered format) → is_format name.now ≡ true → LONGEST_PUZZLE < length text.now →
+    ensures too_long { IsSome (format_numbered format) → is_format name.now ≡ true →
+        LONGEST_PUZZLE < length text.now →
         result ≡ Err (Fault.Entry (EntryFault.Text TextFault.TooLong)) }
 {
     let Some(format) = format_numbered(format) else {

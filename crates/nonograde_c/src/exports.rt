@@ -1,4 +1,4 @@
-//! The calls that C sees. `include/nonograde.h` says of each what it takes, gives and leaves.
+//! The functions that C programs call. `include/nonograde.h` documents them for those.
 
 ghost use Rattle.std.specs.Prelude.{◌≡◌, ◌<◌, true, false, length, Err, IsSome, Ok};
 ghost use Rattle.puzzle_text.specs.Formats.{is_format};
@@ -11,9 +11,10 @@ use puzzle_text::{EntryFault, LONGEST_PUZZLE, TextFault};
 use reports::VERSION;
 use std::alloc::Global;
 
-/// The line of a puzzle's text in a survey, numbered 1, and its solutions, each followed by an empty line. The name's
-/// ending says the format. The search spends at most `guesses` guesses, from 0 to 1,000,000, each by the rule `pick`:
-/// 0 is the first unknown cell, 1 the one with the most known neighbours.
+/// Grades and solves a puzzle's text. The answer is its line in a survey, as entry 1, and its
+/// solutions, each followed by an empty line. The ending of `name` is the format. The search makes
+/// at most `guesses` guesses, from 0 to 1,000,000, by the rule `pick`: 0 guesses the first unknown
+/// cell, 1 the one with the most known neighbours.
 #[unsafe(no_mangle)]
 pub extern "C" fn nonograde_solve(
     alloc: Global,
@@ -23,24 +24,28 @@ pub extern "C" fn nonograde_solve(
     pick: u32,
     room: &mut [u8],
 ) -> Reply
-    ensures answer { Answers (solve_answer guesses pick name.now text.now) result room.old room.new }
-    // `NoMemory` never stands in place of these faults.
+    ensures answer { Answers (solve_answer guesses pick name.now text.now) result
+        room.old room.new }
+    // These faults are found before anything is allocated, so `NoMemory` never hides them.
     ensures unknown { IsSome (pick_within guesses pick) → is_format name.now ≡ false →
         Leaves (Err (Fault.Entry EntryFault.UnknownFormat)) result room.old room.new }
-    ensures too_long { IsSome (pick_within guesses pick) → is_format name.now ≡ true → LONGEST_PUZZLE < length text.now →
+    ensures too_long { IsSome (pick_within guesses pick) → is_format name.now ≡ true →
+        LONGEST_PUZZLE < length text.now →
         Leaves (Err (Fault.Entry (EntryFault.Text TextFault.TooLong))) result room.old room.new }
 {
     let answer = solve_answer(alloc, name, text, guesses, pick);
     leave_answer(room, &answer)
 }
 
-/// The grid of a puzzle's text closed by line logic: `one K` if it is full, or `open K`, with K the number of known
-/// cells, and its rows; `none 0` if it is dead. The name's ending says the format.
+/// Applies line logic to a puzzle's text. The answer is `one K` if all cells are known and `open K`
+/// if not, with K the number of known cells, and then the rows; or `none 0` if there is a
+/// contradiction. The ending of `name` is the format.
 #[unsafe(no_mangle)]
 pub extern "C" fn nonograde_lines(alloc: Global, name: &[u8], text: &[u8], room: &mut [u8]) -> Reply
     ensures answer { Answers (lines_answer name.now text.now) result room.old room.new }
-    // `NoMemory` never stands in place of these faults.
-    ensures unknown { is_format name.now ≡ false → Leaves (Err (Fault.Entry EntryFault.UnknownFormat)) result room.old room.new }
+    // These faults are found before anything is allocated, so `NoMemory` never hides them.
+    ensures unknown { is_format name.now ≡ false →
+        Leaves (Err (Fault.Entry EntryFault.UnknownFormat)) result room.old room.new }
     ensures too_long { is_format name.now ≡ true → LONGEST_PUZZLE < length text.now →
         Leaves (Err (Fault.Entry (EntryFault.Text TextFault.TooLong))) result room.old room.new }
 {
@@ -48,8 +53,8 @@ pub extern "C" fn nonograde_lines(alloc: Global, name: &[u8], text: &[u8], room:
     leave_answer(room, &answer)
 }
 
-/// A puzzle's text in another format: 0 is `.non`, 1 `.mk`, 2 `.nin`. The name's ending says the format of the text that
-/// is read.
+/// Converts a puzzle's text to another format: 0 is `.non`, 1 `.mk`, 2 `.nin`. The ending of `name`
+/// is the format of `text`.
 #[unsafe(no_mangle)]
 pub extern "C" fn nonograde_convert(
     alloc: Global,
@@ -59,17 +64,18 @@ pub extern "C" fn nonograde_convert(
     room: &mut [u8],
 ) -> Reply
     ensures answer { Answers (convert_answer format name.now text.now) result room.old room.new }
-    // `NoMemory` never stands in place of these faults.
+    // These faults are found before anything is allocated, so `NoMemory` never hides them.
     ensures unknown { IsSome (format_numbered format) → is_format name.now ≡ false →
         Leaves (Err (Fault.Entry EntryFault.UnknownFormat)) result room.old room.new }
-    ensures too_long { IsSome (format_numbered format) → is_format name.now ≡ true → LONGEST_PUZZLE < length text.now →
+    ensures too_long { IsSome (format_numbered format) → is_format name.now ≡ true →
+        LONGEST_PUZZLE < length text.now →
         Leaves (Err (Fault.Entry (EntryFault.Text TextFault.TooLong))) result room.old room.new }
 {
     let answer = convert_answer(alloc, name, text, format);
     leave_answer(room, &answer)
 }
 
-/// The version, as the program tells it.
+/// Writes the version, as `nonograde --version` prints it.
 #[unsafe(no_mangle)]
 pub extern "C" fn nonograde_version(room: &mut [u8]) -> Reply
     ensures { Leaves (Ok VERSION.now) result room.old room.new }

@@ -1,4 +1,4 @@
-//! Why a call gives no text, and the numbers that tell it.
+//! The faults of calls, and the numbers of their statuses.
 
 ghost use Rattle.std.specs.Prelude.{◌≡◌};
 ghost use Rattle.puzzle_text.specs.Words.{word_text};
@@ -6,26 +6,26 @@ ghost use Rattle.nonograde_c.specs.Calls.{fault_word, number_of, status_of, stat
 
 use puzzle_text::{EntryFault, FaultWord, TextFault};
 
-/// What a call says of its answer. Its number is the place here, from 0.
+/// How a call ended. The numbers, from 0 in this order, are those of `nonograde.h`.
 #[derive(Clone, Copy, Debug, PartialEq, Eq)]
 pub enum Status {
-    /// The answer is the text.
+    /// The answer is the text that was asked for.
     Answered,
-    /// The answer has more bytes than the room.
+    /// The answer has more bytes than the caller's buffer.
     RoomTooSmall,
     /// A setting is out of its range.
     BadSetting,
-    /// The name's ending tells no format.
+    /// The name's ending is no format.
     UnknownFormat,
     /// The text has more than 1,048,576 bytes.
     TooLong,
-    /// The size is missing.
+    /// The text has no size.
     NoSize,
-    /// A side is no number from 1 to 256.
+    /// The width or the height is no number from 1 to 256.
     BadSize,
-    /// A section is missing.
+    /// A section of clues is missing.
     NoSection,
-    /// A line belongs nowhere or is too long.
+    /// A line belongs to no section, or is too long.
     BadLine,
     /// A line repeats a keyword.
     Twice,
@@ -37,12 +37,12 @@ pub enum Status {
     BadGoal,
     /// In `.nin` the text would be read with the sizes the other way round.
     Ambiguous,
-    /// A growth of memory was refused.
+    /// An allocation failed.
     NoMemory,
 }
 
 impl Status {
-    /// The number of a status.
+    /// Returns the number of a status.
     pub fn number(self) -> u32
         ensures { result ≡ number_of self }
     {
@@ -50,18 +50,18 @@ impl Status {
     }
 }
 
-/// Why a call gives no text: the first of these, in this order.
+/// Why a call failed. If several faults apply, it is the first in this order.
 #[derive(Clone, Copy, Debug, PartialEq, Eq)]
 pub enum Fault {
     /// A setting is out of its range.
     Setting,
-    /// The text is refused, or a growth of memory was.
+    /// The text is refused, or an allocation failed.
     Entry(EntryFault),
     /// In `.nin` the text would be read with the sizes the other way round.
     Ambiguous,
 }
 
-/// The status at a fault of a puzzle's text.
+/// Returns the status of a fault of a puzzle's text.
 fn status_of_text(fault: TextFault) -> Status
     ensures { result ≡ status_of_text fault }
 {
@@ -80,7 +80,7 @@ fn status_of_text(fault: TextFault) -> Status
 }
 
 impl Fault {
-    /// The status at a fault.
+    /// Returns the status of a fault.
     pub fn status(self) -> Status
         ensures { result ≡ status_of self }
     {
@@ -92,7 +92,7 @@ impl Fault {
         }
     }
 
-    /// The fault's word.
+    /// Returns the fault word.
     pub fn word(self) -> FaultWord
         ensures { word_text result ≡ fault_word self }
     {

@@ -1,4 +1,5 @@
-//! The calls for programs in C, and in what can call C: solving a puzzle's text, closing it by lines, converting it.
+//! The library for C, and for languages that can call C: solving a puzzle's text, applying line
+//! logic to it, and converting it.
 #![tactic(auto)]
 
 mod answers;

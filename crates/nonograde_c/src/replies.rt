@@ -1,4 +1,4 @@
-//! What a call leaves in the caller's room, and what it tells.
+//! Writing an answer to the caller's buffer, and the reply that goes with it.
 
 ghost use Rattle.std.specs.Prelude.{◌≡◌, ◌+◌, ◌++◌, ◌≤◌, length, take, drop, Ok, Err};
 ghost use Rattle.puzzle_text.specs.Words.{at_line};
@@ -8,18 +8,18 @@ ghost use Rattle.nonograde_c.specs.steps.Answers.{shown};
 use crate::faults::{Fault, Status};
 use itoa::Buffer;
 
-/// What a call tells: the number of its status, and how many bytes the answer has, whether the room holds them or not.
+/// What a call returns: its status, and the length of its answer, even if the buffer is too small.
 #[repr(C)]
 #[derive(Clone, Copy, Debug, PartialEq, Eq)]
 pub struct Reply {
     /// The number of the status.
     pub status: u32,
-    /// How many bytes the answer has.
+    /// The length of the answer in bytes.
     pub length: usize,
 }
 
 impl Reply {
-    /// What is told of an answer of so many bytes that the room holds.
+    /// Returns the reply for an answer of `length` bytes that fits into the caller's buffer.
     fn held(status: Status, length: usize) -> Reply
         ensures { result ≡ record { status = number_of status; length = length } }
     {
@@ -29,7 +29,7 @@ impl Reply {
         }
     }
 
-    /// What is told of an answer of so many bytes that the room doesn't hold.
+    /// Returns the reply for an answer of `length` bytes that doesn't fit into the caller's buffer.
     fn too_small(length: usize) -> Reply
         ensures { result ≡ record { status = number_of Status.RoomTooSmall; length = length } }
     {
@@ -38,15 +38,16 @@ impl Reply {
     }
 }
 
-/// Puts bytes into a room at a place.
+/// Copies `bytes` into the buffer, from index `place` on.
 fn put(room: &mut [u8], place: usize, bytes: &[u8])
     requires { place + length bytes.now ≤ length room.old }
-    ensures { room.new ≡ take place room.old ++ bytes.now ++ drop (place + length bytes.now) room.old }
+    ensures { room.new ≡ take place room.old ++ bytes.now
+        ++ drop (place + length bytes.now) room.old }
 {
     room[place..place + bytes.len()].copy_from_slice(bytes);
 }
 
-/// Leaves bytes in the room.
+/// Writes `bytes` to the start of the buffer, or nothing if they don't fit.
 fn leave(room: &mut [u8], status: Status, bytes: &[u8]) -> Reply
     ensures { LeavesBytes (number_of status) bytes.now result room.old room.new }
 {
@@ -58,7 +59,7 @@ fn leave(room: &mut [u8], status: Status, bytes: &[u8]) -> Reply
     Reply::held(status, length)
 }
 
-/// Leaves bytes in the room, and after a colon a number.
+/// Writes `bytes`, a colon and `number` to the start of the buffer, or nothing if they don't fit.
 fn leave_at_line(room: &mut [u8], status: Status, bytes: &[u8], number: u32) -> Reply
     ensures { LeavesBytes (number_of status) (at_line bytes.now number) result room.old room.new }
 {
@@ -75,14 +76,14 @@ fn leave_at_line(room: &mut [u8], status: Status, bytes: &[u8], number: u32) -> 
     Reply::held(status, length)
 }
 
-/// Leaves a text in the room.
+/// Writes a text to the buffer, with the status `Answered`.
 pub fn leave_text(room: &mut [u8], text: &[u8]) -> Reply
     ensures { Leaves (Ok text.now) result room.old room.new }
 {
     leave(room, Status::Answered, text)
 }
 
-/// Leaves the word of a fault in the room.
+/// Writes a fault word to the buffer, with the fault's status.
 fn leave_word(room: &mut [u8], fault: Fault) -> Reply
     ensures { Leaves (Err fault) result room.old room.new }
 {
@@ -93,7 +94,7 @@ fn leave_word(room: &mut [u8], fault: Fault) -> Reply
     }
 }
 
-/// Leaves an answer in the room: the text, or the fault's word.
+/// Writes an answer to the buffer: the text, or the fault word.
 pub fn leave_answer(room: &mut [u8], answer: &Result<Vec<u8>, Fault>) -> Reply
     ensures { Leaves (shown answer.now) result room.old room.new }
 {

@@ -1,4 +1,4 @@
-//! Settings that come as numbers.
+//! Settings that are passed as numbers.
 
 ghost use Rattle.std.specs.Prelude.{◌≡◌, ◌≤◌, IfSome};
 ghost use Rattle.nonograde_c.specs.Calls.{format_numbered, pick_numbered, pick_within};
@@ -7,7 +7,7 @@ use lane_core::MOST_GUESSES;
 use puzzle_text::Format;
 use solve_core::Pick;
 
-/// The rule for guesses of a number, if there is one.
+/// Returns the guess rule with this number, if there is one.
 fn pick_numbered(number: u32) -> Option<Pick>
     ensures { result ≡ pick_numbered number }
 {
@@ -18,7 +18,7 @@ fn pick_numbered(number: u32) -> Option<Pick>
     }
 }
 
-/// The same, if a number of guesses is in its range.
+/// Returns the guess rule with this number, if there is one and `guesses` is in its range.
 pub fn pick_within(guesses: u32, number: u32) -> Option<Pick>
     ensures rule { result ≡ pick_within guesses number }
     ensures within { IfSome result (λ _. guesses ≤ MOST_GUESSES) }
@@ -30,7 +30,7 @@ pub fn pick_within(guesses: u32, number: u32) -> Option<Pick>
     }
 }
 
-/// The format of a number, if there is one.
+/// Returns the format with this number, if there is one.
 pub fn format_numbered(number: u32) -> Option<Format>
     ensures { result ≡ format_numbered number }
 {

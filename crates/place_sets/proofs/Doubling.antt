@@ -1,4 +1,4 @@
--- Windows of 1, 2, 4 and so on places: how a table of them grows, and which level stands for a length.
+-- Fit tables: how one is extended by a level, and which level a length has.
 use Rattle.std.proofs.Common.{◌≡◌, ℕ, ◌+◌, ◌*◌, ◌^◌, ◌%◌, ◌<◌, ◌≤◌, List, length, get_or, set, map, arith, get_or-set_same, get_or-set_other}
 use Rattle.std.proofs.lemmas.List.{get_or-map, map-set, length-map}
 use Rattle.std.proofs.lemmas.Nat.{pow-add, pow_below, one_shl}
@@ -10,7 +10,7 @@ use Rattle.place_sets.proofs.Steps.{widen}
 pub pow_next : (k : ℕ) → 2 ^ (k + 1) ≡ 2 ^ k + 2 ^ k
 pow_next k = omega (arith, pow-add 2 k 1)
 
--- a table of windows that are right up to a level is right up to the next one, once that is set
+-- a fit table that is correct up to a level is correct up to the next one after that is set
 pub windows_more : {A : Type 0} (number : A → ℕ) (mask : ℕ) (xs : List A) (level by : ℕ) (d y : A) → level + 1 < length xs → by ≡ 2 ^ level
     → IsMaskOf (λ i. Has (number (get_or xs level d)) i × Has (number (get_or xs level d)) (i + by)) (number y)
     → ((k : ℕ) → k ≤ level → IsMaskOf (AllFrom (Has mask) (2 ^ k)) (get_or (map number xs) k 0))
@@ -21,18 +21,18 @@ windows_more number mask xs level by d y l e h inv k b =
     widen _ _ _ _ _ _ (rw was at (inv level (omega arith))) h (omega arith) (omega (arith, pow_next level)) in
     rw (map-set number xs (level + 1) y) (grind (arith, inv k, now, get_or-set_same, get_or-set_other, length-map))
 
--- a level that a number up to a power of two has is no greater than that power's
+-- the level of a number that is at most `2 ^ top` is at most `top`
 pub level_within : (level n width top : ℕ) → 2 ^ level ≤ n → n ≤ width → width ≡ 2 ^ top → level ≤ top
 level_within level n width top h b e = grind (arith, pow_below)
 
--- a step of the level below the width
+-- `2 ^ level` is less than the width if the level is less than the top one
 pub step_within : (level width top : ℕ) → level < top → top ≤ 8 → width ≡ 2 ^ top → 1 * 2 ^ level % 65536 < width
 step_within level width top l t e = omega (arith, one_shl level 16 (omega arith), pow_below level top l)
 
--- one place is within the width
+-- the width is greater than 1
 pub one_within : (width top : ℕ) → 1 ≤ top → width ≡ 2 ^ top → 1 < width
 one_within width top h e = omega (arith, pow_below 0 top (omega arith))
 
--- no width is over 256
+-- the width is at most 256
 pub width_most : (width top : ℕ) → top ≤ 8 → width ≡ 2 ^ top → width ≤ 256
 width_most width top h e = let most : 2 ^ top ≤ 2 ^ 8 = pow_mono h in omega arith

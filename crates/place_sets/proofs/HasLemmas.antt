@@ -1,11 +1,11 @@
--- Whether a mask has a place, as a test.
+-- The two forms of membership in a mask: the test `has` and the proposition `Has`.
 use Rattle.std.proofs.Common.{◌≡◌, ℕ, true, refl, eqb-true}
 use Rattle.place_sets.specs.Masks.{Has, has}
 
--- the test passes at a place of the mask
+-- the test is true of each index in the mask
 pub has_true : (m i : ℕ) → Has m i → has m i ≡ true
 has_true m i h = rw h refl
 
--- a place at which the test passes is one of the mask
+-- an index of which the test is true is in the mask
 pub true_has : (m i : ℕ) → has m i ≡ true → Has m i
 true_has m i h = eqb-true _ _ h

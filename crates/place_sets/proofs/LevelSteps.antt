@@ -1,15 +1,15 @@
--- Spreading by levels: what a level holds once a mask joins it, and how a mask is spread over more places.
+-- Spreading by levels: the levels after a mask was joined to one of them, and a mask that is spread further.
 use Rattle.std.proofs.Common.{◌≡◌, ℕ, zero, suc, refl, replicate, ◌+◌, ◌-◌, ◌^◌, ◌<◌, ◌≤◌, ◌↔◌, List, length, get_or, set, sym, map, arith, get_or-set_same, get_or-set_other, ◌⊎◌, inl, inr}
 use Rattle.std.proofs.lemmas.Bool.{cases_lt}
 use Rattle.place_sets.specs.Masks.{Has, IsMaskOf, SomeFrom, SomeLevel, AreLevelsOf}
 use Rattle.std.proofs.lemmas.Nat.Bits.{bit_at-zero}
 use Rattle.std.proofs.lemmas.List.{get_or-map, map-set, length-map}
 
--- a place is one of a stretch of places of which some one has something
+-- `P` holds of some index among the `n` from `i` on if it holds of one of these, `j`
 some_at : (P : ℕ → Type 0) (n i j : ℕ) → P j → i ≤ j → j < i + n → SomeFrom P n i
 some_at P n i j p l b = let e : i + (j - i) ≡ j = omega arith in (j - i, omega arith, rw e p)
 
--- a mask spread over `m` places, spread once more by `s`, is spread over `m + s`
+-- a mask that is spread by length `m`, joined to its copy shifted down by `s`, is spread by length `m + s`
 pub spread_more : (mask w m s n next : ℕ) → IsMaskOf (SomeFrom (Has mask) m) w → IsMaskOf (λ i. Has w i ⊎ Has w (i + s)) next → s ≤ m
     → m + s ≡ n → IsMaskOf (SomeFrom (Has mask) n) next
 spread_more mask w m s n next p q l t =
@@ -25,7 +25,7 @@ spread_more mask w m s n next p q l t =
       ]);
     }
 
--- a mask spread by `s` places more, and then over `m` places, is spread over `m + s`
+-- a mask joined to its copy shifted down by `s`, and then spread by length `m`, is spread by length `m + s`
 pub spread_before : (mask s next m n i : ℕ) → s ≤ m → m + s ≡ n → IsMaskOf (λ i. Has mask i ⊎ Has mask (i + s)) next
     → SomeFrom (Has next) m i ↔ SomeFrom (Has mask) n i
 spread_before mask s next m n i l t h = (
@@ -41,19 +41,19 @@ spread_before mask s next m n i l t h = (
   ],
 )
 
--- an element of a table of words, as a number
+-- an element of a list of sets, as a mask
 pub number_at : {A : Type 0} (number : A → ℕ) (xs : List A) (i : ℕ) (d : A) → i < length xs
     → number (get_or xs i d) ≡ get_or (map number xs) i 0
 number_at number xs i d l = sym (get_or-map number xs i d 0 l)
 
--- what the levels' masks have once a mask joins that of one of them
+-- the indices of each level's mask after a mask was joined to that of one level
 has_set : {A : Type 0} (number : A → ℕ) (xs : List A) (level : ℕ) (d y : A) (next : ℕ) → level < length xs
     → IsMaskOf (λ k. Has (number (get_or xs level d)) k ⊎ Has next k) (number y) → (k j : ℕ)
     → Has (get_or (map number (set xs level y)) k 0) j ↔ (Has (get_or (map number xs) k 0) j ⊎ ((k ≡ level) × Has next j))
 has_set number xs level d y next l p k j =
     rw (map-set number xs level y) (grind (arith, get_or-set_same, get_or-set_other, get_or-map number xs level d 0, length-map))
 
--- what the levels have once a mask, spread by `s` places, joins that of one of them
+-- the indices of all levels together after a mask, joined to its copy shifted down by `s`, was joined to one level
 pub level_set : {A : Type 0} (number : A → ℕ) (xs : List A) (top level : ℕ) (d y : A) (mask s next n : ℕ) → level ≤ top
     → level < length xs → s ≤ 2 ^ level → 2 ^ level + s ≡ n → IsMaskOf (λ i. Has mask i ⊎ Has mask (i + s)) next
     → IsMaskOf (λ k. Has (number (get_or xs level d)) k ⊎ Has next k) (number y)
@@ -68,16 +68,16 @@ level_set number xs top level d y mask s next n b l t e q p i =
       ],
     )
 
--- no level has a place at first
+-- empty levels have no index
 pub levels_none : (P : ℕ → Type 0) (top : ℕ) (levels : List ℕ) → ((k : ℕ) → get_or levels k 0 ≡ 0) → ((i : ℕ) → P i → ⊥)
     → AreLevelsOf P top levels
 levels_none P top levels none never = grind (arith, bit_at-zero)
 
--- the lowest level is spread over one place: it is its mask
+-- level 0 extends by no further index, so it has just those of its mask
 pub lowest_is : (P : ℕ → Type 0) (low : ℕ) (levels : List ℕ) → low ≡ 0 → AreLevelsOf P low levels → IsMaskOf P (get_or levels 0 0)
 lowest_is P low levels e p = grind arith
 
--- each element of a list of empty words is 0 as a number
+-- each element of a list of empty sets is the mask 0
 pub none_at : {A : Type 0} (number : A → ℕ) (none : A) → number none ≡ 0 → (count k : ℕ)
     → get_or (map number (replicate count none)) k 0 ≡ 0
 none_at number none e zero k = refl

@@ -1,4 +1,4 @@
--- Lemmas on words as sets of places.
+-- Lemmas on masks: natural numbers as sets of indices.
 pub mod Flooding
 pub mod Steps
 pub mod HasLemmas

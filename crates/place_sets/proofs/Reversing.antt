@@ -1,4 +1,4 @@
--- A mask seen from its other end.
+-- Mirrored masks.
 use Rattle.std.proofs.Common.{◌≡◌, ℕ, zero, suc, ◌+◌, ◌-◌, ◌*◌, ◌^◌, ◌<◌, ◌≤◌, ◌⊎◌, arith, Bool, true}
 use Rattle.std.specs.Int.{bit_at}
 use Rattle.std.proofs.lemmas.Bool.{and_parts}
@@ -11,7 +11,7 @@ pub below_all : (n : ℕ) (p : ℕ → Bool) → all_below n p ≡ true → (i :
 below_all zero p h i l = absurd (omega arith)
 below_all (suc n) p h i l = grind (arith, nat_tests, and_parts (p n) (all_below n p), below_all n p)
 
--- where a place comes from: one of a low half from the high half of its pair, any other from the low half
+-- the index that a swap exchanges with `i`: one in the upper group of the pair if `i` is in the lower group, and vice versa
 pub record Pairing (low by i : ℕ) : Type 0 where
   pub within : swapped_place low by i < 64
   pub pair : (Has low i × (bit_at low (i + by) ≡ 0) × (swapped_place low by i ≡ i + by))
@@ -23,7 +23,7 @@ is_pairing low by i h = let l = bit_at-lt low i in grind (arith, nat_tests)
 pub pairing : (low by : ℕ) → IsPairing 64 low by → (i : ℕ) → i < 64 → Pairing low by i
 pairing low by h i l = is_pairing low by i (below_all 64 (is_pairing_at 64 low by) h i l)
 
--- one step after another
+-- a swap after others: the index that it exchanges with `i` is mapped on by them
 pub step : (x r s : ℕ) (f : ℕ → ℕ) (low by : ℕ) → IsPairing 64 low by → IsMaskOf (λ i. (i < 64) × Has x (f i)) r
     → IsMaskOf (λ i. (i < 64) × Has r (swapped_place low by i)) s → IsMaskOf (λ i. (i < 64) × Has x (f (swapped_place low by i))) s
 step x r s f low by h p q = record {
@@ -31,7 +31,7 @@ step x r s f low by h p q = record {
   from = λ i a. q.from i (a.0, p.from _ ((pairing low by h i a.0).within, a.1));
 }
 
--- places reversed in their word end with the word: shifted down they are the first ones reversed
+-- a mask that is mirrored in its whole width, and then shifted down by `w - len`, is mirrored in its first `len` indices
 pub within_first : (w len n r m : ℕ) → 0 < len → len ≤ w → IsMaskOf (IsReversed w (Has n)) r → IsMaskOf (λ i. Has r (i + (w - len))) m
     → IsMaskOf (λ i. (i < len) × Has n (len - 1 - i)) m
 within_first w len n r m some fits p q =
@@ -41,7 +41,7 @@ within_first w len n r m some fits p q =
       from = λ i h. q.from i (p.from _ (omega (arith, h.0), rw (e i) h.1));
     }
 
--- of two words of `n` places both are reversed, and exchanged
+-- two words of `n` bits are mirrored by mirroring both and exchanging them
 pub words_reversed : (n low high rl rh : ℕ) → low < 2 ^ n → rh < 2 ^ n → IsMaskOf (IsReversed n (Has low)) rl
     → IsMaskOf (IsReversed n (Has high)) rh → IsMaskOf (IsReversed (n + n) (Has (high * 2 ^ n + low))) (rl * 2 ^ n + rh)
 words_reversed n low high rl rh fl fr of_low of_high = grind (arith, bit_at_cat_low, bit_at_cat_high)

@@ -1,4 +1,4 @@
--- What one step on a word comes to, as a set of places.
+-- The operations on one word, as operations on sets of indices.
 use Rattle.std.proofs.Common.{◌≡◌, ℕ, zero, suc, ◌+◌, ◌-◌, ◌*◌, ◌/◌, ◌%◌, ◌^◌, ◌<◌, ◌≤◌, inl, inr, ◌∙◌, arith, min, cond, nat_eq}
 use Rattle.std.specs.Int.{bit_at, w64, w128, trailing_zeros, Width}
 use mir.Val.{bits}
@@ -9,18 +9,18 @@ use Rattle.std.proofs.lemmas.Nat.Bits.{bit_at_and, bit_at_or, bit_at_above, bit_
 use Rattle.std.proofs.lemmas.Nat.{pow-add, one_shl}
 use Rattle.place_sets.specs.Masks.{Has, IsMaskOf}
 
--- a word of `n` ones has the first `n` places
+-- a word of `n` ones has the indices below `n`
 pub low_ones : (n : ℕ) → IsMaskOf (λ i. i < n) (2 ^ n - 1)
 low_ones n = grind (arith, bit_at_ones, bit_at_ones_above)
 
--- the word 1 has the first place alone
+-- the word 1 has index 0 alone
 pub one_is : IsMaskOf (λ i. i ≡ 0) 1
 one_is = grind (arith, low_ones 1)
 
 pub none_is : (P : ℕ → Type 0) → ((i : ℕ) → P i → ⊥) → IsMaskOf P 0
 none_is P f = grind (arith, bit_at-zero)
 
--- no place is above that of the greatest power of two
+-- no index is greater than the logarithm of a word
 pub none_above : (m r : ℕ) → 2 ^ r ≤ m → m < 2 * 2 ^ r → (i : ℕ) → Has m i → i ≤ r
 none_above m r a b i h = grind (arith, pow-add 2 r 1, bit_at_above m (r + 1) i)
 
@@ -31,7 +31,7 @@ place_in (suc n) m b p = elim (cases_eq (m % 2) 1) [
   | inr e ↦ (let r = place_in n (m / 2) (omega arith) (omega arith) in (suc r.0, bit_at-suc m r.0 ∙ r.1))
 ]
 
--- a mask that is not 0 has a place
+-- a mask that is not 0 has an index
 pub some_place : (m : ℕ) → 0 < m → (i : ℕ) × Has m i
 some_place m p = place_in m m (omega arith) p
 
@@ -47,7 +47,7 @@ pub difference_128 : (a b i : ℕ) → a < 3402823669209384634633746074317682114
     → bit_at (bit_and a (340282366920938463463374607431768211455 - b)) i ≡ min (bit_at a i) (1 - bit_at b i)
 difference_128 a b i fa fb = bit_at_difference 128 a b (340282366920938463463374607431768211455 - b) i fa (λ i. bit_at_not w128 b i fb)
 
--- a word of ones has all places
+-- a word of ones has all indices below its width
 pub full_64 : IsMaskOf (λ i. i < 64) 18446744073709551615
 full_64 = low_ones 64
 
@@ -66,7 +66,7 @@ one_place_64 k i h = one_place 64 k i h
 pub one_place_128 : (k i : ℕ) → k < 128 → bit_at (1 * 2 ^ k % 340282366920938463463374607431768211456) i ≡ cond (nat_eq i k) 1 0
 one_place_128 k i h = one_place 128 k i h
 
--- the least place of a word
+-- the number of trailing zeros is the least index of a word that is not 0
 least : (w : Width) (n i : ℕ) → 0 < n → n < 2 ^ bits w → Has n (trailing_zeros w n) × (Has n i → trailing_zeros w n ≤ i)
 least w n i p l = grind (arith, bit_at-trailing_zeros)
 
@@ -77,5 +77,5 @@ pub least_128 : (n i : ℕ) → 0 < n → n < 3402823669209384634633746074317682
     → Has n (trailing_zeros w128 n) × (Has n i → trailing_zeros w128 n ≤ i)
 least_128 n i p l = least w128 n i p l
 
--- what a bit of a word's operation is
+-- the rules for a bit of the result of an operation on words
 pub ruleset words = (bit_at_and, bit_at_or, bit_at_xor, bit_at-lt, one_place_64, one_place_128, nat_tests, difference_64, difference_128)

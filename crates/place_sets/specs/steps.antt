@@ -1,2 +1,2 @@
--- The definitions that only private calls need.
+-- The definitions that only contracts of private functions need.
 pub mod Masks

@@ -1,4 +1,4 @@
-//! Sets of places, a bit a place, of three widths.
+//! Bit sets of three widths: for indices below 64, 128 and 256.
 #![tactic(auto)]
 
 mod levels;

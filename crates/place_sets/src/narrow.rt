@@ -1,4 +1,4 @@
-//! Sets of 64 and of 128 places, each in one word.
+//! Bit sets of 64 and of 128 indices, each in one word.
 #![tactic(auto, using(crate::proofs::WordSteps::words))]
 
 ghost use Rattle.std.specs.Prelude.{◌≡◌, ◌≢◌, ◌+◌, ◌*◌, ◌^◌, ◌<◌, ◌≤◌, ◌==◌, ◌⊎◌, ℕ, false, refl};
@@ -8,14 +8,16 @@ ghost use Rattle.place_sets.specs.steps.Masks.{IsPairing, swapped_place};
 
 use crate::{PlaceSet, Wide};
 
-/// A set of 128 places, in two words.
+/// The stored form of a set of 128 indices: `low` has those below 64, and `high` the others, less
+/// 64.
 #[derive(Clone, Copy, Debug)]
 pub struct Words {
     pub low: u64,
     pub high: u64,
 }
 
-/// Swaps the two groups of each pair: groups of `by` places, of which `low` has the lower ones.
+/// Swaps the two groups of each pair of adjacent groups of `by` indices. `low` has the indices of
+/// the lower group of each pair.
 fn swap_pairs(mask: u64, low: u64, by: u16) -> u64
     requires by { by < 64 }
     requires low { IsPairing 64 low by }
@@ -97,10 +99,14 @@ impl PlaceSet for u64 {
     }
 
     fn flood(sources: u64, free: u64) -> u64 {
+        // The sum carries from each source upwards through adjacent free indices, and so changes
+        // their bits. The sources are added in the end, since their own bits may be unchanged.
         ((free.wrapping_add(sources) ^ free) & free) | sources
     }
 
     fn reversed(self) -> u64 {
+        // By swaps of groups of 1, 2, 4 and so on up to 32 indices: with the library's
+        // `reverse_bits` deductions take about five times as many instructions.
         let ones = swap_pairs(self, 0x5555555555555555, 1);
         let twos = swap_pairs(ones, 0x3333333333333333, 2);
         let fours = swap_pairs(twos, 0x0f0f0f0f0f0f0f0f, 4);
@@ -266,8 +272,9 @@ impl PlaceSet for u128 {
         ((kept.high as u128) << 64) | kept.low as u128
     }
 
-    /// A list of whole words is turned two words at a time.
     fn reversed_kept(kept: Words, len: u16) -> Words {
+        // For full sets the words are reversed one by one, so that LLVM does an array of them two
+        // words at a time.
         if len == 128 {
             return Words {
                 low: kept.high.reversed(),

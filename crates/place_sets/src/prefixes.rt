@@ -1,11 +1,11 @@
-//! Sets within their first places.
+//! Sets of the first indices: all of them, those that a set lacks, and a set mirrored in them.
 
 ghost use Rattle.std.specs.Prelude.{◌≡◌, ◌+◌, ◌-◌, ◌<◌, ◌≤◌, ℕ, false};
 ghost use Rattle.place_sets.specs.Masks.{Has, has, IsMaskOf};
 
 use crate::PlaceSet;
 
-/// The first `len` places.
+/// Returns the set of the indices below `len`.
 pub fn first_places<W: PlaceSet>(len: u16) -> W
     requires { (0 < len) × (len ≤ W.WIDTH) }
     ensures { IsMaskOf (λ i. i < len) (W.number result) }
@@ -13,7 +13,7 @@ pub fn first_places<W: PlaceSet>(len: u16) -> W
     W::full().shifted_down(W::WIDTH - len)
 }
 
-/// Those of the first `len` places that a mask lacks.
+/// Returns the indices below `len` that are not in `mask`.
 pub fn complement_within<W: PlaceSet>(mask: W, len: u16) -> W
     requires { (0 < len) × (len ≤ W.WIDTH) }
     ensures { IsMaskOf (λ i. (i < len) × (has (W.number mask) i ≡ false)) (W.number result) }
@@ -21,10 +21,12 @@ pub fn complement_within<W: PlaceSet>(mask: W, len: u16) -> W
     first_places::<W>(len).difference(mask)
 }
 
-/// The places of a mask among the first `len`, seen from the other end of these.
+/// Returns `mask` mirrored in its first `len` indices: index `i` becomes `len - 1 - i`. Indices
+/// from `len` on are dropped.
 pub fn reversed_within<W: PlaceSet>(mask: W, len: u16) -> W
     requires { (0 < len) × (len ≤ W.WIDTH) }
     ensures { IsMaskOf (λ i. (i < len) × Has (W.number mask) (len - 1 - i)) (W.number result) }
 {
+    // Reversed in the whole width, the first `len` indices are the last ones.
     mask.reversed().shifted_down(W::WIDTH - len)
 }

@@ -1,15 +1,16 @@
-//! Sets, place by place.
+//! Searching a set from an index on.
 
 ghost use Rattle.std.specs.Prelude.{◌≤◌};
 ghost use Rattle.place_sets.specs.Masks.{IsFirstFrom};
 
 use crate::PlaceSet;
 
-/// The first place of a set from a given place on, if there is one.
+/// Returns the first index of `set` that is `from` or greater, if there is one.
 pub fn first_from<W: PlaceSet>(set: W, from: u16) -> Option<u16>
     requires { from ≤ W.WIDTH }
     ensures { IsFirstFrom W.WIDTH (W.number set) from result }
 {
+    // A shift by the whole width isn't allowed.
     if from == W::WIDTH {
         return None;
     }

@@ -1,4 +1,4 @@
-//! Sets of 256 places.
+//! Bit sets of 256 indices.
 #![tactic(auto, using(crate::proofs::Halves::wholes))]
 
 ghost use Rattle.std.specs.Prelude.{◌≡◌, ◌+◌, ◌*◌, ◌^◌, ◌<◌, ◌≤◌, ◌⊎◌, ℕ, refl};
@@ -7,7 +7,7 @@ ghost use Rattle.place_sets.specs.Masks.{Has, IsMarked, IsMaskOf, number_of};
 
 use crate::PlaceSet;
 
-/// A set of 256 places, in two halves.
+/// A set of 256 indices in two halves: `low` has those below 128, and `high` the others, less 128.
 #[derive(Clone, Copy, Debug)]
 pub struct Wide {
     pub low: u128,
@@ -102,6 +102,7 @@ impl PlaceSet for Wide {
     }
 
     fn shifted_up(self, by: u16) -> Wide {
+        // A shift by 0 is a case of its own: `over` would be shifted by the whole width of a half.
         if by == 0 {
             self
         } else if by < 128 {
@@ -137,6 +138,8 @@ impl PlaceSet for Wide {
 
     fn flood(sources: Wide, free: Wide) -> Wide {
         let low = u128::flood(sources.low, free.low);
+        // If the flood reaches the last index of the low half, it goes on at the first one of the
+        // high half.
         let over = low.shifted_down(127).intersection(free.high);
         Wide {
             low,

@@ -1,35 +1,39 @@
-//! Windows: stretches of places that are all in a set.
+//! Fits: indices from which on a given number of consecutive indices are in a set.
 
 ghost use Rattle.std.specs.Prelude.{◌^◌, ◌≡◌, ◌+◌, ◌<◌, ◌≤◌, ℕ, map};
 ghost use Rattle.place_sets.specs.Masks.{Has, IsMaskOf, AllFrom, AreWindows};
 
 use crate::PlaceSet;
 
-/// How many powers of two there are up to 256: 1, 2, 4 and so on. A table of windows has one for each, and no
-/// more levels than these are spread.
+/// The number of powers of two from 1 to 256. A fit table, and the masks that `spread_levels`
+/// extends, have one level for each.
 pub const LEVELS: usize = 9;
 
-/// The places in a mask that have another one in it `by` places further on.
+/// Returns each index `i` for which `i` and `i + by` are in `mask`.
 pub fn both<W: PlaceSet>(mask: W, by: u16) -> W
     requires { by < W.WIDTH }
-    ensures { IsMaskOf (λ i. Has (W.number mask) i × Has (W.number mask) (i + by)) (W.number result) }
+    ensures { IsMaskOf (λ i. Has (W.number mask) i × Has (W.number mask) (i + by))
+        (W.number result) }
 {
     mask.intersection(mask.shifted_down(by))
 }
 
-/// The level of a length, the exponent of the greatest power of two in it, and how many places are left.
+/// Returns the level of a length, which is its logarithm to base 2, rounded down, and the rest: the
+/// length less 2 to the power of the level.
 pub fn level_of(length: u16) -> (usize, u16)
     requires { (0 < length) × (length ≤ 256) }
     ensures level { result.0 < 9 }
     ensures length { 2 ^ result.0 + result.1 ≡ length }
     ensures rest { result.1 < 2 ^ result.0 }
 {
-    // The lowest bit leaves the level as it is, and shows the compiler that there is one.
+    // Setting the lowest bit doesn't change the level, and lets the compiler see that the argument
+    // of the logarithm is not 0.
     let level = u32::from(length | 1).ilog2();
     (level as usize, length ^ (1 << level))
 }
 
-/// The starts of windows within a mask, for 1, 2, 4 and so on up to all places.
+/// Returns the fit table of `mask`: level `k` has each index from which on `2^k` consecutive
+/// indices are in the mask. Levels above `W::TOP` are unspecified.
 pub fn windows_within<W: PlaceSet>(mask: W) -> [W; LEVELS]
     ensures { AreWindows (W.number mask) W.TOP (map W.number result) }
 {
@@ -40,16 +44,20 @@ pub fn windows_within<W: PlaceSet>(mask: W) -> [W; LEVELS]
     table
 }
 
-/// The starts of windows of `length` places.
+/// Returns each index from which on `length` consecutive indices are in the mask whose fit table is
+/// `windows`.
 pub fn window_starts<W: PlaceSet>(windows: &[W; LEVELS], length: u16) -> W
     requires { (0 < length) × (length ≤ W.WIDTH) }
-    ensures { (mask : ℕ) → AreWindows mask W.TOP (map W.number windows.now) → IsMaskOf (AllFrom (Has mask) length) (W.number result) }
+    ensures { (mask : ℕ) → AreWindows mask W.TOP (map W.number windows.now)
+        → IsMaskOf (AllFrom (Has mask) length) (W.number result) }
 {
+    // Two stretches of `2^level` indices that overlap or touch make one of `length`.
     let (level, rest) = level_of(length);
     both(windows[level], rest)
 }
 
-/// The starts of windows of `length` places within a mask.
+/// Returns each index from which on `length` consecutive indices are in `mask`. For one length this
+/// costs less than a fit table.
 pub fn starts_within<W: PlaceSet>(mask: W, length: u16) -> W
     requires { (0 < length) × (length ≤ W.WIDTH) }
     ensures { IsMaskOf (AllFrom (Has (W.number mask)) length) (W.number result) }

@@ -1,4 +1,4 @@
--- Entries for files.
+-- Entries made of files, and the first bytes of a reader.
 use Rattle.std.proofs.Common.{◌≡◌, ◌<◌, ◌+◌, ◌∙◌, ℕ, zero, suc, List, [], ◌∷◌, ◌++◌, Option, Some, None, String, Vec, length, map, take, get_or, option_map, string_bytes, sym, ap, arith, add-one}
 use Rattle.std.proofs.lemmas.List.{length-map, map-append}
 use Rattle.std.specs.Prelude.{IfSome}
@@ -10,7 +10,7 @@ use Rattle.puzzle_text.specs.Shown.{shown_entry}
 use Rattle.puzzle_text.specs.declared.collections.Entry.{Entry as KeptEntry}
 use Rattle.program.specs.Printing.{named_texts}
 
--- bytes that were read of a reader's front are that front
+-- the bytes that were read of a limited reader are the first ones of the reader below it
 pub front_read : {R : Type 0} (remaining : R → Option (List ℕ)) (front : Take R) (file : R) (limit : ℕ) (before body : List ℕ) →
     take_limit front ≡ limit → take_inner front ≡ file → before ≡ []
     → IfSome (take_remaining remaining front) (λ bytes. body ≡ before ++ bytes)
@@ -23,7 +23,7 @@ front_read remaining front file limit before body at_limit of_file empty read =
     self None is = tt
     self (Some bytes) is = is
 
--- one more name and text
+-- the entries of one more name and text
 pub named_more : (i : ℕ) (names texts : List (List ℕ)) (name text : List ℕ) → i < length names → i < length texts →
     get_or names i [] ≡ name → get_or texts i [] ≡ text
     → named_texts (take (suc i) names) (take (suc i) texts) ≡ named_texts (take i names) (take i texts) ++
@@ -35,14 +35,14 @@ named_more (suc i) (x ∷ names) (y ∷ texts) name text in_names in_texts is_na
     ap (λ (rest : List Entry). record { name = x; body = y } ∷ rest)
     (named_more i names texts name text (omega arith) (omega arith) is_name is_text)
 
--- what stands at a place of a mapped list
+-- an element of a mapped list
 pub mapped_at : {X : Type 0} (f : X → List ℕ) (xs : List X) (i : ℕ) (x : X) → i < length xs → x ≡ get_or xs i x →
     get_or (map f xs) i [] ≡ f x
 mapped_at f [] i x within is = absurd (omega arith)
 mapped_at f (y ∷ xs) zero x within is = ap f (sym is)
 mapped_at f (y ∷ xs) (suc i) x within is = mapped_at f xs i x (omega arith) is
 
--- one more entry is that of one more file
+-- a pushed entry is that of the next file
 pub more_entries : (entries pushed : List KeptEntry) (entry : KeptEntry) (paths : List (String Global)) (bodies : List (Vec ℕ Global))
     (i : ℕ) (path : String Global) (body : Vec ℕ Global)
     → i < length paths → i < length bodies → path ≡ get_or paths i path → body ≡ get_or bodies i body →

@@ -1,3 +1,3 @@
--- Lemmas on files, and on what the program leaves in the output.
+-- Lemmas about files, and about what the program prints.
 mod FilesLemmas
 mod PrintingLemmas

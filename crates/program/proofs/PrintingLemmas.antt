@@ -1,4 +1,4 @@
--- What is left in the output after a command, from what its parts give and leave.
+-- What a command appends to the output, from what its parts return and print.
 use Rattle.std.proofs.Common.{◌≡◌, ◌≤◌, ℕ, List, Option, Some, None, Result, Ok, Err, [], codes, length, take, refl, sym, ap, ◌∙◌}
 use Rattle.std.specs.Prelude.{IfErr, IfSome, IsErrAnd, OnErr, OnOk}
 use Rattle.std.specs.Io.KnownBytes.{Appends}
@@ -23,18 +23,18 @@ use Rattle.reports.specs.declared.converting.ConvertFault.TheVariants as convert
 use Rattle.program.specs.declared.stop.Stop.{Stop}
 use Rattle.program.specs.declared.stop.Stop.TheVariants.{Entry, Run, Write, NoMemory as memory_stop}
 
--- a result that is an error, and this one
+-- a result that is an error, and whose error is `stop`
 pub is_stop : (r : Result (Unit {0}) Stop) (stop : Stop) → IsErrAnd r (λ given. given ≡ stop) → r ≡ Err stop
 is_stop (Ok _) stop is = absurd is
 is_stop (Err given) stop is = ap (λ (s : Stop). Err s) is
 
--- if there is no room for a text, nothing is printed
+-- if an allocation fails, nothing is printed
 pub unprinted : (shown known : Option (List ℕ)) →
     (text : List ℕ) × IfSome shown (λ bytes. text ≡ bytes) × Prints {U = Unit {0}} (Ok text) (Err memory_stop) known known
 unprinted None known = ([], tt, Keeps-refl known)
 unprinted (Some text) known = (text, refl, Keeps-refl known)
 
--- if the last piece of a stop's line goes out behind the others, the line went out
+-- if the three pieces of a stop's line were sent one after another, the line was sent
 pub stop_printed : (stop : Stop) (word : List ℕ) (r : Result (Unit {0}) Stop) (first second third last : Option (List ℕ))
     → Appends first second (codes "nonograde: ") → Appends second third word → word ≡ stop_word stop
     → OnOk r (Appends third last (codes "\n")) → OnOk r (Appends first last (stop_line stop))
@@ -42,7 +42,7 @@ stop_printed stop word (Ok _) first second third last begun told is ended =
     Appends-trans first second last _ _ begun (Appends-trans second third last _ _ (rw is at told) ended)
 stop_printed stop word (Err _) first second third last begun told is ended = tt
 
--- if a text is that of a file's bytes, and it goes out whole or its front does, the file is printed
+-- if a text answers a file's bytes, and all of it or a prefix was sent, `PrintsFile` holds
 printed_of : (answer : List ℕ → Result (List ℕ) Stop) (body text : List ℕ) (r : Result (Unit {0}) Stop) (old new : Option (List ℕ))
     → answer body ≡ Ok text → OnOk r (Appends old new text)
     → OnErr r ((sent : ℕ) × (sent ≤ length text) × Appends old new (take sent text)) → IfErr r (λ stop. stop ≡ Write)
@@ -50,7 +50,7 @@ printed_of : (answer : List ℕ → Result (List ℕ) Stop) (body text : List �
 printed_of answer body text (Ok _) old new is whole front write = (body, (text, is, whole))
 printed_of answer body text (Err stop) old new is whole front write = rw write (body, (text, is, front))
 
--- if a report is that of a file's bytes under its name, the file is printed
+-- if a report is that of a file's bytes under its name, `PrintsFile` holds
 pub report_printed : (report : List ℕ → Nonogram → List ℕ) (name given body items text : List ℕ) (r : Result (Unit {0}) Stop)
     (old new : Option (List ℕ))
     → given ≡ name → text ≡ items → text_or_fault (report given) (said given body) ≡ Ok items → OnOk r (Appends old new text)
@@ -61,7 +61,7 @@ report_printed report name given body items text r old new named same is whole f
     (ap (or_stop Entry) (ap (λ (n : List ℕ). text_or_fault (report n) (said n body)) (sym named) ∙ is ∙
     ap (λ (t : List ℕ). Ok t) (sym same))) whole front write
 
--- if a text is what a file's puzzle is converted to, the file is printed
+-- if a text is what a file's puzzle is converted to, `PrintsFile` holds
 pub conversion_printed : (format : Format) (name given body items text : List ℕ) (r : Result (Unit {0}) Stop) (old new : Option (List ℕ))
     → given ≡ name → text ≡ items → converted format (said given body) ≡ Ok items → OnOk r (Appends old new text)
     → OnErr r ((sent : ℕ) × (sent ≤ length text) × Appends old new (take sent text)) → IfErr r (λ stop. stop ≡ Write)
@@ -79,7 +79,7 @@ refused_entry : (text : Nonogram → List ℕ) (read : List ℕ → Result Nonog
 refused_entry text read body (Text NoMemory) known gives = (body, Keeps-refl known)
 refused_entry text read body fault known gives = (body, (rw gives refl, Keeps-refl known))
 
--- if a file's text is refused, and the answer is that fault, nothing is printed
+-- if a file's text is refused, and the result is that fault, nothing is printed
 pub refused_of : (report : List ℕ → Nonogram → List ℕ) (name given body : List ℕ) (fault : EntryFault) (r : Result (Unit {0}) Stop)
     (known : Option (List ℕ)) → given ≡ name → GivesText (Err fault) (text_or_fault (report given) (said given body)) →
     IsErrAnd r (λ stop. stop ≡ Entry fault)
@@ -87,7 +87,7 @@ pub refused_of : (report : List ℕ → Nonogram → List ℕ) (name given body 
 refused_of report name given body fault r known named gives is =
     rw (is_stop r _ is) (refused_entry (report name) (said name) body fault known (rw named at gives))
 
--- if a file's puzzle is not converted, nothing is printed, and the program stops at that fault
+-- if a conversion fails, nothing is printed, and the program stops at its fault
 unconverted : (format : Format) (name body : List ℕ) (fault : ConvertFault) (known : Option (List ℕ))
     → GivesConverted (Err fault) (converted format (said name body))
     → PrintsFile {U = Unit {0}} (convert_answer format name) (Err (stop_of_convert fault)) known known
@@ -95,7 +95,7 @@ unconverted format name body convert.NoMemory known gives = (body, Keeps-refl kn
 unconverted format name body (convert.Entry (Text NoMemory)) known gives = (body, Keeps-refl known)
 unconverted format name body fault known gives = (body, (rw gives refl, Keeps-refl known))
 
--- if a file's puzzle is not converted, and the answer is that fault, nothing is printed
+-- if a conversion fails, and the result is its fault, nothing is printed
 pub unconverted_of : (format : Format) (name given body : List ℕ) (fault : ConvertFault) (r : Result (Unit {0}) Stop)
     (known : Option (List ℕ))
     → given ≡ name → GivesConverted (Err fault) (converted format (said given body)) → IsErrAnd r (λ stop. stop ≡ stop_of_convert fault)
@@ -103,14 +103,14 @@ pub unconverted_of : (format : Format) (name given body : List ℕ) (fault : Con
 unconverted_of format name given body fault r known named gives is =
     rw (is_stop r _ is) (unconverted format name body fault known (rw named at gives))
 
--- if entries are those of files, their whole survey is that of the files
+-- if the entries are those of the files, their survey is that of the files
 pub files_written : (settings : Settings) (names texts : List (List ℕ)) (entries : List NamedText) (old new : Option (List ℕ))
     → length texts ≡ length names → entries ≡ named_texts names texts
     → WritesSurvey (survey_of_entries (guessing settings) settings.show entries) old new →
     PrintsFiles {U = Unit {0}} settings names (Ok (tt {0})) old new
 files_written settings names texts entries old new same is written = (texts, same, rw is at written)
 
--- if entries are those of files, what is left of their survey at a fault is what is left of the files'
+-- if the entries are those of the files, a survey that fails leaves the same of both
 pub files_left : (settings : Settings) (names texts : List (List ℕ)) (entries : List NamedText) (fault : RunFault)
     (old new : Option (List ℕ))
     → length texts ≡ length names → entries ≡ named_texts names texts

@@ -1,4 +1,4 @@
--- What a command leaves in the output and of standard input, by what it gives.
+-- What a command prints and what it reads of standard input, by its result.
 use Rattle.std.specs.Prelude.{◌≡◌, ℕ, ◌≤◌, List, [], ◌∷◌, length, map, take, string_bytes, Option, IfSome, OnOk, Result, Ok, Err}
 use Rattle.std.specs.Io.KnownBytes.{Appends, IsAtEnd, Keeps}
 use Rattle.puzzle_text.specs.Collections.{Entry as NamedText}
@@ -21,110 +21,133 @@ use Rattle.program.specs.Stop.{stop_of_convert}
 use Rattle.program.specs.declared.stop.Stop.{Stop}
 use Rattle.program.specs.declared.stop.Stop.TheVariants.{Entry, Run, Read, Write, NoMemory}
 
--- a stream before and after: its bytes, if they are known, and how many of its calls failed
+-- a stream before and after a call: its bytes, if known, and how many of its calls had failed
 pub record Stream : Type 0 where
   pub old : Option (List ℕ)
   pub new : Option (List ℕ)
   pub old_faults : ℕ
   pub new_faults : ℕ
 
--- a counted stream, before and after
+-- a counted stream before and after a call; `contents` returns the bytes of what it wraps
 abbrev pub stream : {T : Type 0} → (T → Option (List ℕ)) → Counted T → Counted T → Stream
 stream contents old new =
-    record { old = contents old.inner; new = contents new.inner; old_faults = fault_count old; new_faults = fault_count new }
+    record {
+      old = contents old.inner;
+      new = contents new.inner;
+      old_faults = fault_count old;
+      new_faults = fault_count new;
+    }
 
--- the stream is as it was
+-- the stream was neither read nor written, and no call on it failed
 abbrev pub IsUntouched : Stream → Type 0
 IsUntouched stream = (stream.new ≡ stream.old) × (stream.new_faults ≡ stream.old_faults)
 
--- a text, or the stop that a fault is
+-- the text, or the stop that its fault leads to
 abbrev pub or_stop : {E : Type 0} → (E → Stop) → Result (List ℕ) E → Result (List ℕ) Stop
 or_stop stop (Ok text) = Ok text
 or_stop stop (Err fault) = Err (stop fault)
 
--- what `solve` prints of a file's name and bytes
+-- what `solve` prints for a file with this name and these bytes
 abbrev pub solve_answer : ℕ → Pick → List ℕ → List ℕ → Result (List ℕ) Stop
-solve_answer guesses pick name body = or_stop Entry (text_or_fault (solve_text name guesses pick) (said name body))
+solve_answer guesses pick name body =
+    or_stop Entry (text_or_fault (solve_text name guesses pick) (said name body))
 
--- what `convert` prints of them
+-- what `convert` prints for a file with this name and these bytes
 abbrev pub convert_answer : Format → List ℕ → List ℕ → Result (List ℕ) Stop
 convert_answer format name body = or_stop stop_of_convert (converted format (said name body))
 
--- what `lines` prints of them
+-- what `lines` prints for a file with this name and these bytes
 abbrev pub lines_answer : List ℕ → List ℕ → Result (List ℕ) Stop
 lines_answer name body = or_stop Entry (text_or_fault lines_text (said name body))
 
--- the whole text went out, and nothing else
+-- the answer is a text, and all of it was appended to the output
 abbrev pub PrintsWhole : Result (List ℕ) Stop → Option (List ℕ) → Option (List ℕ) → Type 0
 PrintsWhole answer old new = (text : List ℕ) × (answer ≡ Ok text) × Appends old new text
 
--- a front of the text went out, and nothing else
+-- the answer is a text, and a prefix of it was appended to the output
 abbrev pub PrintsFront : Result (List ℕ) Stop → Option (List ℕ) → Option (List ℕ) → Type 0
-PrintsFront answer old new = (text : List ℕ) × (answer ≡ Ok text) × ((sent : ℕ) × (sent ≤ length text) × Appends old new (take sent text))
+PrintsFront answer old new = (text : List ℕ) × (answer ≡ Ok text) ×
+    ((sent : ℕ) × (sent ≤ length text) × Appends old new (take sent text))
 
--- What is left if an answer is printed: the whole text; a front of it if the output failed; nothing if the
--- program stops at the answer's own fault. `NoMemory` may stand in place of any answer.
-abbrev pub Prints : {U : Type 0} → Result (List ℕ) Stop → Result U Stop → Option (List ℕ) → Option (List ℕ) → Type 0
+-- What printing `answer` appends to the output, by its result: the whole text; a prefix of it if
+-- the output failed; nothing if the program stops at the answer's own fault, or with `NoMemory`,
+-- which may be the result whatever the answer is.
+abbrev pub Prints : {U : Type 0} → Result (List ℕ) Stop → Result U Stop →
+    Option (List ℕ) → Option (List ℕ) → Type 0
 Prints answer (Ok _) old new = PrintsWhole answer old new
 Prints answer (Err Write) old new = PrintsFront answer old new
 Prints answer (Err NoMemory) old new = Keeps old new
 Prints answer (Err (Entry (Text text.NoMemory))) old new = Keeps old new
 Prints answer (Err stop) old new = (answer ≡ Err stop) × Keeps old new
 
--- The same of a file: there are bytes of which this is the answer. If the file can't be read, nothing is
--- printed.
-abbrev pub PrintsFile : {U : Type 0} → (List ℕ → Result (List ℕ) Stop) → Result U Stop → Option (List ℕ) → Option (List ℕ) → Type 0
+-- what printing the answer to a file appends to the output: for some bytes, those of the file, what
+-- `Prints` says; nothing if the file can't be read
+abbrev pub PrintsFile : {U : Type 0} → (List ℕ → Result (List ℕ) Stop) → Result U Stop →
+    Option (List ℕ) → Option (List ℕ) → Type 0
 PrintsFile answer (Err Read) old new = Keeps old new
 PrintsFile answer result old new = (body : List ℕ) × Prints (answer body) result old new
 
--- what a survey leaves, by the program's answer
-abbrev pub PrintsSurvey : {U : Type 0} → Result (List ℕ) CollectionFault → Result U Stop → Option (List ℕ) → Option (List ℕ) → Type 0
+-- what printing `survey` appends to the output, by its result
+abbrev pub PrintsSurvey : {U : Type 0} → Result (List ℕ) CollectionFault → Result U Stop →
+    Option (List ℕ) → Option (List ℕ) → Type 0
 PrintsSurvey survey (Ok _) old new = WritesSurvey survey old new
 PrintsSurvey survey (Err (Run fault)) old new = LeavesAt survey fault old new
 PrintsSurvey survey (Err _) old new = ⊥
 
--- entries with these names and these texts, in order
+-- the entries with these names and these texts, in this order
 abbrev pub named_texts : List (List ℕ) → List (List ℕ) → List NamedText
 named_texts [] texts = []
 named_texts (name ∷ names) [] = []
-named_texts (name ∷ names) (text ∷ texts) = record { name = name; body = text } ∷ named_texts names texts
+named_texts (name ∷ names) (text ∷ texts) =
+    record { name = name; body = text } ∷ named_texts names texts
 
 -- the survey of files with these names and these bytes
-abbrev pub files_survey : Settings → List (List ℕ) → List (List ℕ) → Result (List ℕ) CollectionFault
-files_survey settings names texts = survey_of_entries (guessing settings) settings.show (named_texts names texts)
+abbrev pub files_survey : Settings → List (List ℕ) → List (List ℕ) →
+    Result (List ℕ) CollectionFault
+files_survey settings names texts =
+    survey_of_entries (guessing settings) settings.show (named_texts names texts)
 
--- What a survey of files leaves: there are texts, as many as files, of which it is the survey. If a file
--- can't be read, or there is no room for what is read, nothing is printed.
-abbrev pub PrintsFiles : {U : Type 0} → Settings → List (List ℕ) → Result U Stop → Option (List ℕ) → Option (List ℕ) → Type 0
+-- what a survey of the files with these names appends to the output: the survey of some texts, one
+-- for each file; nothing if a file can't be read or an allocation fails
+abbrev pub PrintsFiles : {U : Type 0} → Settings → List (List ℕ) → Result U Stop →
+    Option (List ℕ) → Option (List ℕ) → Type 0
 PrintsFiles settings names (Err Read) old new = Keeps old new
 PrintsFiles settings names (Err NoMemory) old new = Keeps old new
-PrintsFiles settings names result old new = (texts : List (List ℕ)) × (length texts ≡ length names) ×
+PrintsFiles settings names result old new =
+    (texts : List (List ℕ)) × (length texts ≡ length names) ×
     PrintsSurvey (files_survey settings names texts) result old new
 
--- What a survey of standard input leaves, if its bytes are known; if it was printed, these were read to their
--- end. If there is no room to tell its progress, nothing is printed.
-abbrev pub PrintsInput : {U : Type 0} → Settings → Stream → Result U Stop → Option (List ℕ) → Option (List ℕ) → Type 0
+-- what a survey of standard input appends to the output, if its bytes are known; if the survey was
+-- printed, the input was read to its end; nothing if an allocation fails
+abbrev pub PrintsInput : {U : Type 0} → Settings → Stream → Result U Stop →
+    Option (List ℕ) → Option (List ℕ) → Type 0
 PrintsInput settings input (Err NoMemory) old new = Keeps old new
 PrintsInput settings input result old new =
-    IfSome input.old (λ bytes. PrintsSurvey (survey_of (guessing settings) settings.show bytes) result old new) ×
+    IfSome input.old (λ bytes.
+    PrintsSurvey (survey_of (guessing settings) settings.show bytes) result old new) ×
     OnOk result (IsAtEnd input.new)
 
--- the survey of the files, and standard input is as it was; or the survey of standard input if there is no file
-abbrev pub PrintsSurveyOf : {U : Type 0} → Settings → List (List ℕ) → Stream → Result U Stop → Option (List ℕ) →
-    Option (List ℕ) → Type 0
+-- what a survey appends to the output: that of the files with these names, without touching
+-- standard input, or that of standard input if there are no files
+abbrev pub PrintsSurveyOf : {U : Type 0} → Settings → List (List ℕ) → Stream → Result U Stop →
+    Option (List ℕ) → Option (List ℕ) → Type 0
 PrintsSurveyOf settings [] input result old new = PrintsInput settings input result old new
-PrintsSurveyOf settings (name ∷ names) input result old new = IsUntouched input × PrintsFiles settings (name ∷ names) result old new
+PrintsSurveyOf settings (name ∷ names) input result old new =
+    IsUntouched input × PrintsFiles settings (name ∷ names) result old new
 
--- what is left after a request is performed. Standard input is as it was, unless it is surveyed
-abbrev pub Performs : {U : Type 0} → Request → Stream → Result U Stop → Option (List ℕ) → Option (List ℕ) → Type 0
-Performs (Survey survey) input result old new = PrintsSurveyOf survey.settings (map string_bytes survey.files.items) input result old new
+-- what performing a request appends to the output; standard input is read only if it is surveyed
+abbrev pub Performs : {U : Type 0} → Request → Stream → Result U Stop →
+    Option (List ℕ) → Option (List ℕ) → Type 0
+Performs (Survey survey) input result old new =
+    PrintsSurveyOf survey.settings (map string_bytes survey.files.items) input result old new
 Performs (Solve guesses pick path) input result old new =
     IsUntouched input × PrintsFile (solve_answer guesses pick (string_bytes path)) result old new
 Performs (Convert format path) input result old new =
     IsUntouched input × PrintsFile (convert_answer format (string_bytes path)) result old new
-Performs (Lines path) input result old new = IsUntouched input × PrintsFile (lines_answer (string_bytes path)) result old new
+Performs (Lines path) input result old new =
+    IsUntouched input × PrintsFile (lines_answer (string_bytes path)) result old new
 
--- the program stops because its output failed
+-- the result is a stop because the output failed
 abbrev pub IsUnwritten : {U : Type 0} → Result U Stop → Type 0
 IsUnwritten (Ok _) = ⊥
 IsUnwritten (Err Write) = Unit {0}

@@ -1,4 +1,4 @@
-//! Files: what is read of them, and the entries that they are.
+//! Reading the files that are named on the command line, as entries of a survey.
 
 ghost use Rattle.std.specs.Prelude.{◌≡◌, ◌≢◌, IfErr, IfOk, IfSome, length, map, string_bytes, take};
 ghost use Rattle.std.specs.IoError.{error_kind};
@@ -14,10 +14,11 @@ use std::io::{ErrorKind, Read};
 use std::rt::Files;
 use std::{fs, io};
 
-/// How many bytes of a file are read at most: one more than a puzzle's text may have.
+/// The most bytes that are read of a file: one more than a puzzle's text may have, which shows that
+/// it is too long.
 const FILE_LIMIT: u64 = LONGEST_PUZZLE as u64 + 1;
 
-/// Why the program stops if a file gives this error.
+/// Returns why the program stops if opening or reading a file failed with `error`.
 fn stop_of_error(error: &io::Error) -> Stop
     ensures memory { error_kind error.now ≡ ErrorKind.OutOfMemory → result ≡ Stop.NoMemory }
     ensures other { error_kind error.now ≢ ErrorKind.OutOfMemory → result ≡ Stop.Read }
@@ -30,9 +31,10 @@ fn stop_of_error(error: &io::Error) -> Stop
     }
 }
 
-/// The first bytes that a reader has: all of them, or as many as show that they are too many.
+/// Reads `file` to its end, but at most one byte more than a puzzle's text may have.
 pub fn read_front<F: Read + Drop>(alloc: Global, file: F) -> Result<Vec<u8>, Stop>
-    ensures bytes { IfOk result (λ body. IfSome (F.remaining file) (λ bytes. body.items ≡ take FILE_LIMIT bytes)) }
+    ensures bytes { IfOk result (λ body.
+        IfSome (F.remaining file) (λ bytes. body.items ≡ take FILE_LIMIT bytes)) }
     ensures refused { IfErr result IsUnread }
 {
     let mut body = Vec::new(alloc);
@@ -42,7 +44,7 @@ pub fn read_front<F: Read + Drop>(alloc: Global, file: F) -> Result<Vec<u8>, Sto
     }
 }
 
-/// Reads a file, or as much of it as shows that it is too long.
+/// Reads the file at `path` to its end, but at most one byte more than a puzzle's text may have.
 pub fn read_file<R: Files + AllocGlobal>(rt: &R, path: &str) -> Result<Vec<u8>, Stop>
     ensures { IfErr result IsUnread }
 {
@@ -52,7 +54,7 @@ pub fn read_file<R: Files + AllocGlobal>(rt: &R, path: &str) -> Result<Vec<u8>, 
     }
 }
 
-/// Reads files, in the order of the words that name them.
+/// Reads the files at `paths`, in this order, and stops at the first that can't be read.
 pub fn read_files<R: Files + AllocGlobal>(rt: &R, paths: &[String]) -> Result<Vec<Vec<u8>>, Stop>
     ensures each { IfOk result (λ bodies. length bodies.items ≡ length paths.now) }
     ensures refused { IfErr result IsUnread }
@@ -69,15 +71,15 @@ pub fn read_files<R: Files + AllocGlobal>(rt: &R, paths: &[String]) -> Result<Ve
     Ok(bodies)
 }
 
-/// An entry for each file, named by its word.
+/// Returns an entry for each file, with the path as its name.
 pub fn entries_of<'a>(
     alloc: Global,
     paths: &'a [String],
     bodies: &'a [Vec<u8>],
 ) -> Result<Vec<Entry<'a>>, NoMemory>
     requires { length bodies.now ≡ length paths.now }
-    ensures { IfOk result (λ entries. map shown_entry entries.items ≡ named_texts (map string_bytes paths.now)
-        (map (λ body. body.items) bodies.now)) }
+    ensures { IfOk result (λ entries. map shown_entry entries.items
+        ≡ named_texts (map string_bytes paths.now) (map (λ body. body.items) bodies.now)) }
 {
     let mut entries = Vec::with_capacity(alloc, paths.len())?;
     for (place, path) in paths.iter().enumerate() {

@@ -1,4 +1,4 @@
-//! What the program does: it performs what its words ask for, on the streams that it is handed.
+//! The program: parses its words, performs the request, and prints to the streams that it is given.
 #![tactic(auto)]
 
 mod files;

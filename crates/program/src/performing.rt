@@ -1,4 +1,4 @@
-//! Performing what a command line asks for: what is printed of files and of standard input.
+//! Performing a request: reading files or standard input, and printing the answer.
 
 ghost use Rattle.std.specs.Prelude.{◌≡◌, ◌+◌, ◌-◌, ◌^◌, ◌<◌, ◌≤◌, ◌↔◌, ℕ, Err, IfErr, IsErr, IsErrOf, OnErr, OnOk, length, map, string_bytes, take};
 ghost use Rattle.std.specs.Io.KnownBytes.{Appends};
@@ -23,10 +23,11 @@ use survey_core::{
     Counted, Progress, ProgressGate, Settings, run_survey, survey_entries, write_text,
 };
 
-/// Prints a text and flushes.
+/// Prints `text` and flushes.
 pub fn print_text<W: Write>(writer: &mut Counted<W>, text: &[u8]) -> Result<(), Stop>
     requires { fault_count writer.old < 2 ^ 32 - 1 }
-    ensures ok { OnOk result (Appends (W.contents writer.old.inner) (W.contents writer.new.inner) text.now) }
+    ensures ok { OnOk result
+        (Appends (W.contents writer.old.inner) (W.contents writer.new.inner) text.now) }
     ensures front { OnErr result ((sent : ℕ) × (sent ≤ length text.now) ×
         Appends (W.contents writer.old.inner) (W.contents writer.new.inner) (take sent text.now)) }
     ensures write { IfErr result (λ stop. stop ≡ Stop.Write) }
@@ -39,7 +40,7 @@ pub fn print_text<W: Write>(writer: &mut Counted<W>, text: &[u8]) -> Result<(), 
     }
 }
 
-/// Prints the survey of a collection. The gate is entered once for each entry, before it is graded.
+/// Prints the survey of the collection on `input`. Each job enters `gate` before it is graded.
 fn survey_input<R: Threads + Wait + Sync + AllocGlobal, I: Read, O: Write, G: Gate + Sync>(
     rt: &R,
     settings: &Settings,
@@ -49,10 +50,12 @@ fn survey_input<R: Threads + Wait + Sync + AllocGlobal, I: Read, O: Write, G: Ga
 ) -> Result<(), Stop>
     requires reading { fault_count input.old < 2 ^ 32 - 1 }
     requires writing { fault_count output.old < 2 ^ 32 - 1 }
-    ensures answer { PrintsInput settings.now (stream I.remaining input.old input.new) result (O.contents output.old.inner)
-        (O.contents output.new.inner) }
-    ensures bound { ReadsWithin (LONGEST_COLLECTION + 1) (I.remaining input.old.inner) (I.remaining input.new.inner) }
-    ensures read { IsErrOf result (Stop.Run reader_failed) ↔ (fault_count input.old < fault_count input.new) }
+    ensures answer { PrintsInput settings.now (stream I.remaining input.old input.new) result
+        (O.contents output.old.inner) (O.contents output.new.inner) }
+    ensures bound { ReadsWithin (LONGEST_COLLECTION + 1)
+        (I.remaining input.old.inner) (I.remaining input.new.inner) }
+    ensures read { IsErrOf result (Stop.Run reader_failed)
+        ↔ (fault_count input.old < fault_count input.new) }
     ensures write { IsUnwritten result ↔ (fault_count output.old < fault_count output.new) }
 {
     match run_survey(rt, rt.alloc(), input, output, settings, gate) {
@@ -61,7 +64,7 @@ fn survey_input<R: Threads + Wait + Sync + AllocGlobal, I: Read, O: Write, G: Ga
     }
 }
 
-/// Prints the survey of files. The gate is entered once for each file, before it is graded.
+/// Prints the survey of the files at `paths`. Each job enters `gate` before it is graded.
 fn survey_files<R: Files + Threads + Wait + Sync + AllocGlobal, O: Write, G: Gate + Sync>(
     rt: &R,
     settings: &Settings,
@@ -70,8 +73,8 @@ fn survey_files<R: Files + Threads + Wait + Sync + AllocGlobal, O: Write, G: Gat
     gate: &G,
 ) -> Result<(), Stop>
     requires { fault_count output.old < 2 ^ 32 - 1 }
-    ensures answer { PrintsFiles settings.now (map string_bytes paths.now) result (O.contents output.old.inner)
-        (O.contents output.new.inner) }
+    ensures answer { PrintsFiles settings.now (map string_bytes paths.now) result
+        (O.contents output.old.inner) (O.contents output.new.inner) }
     ensures write { IsUnwritten result ↔ (fault_count output.old < fault_count output.new) }
 {
     let bodies = read_files(rt, paths)?;
@@ -82,7 +85,7 @@ fn survey_files<R: Files + Threads + Wait + Sync + AllocGlobal, O: Write, G: Gat
     }
 }
 
-/// Prints the survey of the files that are named, or of standard input if none is.
+/// Prints the survey of the files that `survey` names, or of standard input if it names none.
 fn survey_through<R, I, O, G>(
     rt: &R,
     survey: &SurveyRequest,
@@ -98,7 +101,8 @@ where
     requires reading { fault_count input.old < 2 ^ 32 - 1 }
     requires writing { fault_count output.old < 2 ^ 32 - 1 }
     ensures answer { PrintsSurveyOf survey.now.settings (map string_bytes survey.now.files.items)
-        (stream I.remaining input.old input.new) result (O.contents output.old.inner) (O.contents output.new.inner) }
+        (stream I.remaining input.old input.new) result
+        (O.contents output.old.inner) (O.contents output.new.inner) }
     ensures write { IsUnwritten result ↔ (fault_count output.old < fault_count output.new) }
 {
     if survey.files.is_empty() {
@@ -108,7 +112,7 @@ where
     }
 }
 
-/// How many files are surveyed, if it is files.
+/// Returns how many files `survey` names, or `None` if it is to read standard input.
 fn files_of(survey: &SurveyRequest) -> Option<u32> {
     if survey.files.is_empty() {
         return None;
@@ -116,7 +120,7 @@ fn files_of(survey: &SurveyRequest) -> Option<u32> {
     u32::try_from(survey.files.len()).ok()
 }
 
-/// Prints a survey, and tells its progress if that is asked for.
+/// Prints a survey, and updates a progress line on `progress` if that is asked for.
 fn survey<R, I, O, P>(
     rt: &R,
     survey: &SurveyRequest,
@@ -132,7 +136,8 @@ where
     requires reading { fault_count input.old < 2 ^ 32 - 1 }
     requires writing { fault_count output.old < 2 ^ 32 - 1 }
     ensures answer { PrintsSurveyOf survey.now.settings (map string_bytes survey.now.files.items)
-        (stream I.remaining input.old input.new) result (O.contents output.old.inner) (O.contents output.new.inner) }
+        (stream I.remaining input.old input.new) result
+        (O.contents output.old.inner) (O.contents output.new.inner) }
     ensures write { IsUnwritten result ↔ (fault_count output.old < fault_count output.new) }
 {
     if !survey.progress {
@@ -150,7 +155,7 @@ where
     )
 }
 
-/// Prints the entry of a file with its solutions.
+/// Prints the line of one file's puzzle, with its solutions.
 fn solve_file<R: Files + AllocGlobal, O: Write>(
     rt: &R,
     guesses: u32,
@@ -160,7 +165,8 @@ fn solve_file<R: Files + AllocGlobal, O: Write>(
 ) -> Result<(), Stop>
     requires guesses { guesses ≤ MOST_GUESSES }
     requires writing { fault_count output.old < 2 ^ 32 - 1 }
-    ensures answer { PrintsFile (solve_answer guesses pick path.now) result (O.contents output.old.inner) (O.contents output.new.inner) }
+    ensures answer { PrintsFile (solve_answer guesses pick path.now) result
+        (O.contents output.old.inner) (O.contents output.new.inner) }
     ensures write { IsUnwritten result ↔ (fault_count output.old < fault_count output.new) }
 {
     let body = read_file(rt, path)?;
@@ -168,7 +174,7 @@ fn solve_file<R: Files + AllocGlobal, O: Write>(
     print_text(output, &report)
 }
 
-/// Prints a file's puzzle in another format.
+/// Prints a file's puzzle in the given format.
 fn convert_file<R: Files + AllocGlobal, O: Write>(
     rt: &R,
     format: Format,
@@ -176,7 +182,8 @@ fn convert_file<R: Files + AllocGlobal, O: Write>(
     output: &mut Counted<O>,
 ) -> Result<(), Stop>
     requires { fault_count output.old < 2 ^ 32 - 1 }
-    ensures answer { PrintsFile (convert_answer format path.now) result (O.contents output.old.inner) (O.contents output.new.inner) }
+    ensures answer { PrintsFile (convert_answer format path.now) result
+        (O.contents output.old.inner) (O.contents output.new.inner) }
     ensures write { IsUnwritten result ↔ (fault_count output.old < fault_count output.new) }
 {
     let body = read_file(rt, path)?;
@@ -184,14 +191,15 @@ fn convert_file<R: Files + AllocGlobal, O: Write>(
     print_text(output, &text)
 }
 
-/// Prints the grid of a file's puzzle as far as line logic gets.
+/// Prints the grid that line logic reaches for a file's puzzle.
 fn close_file<R: Files + AllocGlobal, O: Write>(
     rt: &R,
     path: &str,
     output: &mut Counted<O>,
 ) -> Result<(), Stop>
     requires { fault_count output.old < 2 ^ 32 - 1 }
-    ensures answer { PrintsFile (lines_answer path.now) result (O.contents output.old.inner) (O.contents output.new.inner) }
+    ensures answer { PrintsFile (lines_answer path.now) result
+        (O.contents output.old.inner) (O.contents output.new.inner) }
     ensures write { IsUnwritten result ↔ (fault_count output.old < fault_count output.new) }
 {
     let body = read_file(rt, path)?;
@@ -199,7 +207,7 @@ fn close_file<R: Files + AllocGlobal, O: Write>(
     print_text(output, &report)
 }
 
-/// Prints what is asked for. A survey's progress is told on `progress`.
+/// Performs `request`. A survey's progress line, if asked for, goes to `progress`.
 pub fn perform<R, I, O, P>(
     rt: &R,
     request: &Request,
@@ -215,8 +223,8 @@ where
     requires range { HasSettingsInRange request.now }
     requires reading { fault_count input.old < 2 ^ 32 - 1 }
     requires writing { fault_count output.old < 2 ^ 32 - 1 }
-    ensures answer { Performs request.now (stream I.remaining input.old input.new) result (O.contents output.old.inner)
-        (O.contents output.new.inner) }
+    ensures answer { Performs request.now (stream I.remaining input.old input.new) result
+        (O.contents output.old.inner) (O.contents output.new.inner) }
     ensures write { IsUnwritten result ↔ (fault_count output.old < fault_count output.new) }
 {
     match request {

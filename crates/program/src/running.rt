@@ -1,4 +1,4 @@
-//! What the program does with its words and its standard streams, and how it ends.
+//! Running the program on its words and standard streams, up to its exit status.
 
 ghost use Rattle.std.specs.Prelude.{◌≡◌, ◌≢◌, ◌-◌, ◌^◌, ◌<◌, ◌≤◌, ◌↔◌, ℕ, List, IfOk, IfSome, OnErr, OnOk, Ok, Result, map, string_bytes};
 ghost use Rattle.std.specs.IoError.{error_kind};
@@ -27,18 +27,19 @@ use std::thread::Threads;
 use std::{env, io};
 use survey_core::Counted;
 
-/// What the program prints if its words can't be read.
+/// The line that refuses words that aren't UTF-8.
 const NO_TEXT: &[u8] = b"error: a word of the command line is no text\n";
 
-/// The words after the program's name.
+/// Returns the words after the program's name.
 pub fn words_of<R: Env + AllocGlobal>(rt: &R) -> io::Result<Vec<String>> {
     Ok(env::args(rt)?.skip(1).collect(rt.alloc())?)
 }
 
-/// Prints the word of a fault, and after a colon the number of its line, if it has one.
+/// Prints a fault word, followed by a colon and its line number if it has one.
 fn print_word<E: Write>(errors: &mut Counted<E>, word: FaultWord) -> Result<(), Stop>
     requires { fault_count errors.old < 2 ^ 32 - 1 }
-    ensures said { OnOk result (Appends (E.contents errors.old.inner) (E.contents errors.new.inner) (word_text word)) }
+    ensures said { OnOk result
+        (Appends (E.contents errors.old.inner) (E.contents errors.new.inner) (word_text word)) }
     ensures failed { OnErr result (fault_count errors.old < fault_count errors.new) }
     ensures sound { OnOk result (fault_count errors.new ≡ fault_count errors.old) }
 {
@@ -50,19 +51,21 @@ fn print_word<E: Write>(errors: &mut Counted<E>, word: FaultWord) -> Result<(), 
     print_text(errors, Buffer::new().format(line).as_bytes())
 }
 
-/// Prints why the program stops: `nonograde: `, the fault's word, and a line feed. It takes no memory, so the
-/// line goes out in pieces.
+/// Prints why the program stops: `nonograde: `, the fault word, and LF.
 fn print_stop<E: Write>(errors: &mut Counted<E>, stop: &Stop) -> Result<(), Stop>
     requires { fault_count errors.old < 2 ^ 32 - 1 }
-    ensures said { OnOk result (Appends (E.contents errors.old.inner) (E.contents errors.new.inner) (stop_line stop.now)) }
+    ensures said { OnOk result
+        (Appends (E.contents errors.old.inner) (E.contents errors.new.inner) (stop_line stop.now)) }
     ensures failed { OnErr result (fault_count errors.old < fault_count errors.new) }
 {
+    // The line is sent in pieces, since putting it together would allocate, and the stop may be
+    // `NoMemory`.
     print_text(errors, b"nonograde: ")?;
     print_word(errors, stop_word(*stop))?;
     print_text(errors, b"\n")
 }
 
-/// Prints why the program stops, and gives its status, 1.
+/// Prints why the program stops, and returns its exit status, 1.
 pub fn report_stop<E: Write>(errors: &mut Counted<E>, stop: &Stop) -> u8
     requires { fault_count errors.old < 2 ^ 32 - 1 }
     ensures { Stops stop.now result (stream E.contents errors.old errors.new) }
@@ -71,13 +74,15 @@ pub fn report_stop<E: Write>(errors: &mut Counted<E>, stop: &Stop) -> u8
     1
 }
 
-/// Says that the words can't be read, and gives the program's status: 1 if a growth was refused, else 2.
+/// Prints that the program's words can't be read, and returns its exit status: 1 if an allocation
+/// failed, and 2 otherwise.
 pub fn refuse_words<E: Write>(errors: &mut Counted<E>, error: &io::Error) -> u8
     requires { fault_count errors.old < 2 ^ 32 - 1 }
     ensures memory { error_kind error.now ≡ ErrorKind.OutOfMemory → result ≡ 1 }
     ensures other { error_kind error.now ≢ ErrorKind.OutOfMemory → result ≡ 2 }
     ensures said { fault_count errors.new ≡ fault_count errors.old
-        → Appends (E.contents errors.old.inner) (E.contents errors.new.inner) (refused_line result) }
+        → Appends (E.contents errors.old.inner) (E.contents errors.new.inner)
+        (refused_line result) }
 {
     if error.kind() == ErrorKind::OutOfMemory {
         return report_stop(errors, &Stop::NoMemory);
@@ -86,7 +91,7 @@ pub fn refuse_words<E: Write>(errors: &mut Counted<E>, error: &io::Error) -> u8
     2
 }
 
-/// Prints what is displayed of a value, and flushes.
+/// Prints what `Display` formats of `shown`, and flushes.
 fn print_shown<T: Display, O: Write>(
     alloc: Global,
     shown: &T,
@@ -94,7 +99,8 @@ fn print_shown<T: Display, O: Write>(
 ) -> Result<(), Stop>
     requires { fault_count output.old < 2 ^ 32 - 1 }
     ensures answer { (text : List ℕ) × IfSome (T.output shown.now) (λ known. text ≡ known)
-        × Prints (Ok text) result (O.contents output.old.inner) (O.contents output.new.inner) }
+        × Prints (Ok text) result
+        (O.contents output.old.inner) (O.contents output.new.inner) }
     ensures write { IsUnwritten result ↔ (fault_count output.old < fault_count output.new) }
 {
     match shown.to_string(alloc) {
@@ -103,7 +109,8 @@ fn print_shown<T: Display, O: Write>(
     }
 }
 
-/// Ends the program with status 0, or at a stop, which it reports.
+/// Returns the program's exit status: 0 if `done` is `Ok`; otherwise prints the fault's line and
+/// returns 1.
 fn end_after<E: Write>(errors: &mut Counted<E>, done: Result<(), Stop>) -> u8
     requires { fault_count errors.old < 2 ^ 32 - 1 }
     ensures { EndsAfter done result (stream E.contents errors.old errors.new) }
@@ -114,8 +121,8 @@ fn end_after<E: Write>(errors: &mut Counted<E>, done: Result<(), Stop>) -> u8
     }
 }
 
-/// Prints what `clap` says of the words, help and the version on the output and all else on the stream for
-/// faults, and gives the program's status.
+/// Prints the message of `clap`: help and the version to `output`, and anything else to `errors`.
+/// Returns the program's exit status.
 fn tell_words<O: Write, E: Write>(
     alloc: Global,
     error: &Error,
@@ -136,7 +143,7 @@ fn tell_words<O: Write, E: Write>(
     end_after(errors, done)
 }
 
-/// Performs what is asked for, or tells why the words are refused, and gives the program's status.
+/// Performs the request, or prints why the words are refused. Returns the program's exit status.
 fn finish<R, I, O, E, P>(
     rt: &R,
     asked: Result<Request, CommandFault>,
@@ -156,8 +163,8 @@ where
     requires writing { fault_count output.old < 2 ^ 32 - 1 }
     requires telling { fault_count errors.old < 2 ^ 32 - 1 }
     ensures status { result ≤ 2 }
-    ensures ends { EndsBy asked (stream I.remaining input.old input.new) result (stream O.contents output.old output.new)
-        (stream E.contents errors.old errors.new) }
+    ensures ends { EndsBy asked (stream I.remaining input.old input.new) result
+        (stream O.contents output.old output.new) (stream E.contents errors.old errors.new) }
 {
     match asked {
         Ok(request) => {
@@ -169,10 +176,11 @@ where
     }
 }
 
-/// Runs the words that follow the program's name, and gives the program's status: 0 if it printed what was
-/// asked for, 1 at a fault, 2 if the words are refused.
+/// Runs the program on `words`, those that follow its name. Returns the exit status: 0 if it
+/// printed what was asked for, 1 at a fault, and 2 if the words are refused.
 ///
-/// A survey's progress is told on `progress`, if that is asked for: a second handle of the stream for faults.
+/// `progress` is a second handle of standard error, to which a survey's progress line goes if asked
+/// for.
 pub fn run<R, I, O, E, P>(
     rt: &R,
     words: Vec<String>,
@@ -191,9 +199,10 @@ where
     requires writing { fault_count output.old < 2 ^ 32 - 1 }
     requires telling { fault_count errors.old < 2 ^ 32 - 1 }
     ensures status { result ≤ 2 }
-    ensures ends { (asked : Result Request CommandFault) × IfOk asked (WordsAsk (map string_bytes words.items))
-        × EndsBy asked (stream I.remaining input.old input.new) result (stream O.contents output.old output.new)
-        (stream E.contents errors.old errors.new) }
+    ensures ends { (asked : Result Request CommandFault)
+        × IfOk asked (WordsAsk (map string_bytes words.items))
+        × EndsBy asked (stream I.remaining input.old input.new) result
+        (stream O.contents output.old output.new) (stream E.contents errors.old errors.new) }
 {
     let asked = parse_words(rt.alloc(), words);
     finish(rt, asked, input, output, errors, progress)

@@ -1,4 +1,4 @@
-//! What the program says if it stops at a fault.
+//! The faults at which the program stops, and their fault words.
 
 ghost use Rattle.std.specs.Prelude.{◌≡◌};
 ghost use Rattle.puzzle_text.specs.Words.{word_text};
@@ -13,9 +13,9 @@ use survey_core::RunFault;
 /// Why the program stops.
 #[derive(Clone, Copy, Debug, PartialEq, Eq)]
 pub enum Stop {
-    /// A puzzle's text is refused.
+    /// A puzzle's text is refused, for this fault.
     Entry(EntryFault),
-    /// A survey is not written, or not written whole.
+    /// A survey wasn't written, or not completely.
     Run(RunFault),
     /// A puzzle's text in `.nin` would be read with the sizes the other way round.
     Ambiguous,
@@ -23,7 +23,7 @@ pub enum Stop {
     Read,
     /// Standard output can't be written.
     Write,
-    /// A growth of memory was refused.
+    /// An allocation failed.
     NoMemory,
 }
 
@@ -55,8 +55,8 @@ impl From<ConvertFault> for Stop {
     }
 }
 
-/// The word of a survey's fault: that of the collection's fault, if it is one. A failed writing has no
-/// number.
+/// Returns the fault word of a failed survey. A fault of the collection keeps its own word; the
+/// number of bytes written before a failure isn't part of the word.
 fn word_of_run(fault: RunFault) -> FaultWord
     ensures { word_text result ≡ run_word fault }
 {
@@ -69,7 +69,7 @@ fn word_of_run(fault: RunFault) -> FaultWord
     }
 }
 
-/// The word of a fault.
+/// Returns the fault word of `stop`.
 pub fn stop_word(stop: Stop) -> FaultWord
     ensures { word_text result ≡ stop_word stop }
 {

@@ -1,4 +1,4 @@
--- What holds of each element of a list, what a filter keeps of it, and what comes of a step for each.
+-- Lemmas on what holds of each element of a list, on filters, and on checks of each element in turn.
 use Rattle.std.proofs.Common.{◌≡◌, Bool, List, Ok, Option, Result, [], ap, drop, false, filter, map, option_map, refl, rules, true, ◌++◌, ◌∷◌}
 use Rattle.std.proofs.lemmas.Bool.{and_parts}
 use Rattle.std.specs.List.{AllByRecursion, flat_map, list_all}
@@ -6,12 +6,12 @@ use Rattle.puzzle_text.specs.Answers.{each, ◌>>=◌}
 use Rattle.puzzle_text.specs.declared.faults.TextFault.{TextFault}
 
 module _ {X : Type 0} (P : X → Type 0) where
-  -- what holds of the elements of two lists holds of those of both together
+  -- What holds of the elements of two lists holds of the elements of both together.
   pub all-append : (xs ys : List X) → AllByRecursion P xs → AllByRecursion P ys → AllByRecursion P (xs ++ ys)
   all-append [] ys p q = q
   all-append (x ∷ xs) ys p q = (p.0, all-append xs ys p.1 q)
 
-  -- what follows of each element holds of each that is made of one
+  -- If `P x` implies `Q (f x)`, and `P` holds of each element, then `Q` holds of each element of `map f xs`.
   pub all-map : {Y : Type 0} (Q : Y → Type 0) (f : X → Y) → ((x : X) → P x → Q (f x)) → (xs : List X) → AllByRecursion P xs
       → AllByRecursion Q (map f xs)
   all-map Q f next [] h = tt
@@ -21,19 +21,19 @@ module _ {X : Type 0} (P : X → Type 0) where
   all-weaker Q next [] h = tt
   all-weaker Q next (x ∷ xs) h = (next x h.0, all-weaker Q next xs h.1)
 
--- what holds of all that is made of each element holds of all that is made of a list
+-- If `P` holds of all elements of each `f x`, it holds of all elements of `flat_map f xs`.
 pub all-flat_map : {X Y : Type 0} (P : Y → Type 0) (f : X → List Y) → ((x : X) → AllByRecursion P (f x)) → (xs : List X)
     → AllByRecursion P (flat_map f xs)
 all-flat_map P f each [] = tt
 all-flat_map P f each (x ∷ xs) = all-append P (f x) (flat_map f xs) (each x) (all-flat_map P f each xs)
 
 module _ {X : Type 0} (p : X → Bool) where
-  -- what follows from a test holds of each element of a list if all pass
+  -- If the test `p` implies `Q`, and all elements pass the test, then `Q` holds of each.
   pub all_pass : (Q : X → Type 0) → ((x : X) → p x ≡ true → Q x) → (xs : List X) → list_all p xs ≡ true → AllByRecursion Q xs
   all_pass Q next [] h = tt
   all_pass Q next (x ∷ xs) h = search (rules, all_pass Q next xs, and_parts)
 
-  -- a filter keeps all elements if all pass, and none if none does
+  -- A filter keeps all elements if all pass, and none if none does.
   pub filter_all : (xs : List X) → AllByRecursion (λ x. p x ≡ true) xs → filter p xs ≡ xs
   filter_all [] h = refl
   filter_all (x ∷ xs) h = rw h.0 (ap (λ ys. x ∷ ys) (filter_all xs h.1))
@@ -42,13 +42,13 @@ module _ {X : Type 0} (p : X → Bool) where
   filter_none [] h = refl
   filter_none (x ∷ xs) h = rw h.0 (filter_none xs h.1)
 
--- ---- a step for each element, as a loop makes it
+-- ---- checks of each element in turn, as a loop makes them
 
--- what comes of all elements, if `front` came of the first ones
+-- the result of all checks, if the first ones had the values `front`, and `rest` is the result of the others
 abbrev pub with_front : {Y : Type 0} → List Y → Result (List Y) TextFault → Result (List Y) TextFault
 with_front front rest = rest >>= λ ys. Ok (front ++ ys)
 
--- the same of options
+-- the values at all elements, if the first ones had the values `front`, and `rest` are those of the others
 abbrev pub some_with_front : {Y : Type 0} → List Y → Option (List Y) → Option (List Y)
 some_with_front front rest = option_map (λ ys. front ++ ys) rest
 
@@ -57,7 +57,7 @@ pub each-map : {A X Y : Type 0} (step : X → Result Y TextFault) (view : A → 
 each-map step view [] = refl
 each-map step view (x ∷ xs) = ap (λ others. step (view x) >>= λ y. others >>= λ ys. Ok (y ∷ ys)) (each-map step view xs)
 
--- with no element passed, what is to come is what comes of all
+-- Before the first element, the result of the checks to come is the result of all.
 pub each_begins : {A X Y : Type 0} (step : X → Result Y TextFault) (view : A → X) (xs : List A)
     → with_front [] (each (λ a. step (view a)) (drop 0 xs)) ≡ each step (map view xs)
 each_begins step view xs = search (rules, each-map)

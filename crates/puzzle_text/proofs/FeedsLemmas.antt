@@ -1,4 +1,4 @@
--- What holds of a line holds of the text of a field: no line has a line feed in it, so nor has the text; and a short line has a short text.
+-- What holds of a line's text holds of the text of its field: it has no line feed if the line has none, and is short if the line is.
 use Rattle.puzzle_text.proofs.Names.{All-cons, All-nil, rules, ◌≡◌, ℕ, ◌+◌, ◌-◌, ◌≤◌, Bool, true, false, cond, not, eqb, leb, ltb, List, [], ◌∷◌, length, drop, reverse, All, refl, arith, Option, Some, None, IfSome, Ok, map, option_and_then, slice_get, unwrap_or, filter, list_all, onto_first, AllByRecursion, option_map, cond_both, and_from, and_parts, le-leb, leb-true, ltb-false, get_or-reverse, length-drop, length-reverse, All-take, All-drop, All-filter, All-from_recursion, recursion_from_All, AllPass-from_list_all, list_all-from_AllPass, IsDescription, LONGEST_TEXT, text_lines, Line, numbered_from, raw_lines, strip_last, trim, trim_start, after_quote, first_with, quoted_text, shown_keyword, bad_line, least, least_of, number_of_line, texts_of, KeywordLine, HaveNoFeed, has_no_feed}
 
 abbrev IsOther : ℕ → Type 0
@@ -30,7 +30,7 @@ module _ (P : List ℕ → Type 0) (cut : (n : ℕ) (bytes : List ℕ) → P byt
   of_text : (line : Line) → P line.text → P (quoted_text line)
   of_text line h = search (rules, of_trim, of_or, of_after, turned)
 
--- ---- parts of what has no line feed
+-- ---- parts of texts without a line feed
 
 clean_reverse : (bytes : List ℕ) → IsClean bytes → IsClean (reverse bytes)
 clean_reverse bytes h k d lt = search (rules, length-reverse, get_or-reverse)
@@ -41,7 +41,7 @@ clean_strip byte bytes h = cond_both _ _ _ IsClean (λ _. All-take IsOther (leng
 clean_text : (line : Line) → has_no_feed line.text ≡ true → has_no_feed (quoted_text line) ≡ true
 clean_text line h = search (rules, list_all-from_AllPass, of_text IsClean (All-drop IsOther) clean_reverse, AllPass-from_list_all)
 
--- a line without its line feed has none
+-- a line without the line feed at its end has no line feed
 abbrev IsRaw : List ℕ → Type 0
 IsRaw raw = IsClean (strip_last 10 raw)
 
@@ -58,15 +58,15 @@ clean_lines number [] h = tt
 clean_lines number (raw ∷ raws) h =
     search (rules, list_all-from_AllPass, of_trim IsClean (All-drop IsOther) clean_reverse, clean_strip, clean_lines (number + 1) raws)
 
--- no line of a text that isn't too long has a line feed
+-- No line of a text that isn't too long has a line feed in its text.
 pub lines_have_no_feed : (bytes : List ℕ) (text : List Line) → text_lines bytes ≡ Ok text → HaveNoFeed text
 lines_have_no_feed bytes text e = search (rules, clean_lines, all_raw)
 
--- the lines that a filter keeps have no line feed in them either
+-- The lines that a filter keeps have no line feed in them either.
 pub clean_filter : (p : Line → Bool) (text : List Line) → HaveNoFeed text → HaveNoFeed (filter p text)
 clean_filter p text h = search (recursion_from_All, All-filter, All-from_recursion)
 
--- the line's number, if its text is too long
+-- the number of the line, if its text is too long
 abbrev long_of : Option Line → Option ℕ
 long_of o = number_of_line (option_and_then (λ line. cond (ltb LONGEST_TEXT (length (quoted_text line))) (Some line) None) o)
 
@@ -81,11 +81,11 @@ each_none : (numbers : List (Option ℕ)) → least_of numbers ≡ None → AllB
 each_none [] e = tt
 each_none (number ∷ numbers) e = search (rules, each_none numbers, least_none)
 
--- if no line is bad, the texts may stand in their fields
+-- If no line is bad, the texts of all fields are allowed there.
 pub lawful_texts : (stray : Option ℕ) (text : List Line) → HaveNoFeed text → bad_line stray text ≡ None → IsDescription (texts_of text)
 lawful_texts stray text h none = search (rules, each_none, least_none, first_clean, clean_filter, ltb-false, and_from, le-leb, clean_text)
 
--- ---- texts that are short
+-- ---- short texts
 
 abbrev are_short : List KeywordLine → Bool
 are_short kept = list_all (λ found. leb (length found.line.text.now) LONGEST_TEXT) kept
@@ -104,7 +104,7 @@ short_first : (word : List ℕ) (kept : List KeywordLine) → are_short kept ≡
 short_first word [] h = refl
 short_first word (found ∷ kept) h = search (rules, short_first word kept, and_parts, leb-true, short_here)
 
--- if no line is long, no text is
+-- If no line is too long, no text is, so that the bad line is the stray one.
 pub short_lines : (stray : Option ℕ) (kept : List KeywordLine) → are_short kept ≡ true → bad_line stray (map shown_keyword kept) ≡ stray
 short_lines None kept h = search short_first
 short_lines (Some number) kept h = search short_first

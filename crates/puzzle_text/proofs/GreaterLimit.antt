@@ -1,8 +1,8 @@
--- A greater limit keeps what a text says.
+-- With a greater limit, each text keeps its puzzle, or its fault unless that was `BadSize` or `BadNumber`.
 use Rattle.puzzle_text.proofs.Names.{rules, ◌≡◌, ℕ, ◌≤◌, Bool, true, false, List, [], ◌∷◌, refl, Option, Some, Result, option_and_then, list_all, and_parts, le-leb, leb-true, TextFault, is_run, Line, number_within, pieces, ◌>>=◌, each, each_some, clue_of, clues_of, size_of, two_sizes, size_line, both_clues}
 use Rattle.puzzle_text.specs.Laws.{GreaterLimitKeeps, KeepsAnswer}
 
--- what old gives, new gives
+-- if `old` has a value, `new` has the same
 abbrev KeepsSome : {A : Type 0} → Option A → Option A → Type 0
 KeepsSome {A} old new = (x : A) → old ≡ Some x → new ≡ Some x
 
@@ -55,7 +55,7 @@ module _ (a b : ℕ) (le : a ≤ b) where
   both_keep true p q = search (keeps-bind, keeps-same, clues_keep)
   both_keep false p q = search (keeps-bind, keeps-same, clues_keep)
 
-  -- a greater limit keeps what a text says, in each format
+  -- The law: with a greater limit, each text keeps its result in each format.
   pub keeps : GreaterLimitKeeps a b
   keeps = λ bytes. (
     search (keeps-bind, keeps-same, size_keeps, both_keep) depth 8,

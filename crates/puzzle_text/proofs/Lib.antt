@@ -1,4 +1,4 @@
--- Lemmas on puzzles' texts and on collections.
+-- The lemmas on puzzles' texts and on collections.
 pub mod Names
 pub mod AllLemmas
 pub mod LinesLemmas

@@ -1,4 +1,4 @@
--- The names that most proofs cite, passed on from one place. Declares nothing.
+-- The names that most proofs use, re-exported from one module. It declares nothing.
 pub use Rattle.std.proofs.Common.{All, Bool, Err, IfOk, IfSome, List, None, Ok, Option, Result, Some, [], ap, append-nil, append_assoc, arith, codes, cond, decimal, drop, eqb, false, filter, get_or, inl, inr, leb, length, ltb, map, not, option_and_then, option_map, refl, reverse, rules, slice_get, suc, sum, sym, take, take_while, true, unwrap_or, vec_capacity, vec_len, zero, ℕ, ◌&&◌, ◌*◌, ◌++◌, ◌+◌, ◌-◌, ◌<◌, ◌^◌, ◌||◌, ◌∙◌, ◌∷◌, ◌≡◌, ◌≤◌}
 pub use Rattle.std.proofs.Math.Bool.{and-false, or-false}
 pub use Rattle.std.proofs.Math.Seq.{drop-append_seam, take-append_seam}

@@ -1,16 +1,16 @@
--- What is written in .mk and in .nin is read again.
+-- Puzzles that are written in `.mk` and in `.nin` are read again.
 use Rattle.puzzle_text.proofs.Names.{flat_map-map, rules, ◌≡◌, ℕ, ◌≤◌, List, [], ◌∷◌, ◌++◌, length, map, refl, append_assoc, arith, Ok, flat_map, AllByRecursion, append-nil, length-append, flat_map-append, Nonogram, plain, IsNonogramWithin, mk_of, read_mk, clue_text, text_mk, all-append, inr, true, false, ◌∙◌, eqb-true, is_clue, reading, likelier, nin_of, read_nin, text_nin, is_ambiguous, take-append_seam, drop-append_seam}
 use Rattle.puzzle_text.proofs.SaidLines.{mk_lines, short_lines, nin_lines}
 use Rattle.puzzle_text.proofs.ReadBack.{with_feed, numbered, lines_kept, IsKept, kept_clues, numbered-append, say_clues, some_sizes, kept_sizes, sizes_are, length_within}
 
--- the lines of the text in .mk
+-- the lines of the puzzle's text in `.mk`
 abbrev pub texts_mk : Nonogram → List (List ℕ)
 texts_mk p = clue_text 32 (p.height ∷ p.width ∷ []) ∷ (map (clue_text 32) p.rows ++ (35 ∷ []) ∷ map (clue_text 32) p.columns)
 
 text_is : (p : Nonogram) → flat_map with_feed (texts_mk p) ≡ text_mk p
 text_is p = search (rules, flat_map-append, flat_map-map, append_assoc, append-nil)
 
--- the lines of the text in .nin
+-- the lines of the puzzle's text in `.nin`
 abbrev pub texts_nin : Nonogram → List (List ℕ)
 texts_nin p = clue_text 32 (p.width ∷ p.height ∷ []) ∷ map (clue_text 32) (p.rows ++ p.columns)
 
@@ -27,7 +27,7 @@ module _ (limit : ℕ) (p : Nonogram) (wide : limit ≤ 256) (lawful : IsNonogra
   kept_mk : AllByRecursion IsKept (texts_mk p)
   kept_mk = (kept_sizes limit _ _ (omega arith) high across, search (rules, all-append, kept_clues 32 limit))
 
-  -- the lines of a written puzzle say that puzzle
+  -- The lines of a written puzzle are read as that puzzle.
   mk_again : mk_of limit (numbered 1 (texts_mk p)) ≡ Ok (plain p.width p.height p.rows p.columns)
   mk_again =
       rw (numbered-append 2 (map (clue_text 32) p.rows) ((35 ∷ []) ∷ map (clue_text 32) p.columns))
@@ -35,11 +35,11 @@ module _ (limit : ℕ) (p : Nonogram) (wide : limit ≤ 256) (lawful : IsNonogra
       (some_sizes limit p.height p.width (omega arith) high across) refl (say_clues 32 limit 2 p.rows (inr refl) (omega arith) lawful.rows)
       (say_clues 32 limit _ p.columns (inr refl) (omega arith) lawful.columns) lawful.clues.0 lawful.clues.1)
 
-  -- the text is short enough to be read
+  -- The text in `.mk` is short enough to be read.
   pub length_mk : length (text_mk p) ≤ 1048576
   length_mk = search (rules, length-append, length_within limit p.height p.width p.rows p.columns)
 
-  -- a written puzzle is read again, without its texts and its goal
+  -- A puzzle written in `.mk` is read again without its texts and its goal.
   pub mk_read_again : read_mk limit (text_mk p) ≡ Ok (plain p.width p.height p.rows p.columns)
   mk_read_again = rw (short_lines (text_mk p) length_mk, ← text_is p, lines_kept 1 (texts_mk p) kept_mk) mk_again
 
@@ -54,25 +54,25 @@ module _ (limit : ℕ) (p : Nonogram) (wide : limit ≤ 256) (lawful : IsNonogra
       let sizes = kept_sizes limit _ _ (omega arith) across high in
       (sizes, kept_clues 32 limit _ (inr refl) (omega arith) all_lawful)
 
-  -- the lines of a written puzzle say the likelier reading of its clues
+  -- The lines of a written puzzle are read as its clues, with the sizes in the order that `likelier` chooses.
   nin_again : nin_of limit (numbered 1 (texts_nin p)) ≡ Ok (likelier p.width p.height clues)
   nin_again =
       nin_lines limit p.width p.height _ _ clues (sizes_are limit p.width p.height (omega arith) across high)
       (some_sizes limit p.width p.height (omega arith) across high) (say_clues 32 limit 2 clues (inr refl) (omega arith) all_lawful)
       (omega (arith, length-append p.rows p.columns, lawful.clues.0, lawful.clues.1))
 
-  -- the text is short enough to be read
+  -- The text in `.nin` is short enough to be read.
   pub length_nin : length (text_nin p) ≤ 1048576
   length_nin = search (rules, length-append, length_within limit p.width p.height p.rows p.columns)
 
-  -- the text is read as the likelier reading of the clues
+  -- A puzzle written in `.nin` is read as its clues, with the sizes in the order that `likelier` chooses.
   likelier_read : read_nin limit (text_nin p) ≡ Ok (likelier p.width p.height clues)
   likelier_read = rw (short_lines (text_nin p) length_nin, ← nin_is p, lines_kept 1 (texts_nin p) kept_nin) nin_again
 
-  -- a written puzzle that isn't ambiguous is read again, without its texts and its goal
+  -- A puzzle written in `.nin` that isn't ambiguous is read again without its texts and its goal.
   pub nin_read_again : is_ambiguous p ≡ false → read_nin limit (text_nin p) ≡ Ok (plain p.width p.height p.rows p.columns)
   nin_read_again clear = likelier_read ∙ search (rules, eqb-true, take-append_seam, drop-append_seam)
 
-  -- the text of an ambiguous puzzle is read with its sizes exchanged
+  -- The text of an ambiguous puzzle is read with its sizes exchanged.
   pub nin_read_otherwise : is_ambiguous p ≡ true → read_nin limit (text_nin p) ≡ Ok (reading p.height p.width (p.rows ++ p.columns))
   nin_read_otherwise ambiguous = likelier_read ∙ search (rules, take-append_seam, drop-append_seam)

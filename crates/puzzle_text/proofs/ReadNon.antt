@@ -1,11 +1,11 @@
--- What is written in .non is read again.
+-- Puzzles that are written in `.non` are read again.
 use Rattle.puzzle_text.proofs.Names.{rules, ◌≡◌, drop, reverse, ℕ, ◌*◌, ◌<◌, ◌≤◌, ◌^◌, Bool, true, false, not, eqb, List, [], ◌∷◌, ◌++◌, length, get_or, map, codes, refl, sym, ap, ◌∙◌, append_assoc, arith, Option, Some, inr, None, decimal, flat_map, list_all, AllByRecursion, not-true, and_parts, leb-true, eqb-true, reverse-append, reverse-reverse, append-nil, get_or_at, length-append, length-map, flat_map-append, length-decimal-le, flat_map-map, prefix_len, is_ascii_alphabetic, is_empty, trim, trim_end, trim_start, Nonogram, IsNonogramWithin, is_goal, Description, IsDescription, is_field, text_of, all_fields, field_word, clue_text, quoted_line, goal_byte, goal_lines, text_non, Field, Catalogue, all-append, all-flat_map, all-weaker, all_pass, ◌+◌, cond, ltb, Ok, filter, bytes_eq, eq-eqb, filter-append, is_clue, inl, Line, lines, is_full, each_some, with_keyword, first_with, quoted_text, placed, sections_of, number_of_line, long_text, cell_of, goal_of, texts_of, sizes_of, check_lines, outline_of, non_of, read_non, Sections, puzzle_said, Rows, Columns, Other, Title, By, Copyright, License, all-map, filter_all, filter_none, nil_from_length}
 use Rattle.std.proofs.lemmas.Nat.{mul-le}
 use Rattle.puzzle_text.proofs.SectionsLemmas.{OpensNone, word_at, no_lines, IsContent, below, below_keyword, content_digit, join_content, nothing_above, with_lines}
 use Rattle.puzzle_text.proofs.ReadBack.{IsKept, kept_tidy, tidy_solid, kept_edged, with_feed, tidy-join, tidy_decimal, kept_clues, length_lines, lines_kept, numbered, numbered-append, say_clues, word_clue, size_again, first_digit}
 use Rattle.puzzle_text.proofs.SaidLines.{SayAll, non_lines, short_lines}
 
--- a keyword and a text in double quotes, as a line
+-- the text of a line with a keyword and a text in double quotes
 abbrev pub field_line : List ℕ → List ℕ → List ℕ
 field_line word text = word ++ 32 ∷ 34 ∷ (text ++ 34 ∷ [])
 
@@ -14,7 +14,7 @@ abbrev pub one : List ℕ → Option (List ℕ) → List (List ℕ)
 one word None = []
 one word (Some text) = field_line word text ∷ []
 
--- a keyword and a number, as a line
+-- the text of a line with a keyword and a number
 abbrev pub size_text : List ℕ → ℕ → List ℕ
 size_text word n = word ++ 32 ∷ decimal n
 
@@ -23,7 +23,7 @@ abbrev pub goal_text : Option (List Bool) → Option (List ℕ)
 goal_text None = None
 goal_text (Some cells) = Some (map goal_byte cells)
 
--- the empty line before a goal
+-- the empty line before a goal, if there is one
 abbrev pub goal_gap : Option (List Bool) → List (List ℕ)
 goal_gap None = []
 goal_gap (Some cells) = [] ∷ []
@@ -100,17 +100,17 @@ kept_goal (Some cells) = (kept_field (codes "goal") (map goal_byte cells) refl (
 pub lawful_field : (ts : Description) → IsDescription ts → (f : Field) → is_field (text_of ts f) ≡ true
 lawful_field ts lawful f = search rules
 
--- what follows the keyword that a line's text begins with
+-- the argument of a keyword line with this text
 abbrev pub rest_of : List ℕ → List ℕ
 rest_of text = trim (drop (prefix_len is_ascii_alphabetic text) text)
 
--- a text in double quotes is trimmed already
+-- A text in double quotes has no blanks that could be trimmed.
 pub quote_kept : (text : List ℕ) → trim_end (34 ∷ (text ++ 34 ∷ [])) ≡ 34 ∷ (text ++ 34 ∷ [])
 quote_kept text =
     let e = reverse-append (34 ∷ text) (34 ∷ []) in
     ap (λ (x : List ℕ). reverse (trim_start x)) e ∙ ap reverse (sym e) ∙ reverse-reverse (34 ∷ (text ++ 34 ∷ []))
 
--- what is so of the keyword of a field, and of its line
+-- what holds of a field's keyword and of its line
 pub record IsFieldWord (f : Field) : Type 0 where
   pub clean : list_all (λ byte. not (eqb byte 10)) (field_word f) ≡ true
   pub short : length (field_word f) ≤ 9
@@ -146,7 +146,7 @@ length_fields ts lawful (f ∷ fs) = search (rules, length_fields ts lawful fs, 
 length_goal : (w h : ℕ) (o : Option (List Bool)) → w ≤ 256 → h ≤ 256 → is_goal (w * h) o ≡ true → length (goal_lines o) ≤ 65550
 length_goal w h o wide high lawful = search (rules, eqb-true, mul-le, length-map, length-append)
 
--- the text is short enough to be read
+-- The text in `.non` is short enough to be read.
 pub length_non : (limit : ℕ) (p : Nonogram) → limit ≤ 256 → IsNonogramWithin limit p → length (text_non p) ≤ 1048576
 length_non limit p wide lawful =
     let fields = length_fields p.texts lawful.texts all_fields in
@@ -191,7 +191,7 @@ lines_with : (word : List ℕ) (k : ℕ) (texts : List (List ℕ))
 lines_with word k [] = refl
 lines_with word k (text ∷ texts) = let others = lines_with word (k + 1) texts in search rules
 
--- one line stands there, with this text
+-- `xs` are one line, with this `text`
 abbrev IsOne : List Line → List ℕ → Type 0
 IsOne xs text = (line : Line) × (xs ≡ line ∷ []) × (line.text ≡ text)
 
@@ -199,7 +199,7 @@ one_seen : (xs : List Line) (text : List ℕ) → map (λ (line : Line). line.te
 one_seen (x ∷ []) text e = (x, refl, cc)
 one_seen xs text e = absurd cc
 
--- what the lines with this keyword say
+-- the lines whose keyword is `word` are one, with this text in quotes, or none if there is no text
 abbrev FieldIs : List ℕ → List Line → Option (List ℕ) → Type 0
 FieldIs word lines None = with_keyword word lines ≡ []
 FieldIs word lines (Some text) = (line : Line) × (with_keyword word lines ≡ line ∷ []) × (quoted_text line ≡ text)
@@ -216,23 +216,24 @@ long_none : (word : List ℕ) (lines : List Line) (o : Option (List ℕ)) → Fi
     → number_of_line (long_text lines word) ≡ None
 long_none word lines o is lawful = search rules
 
--- keyword lines that open no section leave it open that none is
+-- Below keyword lines that begin no section, lines still belong to neither section.
 below_keywords : (k : ℕ) (xs ys : List (List ℕ)) → AllByRecursion (λ text. OpensNone (word_at text)) xs
     → (m : ℕ) × (below Other (numbered k (xs ++ ys)) ≡ below Other (numbered m ys))
 below_keywords k [] ys h = (k, refl)
 below_keywords k (x ∷ xs) ys h = search (rules, below_keywords (k + 1) xs ys h.1, below_keyword Other Other, h.0)
 
--- texts as lines are as they are as texts
+-- What holds of texts holds of the texts of their lines.
 numbered_all : (P : List ℕ → Type 0) (k : ℕ) (texts : List (List ℕ)) → AllByRecursion P texts
     → AllByRecursion (λ (line : Line). P line.text) (numbered k texts)
 numbered_all P k [] h = tt
 numbered_all P k (text ∷ texts) h = (h.0, numbered_all P (k + 1) texts h.1)
 
--- the clue lines of each section and the blank lines below them, from these numbers on
+-- the sections of a written puzzle, with the blank lines at their ends: their lines, numbered from `k` and from `m` on,
+-- and no stray line
 abbrev these : Nonogram → ℕ → ℕ → Sections
 these p k m = record { rows = numbered k (row_part p); columns = numbered m (column_part p); stray = None }
 
--- the lines of a section that aren't blank say its clues
+-- The non-blank lines of a section are read as its clues.
 part_again : (limit k : ℕ) (clues gap : List (List ℕ)) → limit < 2 ^ 64 → AllByRecursion (λ clue. is_clue limit clue ≡ true) clues
     → AllByRecursion (λ text. not (is_empty text) ≡ false) gap
     → SayAll limit (filter is_full (numbered k (map (clue_text 44) clues ++ gap))) clues
@@ -262,7 +263,8 @@ module _ (limit : ℕ) (p : Nonogram) (wide : limit < 2 ^ 64) (lawful : IsNonogr
   content_columns : AllByRecursion IsContent (column_part p)
   content_columns = search (all-append, content_clues, all_gap)
 
-  -- the lines with a keyword: those of its fields, of the sizes, of the sections and of the goal
+  -- The lines with the keyword `word` are those among the fields, the sizes and the section keywords, and the goal's if
+  -- `goal`.
   whole : (word : List ℕ) (goal : Bool) → bytes_eq [] word ≡ false
       → ((text : List ℕ) → bytes_eq (word_at (field_line (codes "goal") text)) word ≡ goal) → texts_with word (texts_non p)
       ≡ flat_map (part p.texts) (fields_with word all_fields)
@@ -319,7 +321,7 @@ module _ (limit : ℕ) (p : Nonogram) (wide : limit < 2 ^ 64) (lawful : IsNonogr
   texts_read : texts_of all_lines ≡ p.texts
   texts_read = search (rules, field_at Catalogue, field_at Title, field_at By, field_at Copyright, field_at License)
 
-  -- its sections are these, and no line is stray
+  -- The sections of the text are the written ones, and no line is stray.
   laid_out : (k : ℕ) × (m : ℕ) × (sections_of (placed all_lines) ≡ these p k m)
   laid_out =
       let words = all-flat_map (λ text. OpensNone (word_at text)) (part p.texts) (λ f. search (rules, facts)) all_fields in
@@ -338,7 +340,7 @@ module _ (limit : ℕ) (p : Nonogram) (wide : limit < 2 ^ 64) (lawful : IsNonogr
       (search (p.goal, rules, append-nil))))) in
       (m, n + 1, all)
 
-  -- the lines of a written puzzle say that puzzle
+  -- The lines of a written puzzle are read as that puzzle.
   non_again : non_of limit all_lines ≡ Ok p
   non_again =
       let outline : outline_of limit None all_lines ≡ Ok ((p.width, p.height), ltb rows_line.0.number columns_line.0.number) =
@@ -349,7 +351,7 @@ module _ (limit : ℕ) (p : Nonogram) (wide : limit < 2 ^ 64) (lawful : IsNonogr
       (part_again limit laid_out.1 p.columns (goal_gap p.goal) wide lawful.columns (all_gap _ refl p.goal)) outline
       lawful.clues.0 lawful.clues.1 (rw (goal_again (p.width * p.height) p.goal all_lines goal_field lawful.goal, texts_read) refl)
 
--- a written puzzle is read again, texts and goal included
+-- A puzzle written in `.non` is read again, including its texts and its goal.
 pub non_read_again : (limit : ℕ) (p : Nonogram) → limit ≤ 256 → IsNonogramWithin limit p → read_non limit (text_non p) ≡ Ok p
 non_read_again limit p wide lawful =
     rw (short_lines (text_non p) (length_non limit p wide lawful), ← non_is p)

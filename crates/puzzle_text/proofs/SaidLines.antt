@@ -1,12 +1,12 @@
--- What the lines of a text say, if some of them say its sizes and others its clues.
+-- The puzzle of a text's lines, if some of them are read as its sizes and others as its clues.
 use Rattle.puzzle_text.proofs.Names.{append-nil, rules, ◌≡◌, ℕ, ◌+◌, ◌≤◌, Bool, true, false, ltb, List, [], ◌∷◌, ◌++◌, length, filter, refl, append_assoc, arith, Some, None, Ok, Err, position_or_len, AllByRecursion, cond-false, eq-eqb, le-ltb, lt-ltb, take_all, take_at, drop_at, length-append, Nonogram, plain, TooLong, Line, is_full, is_hash, lines, pieces, clues_of, text_lines, two_sizes, at_hash, before_hash, mk_of, nin_of, likelier, Sections, both_clues, outline_of, puzzle_of_clues, puzzle_said, choice, filter_all, with_front, ◌-◌, cond, take, drop, map, ap, Option, Result, position, prefix_len, ltb-false, cond_some, take-map, drop-map, length-map, take_rest, take-append_seam, drop-append_seam, TextFault, ◌>>=◌, each, puzzle_of, reading, not, bytes_eq, is_empty, is_keyword_line}
 use Rattle.std.proofs.lemmas.Slice.Eq.{bytes_eq-Decides}
 
--- the lines of a text that isn't too long
+-- `text_lines` returns the lines of a text that isn't too long.
 pub short_lines : (bytes : List ℕ) → length bytes ≤ 1048576 → text_lines bytes ≡ Ok (lines bytes)
 short_lines bytes short = cond-false (ltb 1048576 (length bytes)) (Err TooLong) (Ok (lines bytes)) (le-ltb 1048576 (length bytes) short)
 
--- what passes a second test, if all that passes it passes the first
+-- If `p` implies `q`, a filter by `q` and then by `p` keeps what a filter by `p` keeps.
 filter_twice : {X : Type 0} (p q : X → Bool) → ((x : X) → p x ≡ true → q x ≡ true) → (xs : List X) → filter p (filter q xs) ≡ filter p xs
 filter_twice p q le [] = refl
 filter_twice p q le (x ∷ xs) = search (rules, filter_twice p q le xs)
@@ -14,12 +14,12 @@ filter_twice p q le (x ∷ xs) = search (rules, filter_twice p q le xs)
 some_word : (word own : List ℕ) → not (is_empty word) ≡ true → bytes_eq own word ≡ true → not (is_empty own) ≡ true
 some_word word own some e = rw ((bytes_eq-Decides own word).0 e) some
 
--- the keyword lines alone say what all lines say
+-- With the sections given, the keyword lines alone have the same result as all lines.
 pub said_of_kept : (limit : ℕ) (sections : Sections) (lines : List Line)
     → puzzle_said limit sections (filter is_keyword_line lines) ≡ puzzle_said limit sections lines
 said_of_kept limit sections lines = search (filter_twice, some_word)
 
--- ---- lines round a line that begins with #
+-- ---- lines around a line that begins with `#`
 
 pub prefix_len-map : {X Y : Type 0} (p : Y → Bool) (view : X → Y) (xs : List X)
     → prefix_len p (map view xs) ≡ prefix_len (λ x. p (view x)) xs
@@ -30,36 +30,36 @@ module _ {X : Type 0} (view : X → Line) where
   abbrev hash_at : List X → Option ℕ
   hash_at xs = position (λ x. is_hash (view x)) xs
 
-  -- the lines are cut at the first that begins with #
+  -- If the first line that begins with `#` has the index `i`, the lines are split there.
   pub at_hash_found : (xs : List X) (i : ℕ) → hash_at xs ≡ Some i
       → at_hash (map view xs) ≡ Some (map view (take i xs), map view (take (length xs - (i + 1)) (drop (i + 1) xs)))
   at_hash_found xs i e = search (rules, take-map, drop-map, take_rest, prefix_len-map, length-map)
 
-  -- the lines are not cut if none begins with #
+  -- The lines are not split if none begins with `#`.
   pub at_hash_none : (xs : List X) → hash_at xs ≡ None → at_hash (map view xs) ≡ None
   at_hash_none xs e = search (rules, prefix_len-map, length-map)
 
-  -- the lines before the first that begins with #
+  -- If the first line that begins with `#` has the index `i`, the lines before it are the first `i`.
   pub before_hash_found : (xs : List X) (i : ℕ) → hash_at xs ≡ Some i → before_hash (map view xs) ≡ map view (take i xs)
   before_hash_found xs i e = search (rules, cond_some, prefix_len-map, take-map)
 
-  -- all lines, if none begins with #
+  -- If no line begins with `#`, the lines before one are all lines.
   pub before_hash_none : (xs : List X) → hash_at xs ≡ None → before_hash (map view xs) ≡ map view xs
   before_hash_none xs e = search (rules, ltb-false, prefix_len-map, take-map, take_all)
 
--- the first element that passes stands behind those that don't
+-- If no element of `xs` passes, the first that passes in `xs ++ ys` is in `ys`.
 place_after : {X : Type 0} (p : X → Bool) (xs ys : List X) → AllByRecursion (λ x. p x ≡ false) xs
     → position_or_len p (xs ++ ys) ≡ length xs + position_or_len p ys
 place_after p [] ys none = omega arith
 place_after p (x ∷ xs) ys none = rw none.0 (omega (arith, place_after p xs ys none.1))
 
--- the lines are cut at the line that begins with #, if none before it does
+-- The lines are split at the line `hash`, if no line before it begins with `#`.
 at_hash_is : (rows : List Line) (hash : Line) (after : List Line) → AllByRecursion (λ line. is_hash line ≡ false) rows
     → is_hash hash ≡ true → at_hash (rows ++ hash ∷ after) ≡ Some (rows, after)
 at_hash_is rows hash after none here =
     search (rules, place_after is_hash rows (hash ∷ after), drop_at (rows ++ hash ∷ []) after, lt-ltb, length-append, append_assoc, take_at)
 
--- no line is left out if none begins with #
+-- If no line begins with `#`, the lines before one are all lines.
 before_hash_is : (rows : List Line) → AllByRecursion (λ line. is_hash line ≡ false) rows → before_hash rows ≡ rows
 before_hash_is rows none = rw (rw append-nil at (place_after is_hash rows [] none)) (take_all _ rows (omega arith))
 
@@ -70,7 +70,7 @@ each-append : {X Y : Type 0} (step : X → Result Y TextFault) (xs ys : List X)
 each-append step [] ys = search rules
 each-append {X} {Y} step (x ∷ xs) ys = search (rules, each-append step xs ys)
 
--- the puzzle of the clue lines of both sections
+-- The puzzle of the clue lines of both sections is that of the clues of each.
 pub puzzle_of_parts : (limit width height : ℕ) (xs ys : List Line)
     → puzzle_of limit width height (xs ++ ys) ≡ (both_clues limit true xs ys >>= λ clues. Ok (reading width height (clues.0 ++ clues.1)))
 puzzle_of_parts limit width height xs ys = search (rules, each-append)
@@ -80,21 +80,21 @@ pub puzzle_of_both : (limit width height : ℕ) (xs ys : List Line) (rows column
     → puzzle_of limit width height (xs ++ ys) ≡ Ok (plain width height rows columns)
 puzzle_of_both limit width height xs ys rows columns said high = search (rules, puzzle_of_parts, take-append_seam, drop-append_seam)
 
--- each of these lines says its clue; none is blank, and none begins with #
+-- each line of `found` is read as the clue at its index; none is blank, and none begins with `#`
 pub record SayAll (limit : ℕ) (found : List Line) (clues : List (List ℕ)) : Type 0 where
   pub full : AllByRecursion (λ line. is_full line ≡ true) found
   pub hash : AllByRecursion (λ line. is_hash line ≡ false) found
   pub count : length found ≡ length clues
   pub said : clues_of limit found ≡ Ok clues
 
--- and those are all, if none is blank
+-- If none of `count` lines is blank, all of them are the clue lines.
 all_chosen : (limit count : ℕ) (found : List Line) (clues : List (List ℕ)) → SayAll limit found clues → length clues ≡ count
     → choice count found ≡ Some found
 all_chosen limit count found clues all many = search (rules, filter_all, eq-eqb)
 
--- ---- what all lines say
+-- ---- the puzzle of all lines
 
--- in .mk: a size line, rows, a line that begins with #, and columns
+-- In `.mk`: a size line, the rows, a line that begins with `#`, and the columns.
 pub mk_lines : (limit width height : ℕ) (first cut : Line) (row_lines column_lines : List Line) (rows columns : List (List ℕ))
     → two_sizes limit (pieces first.text) ≡ Ok (height, width) → is_full first ≡ true → is_hash cut ≡ true
     → SayAll limit row_lines rows → SayAll limit column_lines columns → length rows ≡ height → length columns ≡ width
@@ -103,12 +103,12 @@ mk_lines limit width height first cut row_lines column_lines rows columns sizes 
     rw (full, sizes, at_hash_is row_lines cut column_lines p.hash here, before_hash_is column_lines q.hash)
     (search (rules, all_chosen limit, puzzle_of_both))
 
--- in .nin: a size line and clues
+-- In `.nin`: a size line and the clues.
 pub nin_lines : (limit a b : ℕ) (first : Line) (found : List Line) (clues : List (List ℕ)) → two_sizes limit (pieces first.text) ≡ Ok (a, b)
     → is_full first ≡ true → SayAll limit found clues → length clues ≡ a + b → nin_of limit (first ∷ found) ≡ Ok (likelier a b clues)
 nin_lines limit a b first found clues sizes full all many = rw (full, sizes, all_chosen limit (a + b) found clues all many, all.said) refl
 
--- in .non: keyword lines, and the lines of both sections
+-- In `.non`: the keyword lines, and the lines of both sections.
 pub non_lines : (limit : ℕ) (sections : Sections) (kept : List Line) (width height : ℕ) (order : Bool) (rows columns : List (List ℕ))
     (p : Nonogram) → sections.stray ≡ None → SayAll limit (filter is_full sections.rows) rows
     → SayAll limit (filter is_full sections.columns) columns → outline_of limit None kept ≡ Ok ((width, height), order)

@@ -1,31 +1,31 @@
--- Lemmas on sections: their clue lines, and which lines stand in them, found on one walk from the top.
+-- Lemmas on sections: their clue lines, and which lines belong to them, found in one pass from the top.
 use Rattle.puzzle_text.proofs.Names.{rules, ◌≡◌, ℕ, append-nil, ◌≤◌, Bool, true, cond, List, [], ◌∷◌, length, take, drop, map, refl, Some, None, count_by, filter, list_all, ne_eqb, eq-eqb, le-leb, take-map, drop-map, length-map, length-take-le, take-append-drop, filter-append, list_all-map, count_by-le-length, length-filter, Line, is_full, is_blank_line, lines, section, all_pass, filter_none, choice, ◌+◌, ◌++◌, ap, append_assoc, Option, enumerate_from, last_or, take-append_seam, length-append, is_empty, keyword, is_content, last_keyword, placed, ◌<◌, get_or, false, eqb, sym, ◌∙◌, take_while, AllByRecursion, nat_tests, is_ascii_alphabetic, to_ascii_lowercase, str_to_ascii_lowercase, and-false, drop_more, Under, Rows, Columns, Other, codes, find, number_of_line, is_hash, or_else, Sections, sections_of, IsUnder, with_line, shown_line}
 use Rattle.puzzle_text.specs.steps.Sections.{front}
 use Rattle.puzzle_text.specs.declared.lines.Line.{Line as KeptLine}
 
--- what a filter keeps of a list seen by a view
+-- A filter of a mapped list is the mapped list of what the filter keeps.
 pub filter-map : {X Y : Type 0} (p : Y → Bool) (view : X → Y) (xs : List X)
     → filter p (map view xs) ≡ map view (filter (λ x. p (view x)) xs)
 filter-map p view [] = refl
 filter-map p view (x ∷ xs) = rw (filter-map p view xs) (search rules)
 
 module _ {X : Type 0} (view : X → Line) where
-  -- the lines that aren't blank are the clue lines if they are `count`
+  -- The non-blank lines are the clue lines if there are `count` of them.
   pub choice_full : (count : ℕ) (section full : List X) → full ≡ filter (λ x. is_full (view x)) section
       → count_by (λ x. is_full (view x)) section ≡ count → choice count (map view section) ≡ Some (map view full)
   choice_full count section full e n = search (rules, eq-eqb, filter-map, length-map, length-filter)
 
-  -- the first lines are the clue lines if all after them are blank
+  -- The first lines are the clue lines if all lines after them are blank.
   pub front_is : (count : ℕ) (section : List X) → count ≤ length section → front count (map view section)
       ≡ cond (list_all (λ x. is_blank_line (view x)) (drop count section)) (Some (map view (take count section))) None
   front_is count section long = search (rules, le-leb, length-map, drop-map, list_all-map, take-map)
 
-  -- there are no clue lines if neither the first lines nor those that aren't blank will do
+  -- There are no clue lines if neither the first lines nor the non-blank lines can be.
   pub choice_none : (count : ℕ) (section : List X) → front count (map view section) ≡ None
       → (count_by (λ x. is_full (view x)) section ≡ count → ⊥) → choice count (map view section) ≡ None
   choice_none count section none n = search (rules, ne_eqb, filter-map, length-map, length-filter)
 
--- if as many are kept as there are, all are
+-- If a filter keeps as many lines as there are, it keeps all.
 all_kept : (lines : List Line) → length (filter is_full lines) ≡ length lines → filter is_full lines ≡ lines
 all_kept [] e = refl
 all_kept (line ∷ lines) e = search (rules, all_kept lines, length-filter, count_by-le-length)
@@ -35,13 +35,13 @@ front_kept : (count : ℕ) (lines : List Line) → count ≤ length lines → li
 front_kept count lines within blank enough =
     search (rules, take-append-drop count lines, filter-append, filter_none, all_pass, append-nil, all_kept, length-take-le)
 
--- the first lines are the choice, if all after them are blank
+-- The first lines are the clue lines, if all lines after them are blank.
 pub front_chosen : (count : ℕ) (lines found : List Line) → front count lines ≡ Some found → choice count lines ≡ Some found
 front_chosen count lines found e = search (rules, front_kept)
 
 pub ruleset lengths = (length-map, length-filter)
 
--- each content line, beside the nearest keyword before it; under is the keyword before all
+-- the content lines, each beside the nearest keyword above it; under is the keyword before all
 abbrev pub walked : List ℕ → List Line → List (List ℕ × Line)
 walked under [] = []
 walked under (line ∷ lines) =
@@ -52,7 +52,7 @@ last_more : {X : Type 0} (start : Option X) (xs : List X) (x : X) → last_or st
 last_more start [] x = refl
 last_more start (y ∷ xs) x = last_more (Some y) xs x
 
--- the walk below some lines, from their last keyword on
+-- From below the lines `top` on, with their last keyword, one pass finds the same lines and keywords.
 walk_below : (top lines : List Line)
     → walked (last_keyword top) lines ≡ map (λ one. (last_keyword (take one.0 (top ++ lines)), one.1))
     (filter (λ one. is_content one.1) (enumerate_from (length top) lines))
@@ -65,7 +65,7 @@ walk_below top (line ∷ lines) =
 abbrev pub no_lines : Sections
 no_lines = record { rows = []; columns = []; stray = None }
 
--- sections, and then those of lines below them
+-- the sections above, with those of the lines below them appended
 abbrev pub join : Sections → Sections → Sections
 join above below =
     record { rows = above.rows ++ below.rows; columns = above.columns ++ below.columns; stray = or_else above.stray below.stray }
@@ -76,7 +76,7 @@ word_of Rows = codes "rows"
 word_of Columns = codes "columns"
 word_of Other = []
 
--- the sections of lines below the keyword of a section
+-- the sections of `lines` below the keyword of a section
 abbrev pub below : Under → List Line → Sections
 below under lines = sections_of (walked (word_of under) lines)
 
@@ -86,7 +86,7 @@ below_other : (word : List ℕ) (lines : List Line) → IsUnder word Other → s
 below_other word [] other = refl
 below_other word (line ∷ lines) other = search (rules, below_other word lines other)
 
--- what is still to come below a line of each kind
+-- Below a keyword line, the lines belong to the section that it begins.
 pub below_keyword : (under next : Under) (line : Line) (lines : List Line) → is_empty (keyword line) ≡ false
     → IsUnder (keyword line) next → below under (line ∷ lines) ≡ below next lines
 below_keyword under Other line lines some is = rw some (below_other (keyword line) lines is)
@@ -96,25 +96,25 @@ pub below_content : (under : Under) (above : Sections) (line : Line) (lines : Li
     → is_hash line ≡ false → join above (below under (line ∷ lines)) ≡ join (with_line above under line) (below under lines)
 below_content under above line lines e h = search (under, rules, append_assoc, and-false)
 
--- a keyword that opens no section
+-- `word` is a keyword that begins no section
 pub record OpensNone (word : List ℕ) : Type 0 where
   pub some : is_empty word ≡ false
   pub other : IsUnder word Other
 
--- the keyword that a line's text begins with
+-- the keyword that the text of a line begins with
 abbrev pub word_at : List ℕ → List ℕ
 word_at text = str_to_ascii_lowercase (take_while is_ascii_alphabetic text)
 
--- the text of a line that is neither a keyword line nor a comment
+-- `text` is that of a line that is neither a keyword line nor a comment
 pub record IsContent (text : List ℕ) : Type 0 where
   pub word : word_at text ≡ []
   pub hash : eqb (get_or text 0 0) 35 ≡ false
 
--- a text that begins with a digit
+-- A text that begins with a digit is that of a content line.
 pub content_digit : (text : List ℕ) → 48 ≤ get_or text 0 0 → get_or text 0 0 ≤ 57 → IsContent text
 content_digit text low high = search (rules, ne_eqb, nat_tests)
 
--- the sections with more lines at the end of one
+-- the sections with `found` appended to one of them
 abbrev pub with_lines : Under → Sections → List Line → Sections
 with_lines Rows above found = record above { rows = above.rows ++ found }
 with_lines Columns above found = record above { columns = above.columns ++ found }
@@ -130,12 +130,12 @@ join_content under above [] todo content = search (under, above.stray, rules, ap
 join_content under above (line ∷ found) todo content =
     search (rules, with_more, join_content under (with_line above under line) found todo content.1, below_content)
 
--- at the top there is nothing yet in the sections
+-- At the top, the sections are empty, and those of all lines are still to come.
 pub nothing_above : (rows columns lines : List Line) → rows ≡ [] → columns ≡ []
     → join (record { rows = rows; columns = columns; stray = None }) (below Other lines) ≡ sections_of (placed lines)
 nothing_above rows columns lines p q = rw (p, q) (ap sections_of (walk_below [] lines))
 
--- whether a keyword has no letters is told by the letters as they stand
+-- Lower case doesn't change whether a keyword is empty.
 pub none_is : (own word : List ℕ) (b : Bool) → str_to_ascii_lowercase own ≡ word → eqb (length own) 0 ≡ b → is_empty word ≡ b
 none_is own word b e none = ap is_empty (sym e) ∙ ap (λ (n : ℕ). eqb n 0) (length-map own to_ascii_lowercase) ∙ none
 
@@ -148,15 +148,15 @@ module _ (lines : List KeptLine) (i : ℕ) (d : KeptLine) (under : Under) (own :
   abbrev others : List Line
   others = map shown_line (drop (i + 1) lines)
 
-  -- past a keyword line, which stands in no section
+  -- After a keyword line: it is in no section, and the lines below it are in the one that it begins.
   pub next_keyword : (next : Under) → IsUnder (str_to_ascii_lowercase own) next → eqb (length own) 0 ≡ false
       → join above (below next others) ≡ whole
   next_keyword next is some = search (rules, below_keyword, none_is, drop_more)
 
-  -- past a comment, which stands in no section
+  -- After a comment, which is in no section.
   pub next_comment : eqb (length own) 0 ≡ true → is_hash line ≡ true → join above (below under others) ≡ whole
   next_comment none hash = search (rules, none_is, drop_more)
 
-  -- past a line that goes into the section of the keyword above it
+  -- After a content line, which is appended to the section of the keyword above it.
   pub next_content : eqb (length own) 0 ≡ true → is_hash line ≡ false → join (with_line above under line) (below under others) ≡ whole
   next_content none other = search (rules, below_content, none_is, drop_more)

@@ -1,4 +1,4 @@
--- Lines in their usual form, and that what the parts of a usual text say is what the text says.
+-- Lines in their usual form, and that the general reader returns the puzzle that the fast path builds.
 use Rattle.puzzle_text.proofs.Names.{rules, ◌≡◌, ℕ, ◌-◌, ◌<◌, ◌≤◌, true, false, drop, eqb, List, [], ◌∷◌, ◌++◌, length, take, get_or, refl, append_assoc, arith, Some, Ok, AllByRecursion, is_ascii_digit, le-leb, nat_tests, get_or_append_left, take_all, slice_split_at, slice_split_none, AllPass-from_list_all, LONGEST_SIDE, is_clue, numbers_within, pieces, BeginsWith, BeginsWithNumber, EndsLine, IsNumeral, IsSeparator, SaysClue, SaysSizes, ne_eqb, all-append, two_sizes, ◌+◌, filter, sym, ap, ◌∙◌, eqb-true, nil_from_length, append-nil, length-append, filter-append, Under, Other, Line, is_empty, numbered_from, raw_lines, is_keyword_line, keyword, Sections, placed, sections_of, IsUnder, with_line, AreClueLines, HaveClues, KeepsOthers, SayClues, clues_under, rest, Result, IfOk, IfSome, Nonogram, plain, TextFault, Gives, lines, read_mk, read_nin, puzzle_said, read_non, likelier, all-weaker, filter_all, filter_none, HaveNoFeed}
 use Rattle.puzzle_text.proofs.NumbersLemmas.{number_is}
 use Rattle.puzzle_text.proofs.ReadBack.{IsKept, IsTidy, kept_tidy, line_kept, tidy_digits, raw_lines-feed, strip_last_is, tidy-join, some_text}
@@ -10,7 +10,7 @@ use Rattle.puzzle_text.proofs.FeedsLemmas.{clean_filter, lines_have_no_feed}
 pub digit_range : (c : ℕ) → is_ascii_digit c ≡ true → (48 ≤ c) × (c ≤ 57)
 digit_range c h = grind (arith, nat_tests)
 
--- a line's text is tidy, begins with a digit and says these numbers
+-- `text` is that of a written line that begins with a digit and is read as these numbers
 pub record SaysNumbers (text : List ℕ) (numbers : List ℕ) : Type 0 where
   pub tidy : IsTidy text
   pub digit : is_ascii_digit (get_or text 0 0) ≡ true
@@ -27,21 +27,21 @@ module _ (piece : List ℕ) (n : ℕ) (numeral : IsNumeral piece n) where
   pieces_more : (s : ℕ) (more : List ℕ) → IsSeparator s → pieces (piece ++ s ∷ more) ≡ piece ∷ pieces more
   pieces_more s more spacing = search (rules, slice_split_at, some_piece, AllPass-from_list_all, nat_tests, ne_eqb)
 
-  -- a number says itself
+  -- The digits of a number are read as that number.
   pub number_alone : SaysNumbers piece (n ∷ [])
   number_alone = search (rules, pieces_alone, tidy_digits, some_piece, AllPass-from_list_all, number_is)
 
-  -- a number before other numbers
+  -- A number before other numbers: all of them are read.
   pub number_before : (s : ℕ) (more ns : List ℕ) → IsSeparator s → SaysNumbers more ns → SaysNumbers (piece ++ s ∷ more) (n ∷ ns)
   number_before s more ns spacing said =
       search (rules, tidy-join, get_or_append_left, some_piece, pieces_more, tidy_digits, AllPass-from_list_all, number_is)
 
--- past these bytes the line has said these numbers, and goes on
+-- `text` is a prefix and `rest`; before any text that is read as other numbers, the prefix is read as `numbers`
 abbrev pub PassesNumbers : List ℕ → List ℕ → List ℕ → Type 0
 PassesNumbers text rest numbers = (front : List ℕ) × (text ≡ front ++ rest)
     × ((more others : List ℕ) → SaysNumbers more others → SaysNumbers (front ++ more) (numbers ++ others))
 
--- one number more, and a separator
+-- A number and a separator at the start of `rest` extend the prefix by that number.
 pub number_and_more : (text rest others numbers more : List ℕ) (n s : ℕ) → PassesNumbers text rest numbers
     → BeginsWithNumber rest n (s ∷ others) → IsSeparator s → more ≡ numbers ++ n ∷ [] → PassesNumbers text others more
 number_and_more text rest others numbers more n s passed begins separated is =
@@ -57,16 +57,16 @@ at_return front rest kept number =
     rw (← append_assoc front (13 ∷ []) (10 ∷ rest), raw_lines-feed (front ++ 13 ∷ []) rest none, strip_last_is 10 (front ++ 13 ∷ []))
     (rw (strip_last_is 13 front, kept.trimmed) refl)
 
--- a tidy text before the end of a line is that line
+-- The text of a written line, before a line ending, is a line with that text.
 pub line_ends : (front bytes rest : List ℕ) → IsTidy front → EndsLine bytes rest → BeginsWith (front ++ bytes) front rest
 line_ends front bytes rest tidy e = search (rules, kept_tidy, raw_lines-feed, line_kept, at_return)
 
--- a slice of two bytes and more, of which the first is known
+-- A slice of at least two bytes whose first is `byte` consists of it, one more byte, and the others.
 pub headed : (text : List ℕ) (byte : ℕ) → 2 ≤ length text → get_or text 0 0 ≡ byte
     → text ≡ byte ∷ get_or text 1 0 ∷ take (length text - 2) (drop 2 text)
 headed text byte some is = search (rules, take_all)
 
--- the last number of a line ends its clue
+-- The last number of a line completes its clue.
 pub clue_ends : (text rest after next numbers clue : List ℕ) (n : ℕ) → PassesNumbers text rest numbers → BeginsWithNumber rest n after
     → EndsLine after next → clue ≡ numbers ++ n ∷ [] → is_clue LONGEST_SIDE clue ≡ true → SaysClue text clue next
 clue_ends text rest after next numbers clue n passed begins ends is lawful =
@@ -75,12 +75,12 @@ clue_ends text rest after next numbers clue n passed begins ends is lawful =
     let whole : text ≡ line ++ after = search (rules, append_assoc) in
     (line, rw whole (line_ends line after next said.tidy ends), (rw said.said (search rules), said.digit))
 
--- a 0 alone says the empty clue
+-- A single 0 is read as the empty clue.
 pub zero_ends : (text after next clue : List ℕ) → text ≡ 48 ∷ after → EndsLine after next → clue ≡ [] → SaysClue text clue next
 zero_ends text after next clue whole ends none =
     (48 ∷ [], rw whole (line_ends (48 ∷ []) after next (search rules) ends), (rw none refl, refl))
 
--- two numbers say the sizes
+-- Two numbers with a separator between them are read as the sizes.
 pub sizes_end : (text second next rest : List ℕ) (a s b : ℕ) → BeginsWithNumber text a (s ∷ second) → IsSeparator s
     → BeginsWithNumber second b next → EndsLine next rest → SaysSizes text (a, b) rest
 sizes_end text second next rest a s b one separated two ends =
@@ -90,45 +90,45 @@ sizes_end text second next rest a s b one separated two ends =
     search (rules, pieces_more, pieces_alone, le-leb, number_is, some_piece) in
     (line, search (rules, append_assoc, line_ends line next rest said.tidy ends), sizes, said.digit)
 
--- lines of clues say these clues
+-- Clue lines in their usual form are clue lines for the general reader.
 pub say_all : (found : List Line) (clues : List (List ℕ)) → AreClueLines found clues → SayAll LONGEST_SIDE found clues
 say_all [] [] said = record { full = tt; hash = tt; count = refl; said = refl }
 say_all (line ∷ found) (clue ∷ clues) said = search (rules, say_all found clues said.1, some_text, digit_range, content_digit)
 say_all found clues said = absurd said
 
--- none of them is a keyword line or a comment
+-- No clue line in its usual form is a keyword line or a comment.
 all_content : (found : List Line) (clues : List (List ℕ)) → AreClueLines found clues → AllByRecursion (λ line. IsContent line.text) found
 all_content [] clues said = tt
 all_content (line ∷ found) (clue ∷ clues) said = search (rules, all_content found clues said.1, digit_range, content_digit)
 all_content found clues said = absurd said
 
--- lines of clues, and then more of them
+-- Clue lines of some clues, and after them clue lines of others, are clue lines of all these clues.
 pub said_after : (found more : List Line) (clues others : List (List ℕ)) → AreClueLines found clues → AreClueLines more others
     → AreClueLines (found ++ more) (clues ++ others)
 said_after [] more [] others said next = next
 said_after (line ∷ found) more (clue ∷ clues) others said next = (said.0, said_after found more clues others said.1 next)
 said_after found more clues others said next = absurd said
 
--- one line more
+-- One more line is read as one more clue.
 pub one_said : (bytes rest next clue : List ℕ) (clues more : List (List ℕ)) → SayClues bytes clues rest → SaysClue rest clue next
     → more ≡ clues ++ clue ∷ [] → SayClues bytes more next
 one_said bytes rest next clue clues more said one is = λ number.
     let line : Line = record { number = number + length clues; text = one.0 } in
     ((said number).0 ++ line ∷ [], search (rules, append_assoc, one.1 (number + length clues), length-append), search (rules, said_after))
 
--- The sections above and those of the lines to come below the keyword of `under` are those of all lines,
--- and these are the clues of the sections above.
+-- The sections `above`, and those of the lines `todo` below the keyword of `under`, are the sections of all lines; and
+-- `rows` and `columns` are the clues of the sections above.
 pub record IsAbove (under : Under) (whole todo : List Line) (rows columns : List (List ℕ)) : Type 0 where
   pub above : Sections
   pub joined : join above (below under todo) ≡ sections_of (placed whole)
   pub clues : HaveClues above rows columns
 
--- at the top
+-- At the top of a text, `IsAbove` holds without clues.
 pub above_all : (whole : List Line) (rows columns : List (List ℕ)) → rows ≡ [] → columns ≡ [] → IsAbove Other whole whole rows columns
 above_all whole rows columns p q =
     record { above = no_lines; joined = nothing_above [] [] whole refl refl; clues = search rules }
 
--- past a blank line
+-- After a blank line, `IsAbove` still holds.
 pub past_blank : (under : Under) (whole todo : List Line) (line : Line) (rows columns : List (List ℕ))
     → IsAbove under whole (line ∷ todo) rows columns → is_empty (keyword line) ≡ true → is_empty line.text ≡ true
     → IsAbove under whole todo rows columns
@@ -149,7 +149,7 @@ module _ (next : Under) (line : Line) (number place : ℕ) (after rest : List �
   parts : numbered_from number (raw_lines after) ≡ found ++ later
   parts = (says number).1 ∙ ap (λ (n : ℕ). found ++ numbered_from n (raw_lines rest)) (sym counted)
 
-  -- past a keyword line and the clues below it
+  -- After a keyword line and the clue lines below it, `IsAbove` holds with their clues.
   pub past_section : (under : Under) (whole : List Line) (old_rows old_columns : List (List ℕ))
       → KeepsOthers next old_rows old_columns rows columns
       → IsAbove under whole (line ∷ numbered_from number (raw_lines after)) old_rows old_columns → is_empty (keyword line) ≡ false
@@ -162,42 +162,42 @@ module _ (next : Under) (line : Line) (number place : ℕ) (after rest : List �
     clues = search (rules, nil_from_length, filter-append, append-nil, filter_all, say_all, said_after, is.clues);
   }
 
-  -- the keyword line is the only one among them
+  -- Of a keyword line and the clue lines below it, only the first is a keyword line.
   pub kept_one : (kept all : List Line) → kept ++ filter is_keyword_line (line ∷ numbered_from number (raw_lines after)) ≡ all
       → is_empty (keyword line) ≡ false → (kept ++ line ∷ []) ++ filter is_keyword_line later ≡ all
   kept_one kept all e some = search (rules, parts, append_assoc, all-weaker, all_content, filter-append, filter_none)
 
--- what is so of a value that a call gives is so of it as an option
+-- If `P` holds of the value of a result, and implies `Q`, then `Q` holds of the value of the result as an option.
 pub some_of_ok : {X E : Type 0} (P Q : X → Type 0) (r : Result X E) → IfOk r P → ((x : X) → P x → Q x) → IfSome (result_ok r) Q
 some_of_ok P Q r h f = search rules
 
--- what is so of the answer's value is so of what gives it
+-- If `P` holds of a value whenever that is the answer, it holds of the value that the call returns.
 pub ok_of_gives : {X : Type 0} (P : X → Type 0) (r answer : Result X TextFault) → Gives (λ x. x) r answer
     → ((x : X) → answer ≡ Ok x → P x) → IfOk r P
 ok_of_gives P r answer gives f = search rules
 
--- ---- .non
+-- ---- `.non`
 
--- no keyword line has a line feed in it
+-- No keyword line of a text has a line feed in it.
 pub kept_clean : (bytes : List ℕ) (kept : List Line) → length bytes ≤ 1048576 → kept ≡ filter is_keyword_line (lines bytes)
     → HaveNoFeed kept
 kept_clean bytes kept short e =
     rw e (clean_filter is_keyword_line (lines bytes) (lines_have_no_feed bytes (lines bytes) (short_lines bytes short)))
 
--- what the parts of a .non text say, the text says
+-- The puzzle of the keyword lines and the sections is that of a `.non` text.
 pub non_said : (bytes : List ℕ) (kept : List Line) (p : Nonogram) → length bytes ≤ 1048576 → kept ≡ filter is_keyword_line (lines bytes)
     → puzzle_said LONGEST_SIDE (sections_of (placed (lines bytes))) kept ≡ Ok p → read_non LONGEST_SIDE bytes ≡ Ok p
 non_said bytes kept p short e said = search (rules, short, short_lines, said_of_kept)
 
--- ---- .mk and .nin
+-- ---- `.mk` and `.nin`
 
--- the lines up to the end of the text
+-- If no text follows, the lines found are all lines.
 lines_to_end : (bytes rest : List ℕ) (number count : ℕ) (found : List Line) → length rest ≡ 0
     → numbered_from number (raw_lines bytes) ≡ found ++ numbered_from (number + count) (raw_lines rest)
     → numbered_from number (raw_lines bytes) ≡ found
 lines_to_end bytes rest number count found none parts = search (rules, append-nil, nil_from_length)
 
--- what a size line, rows, a line # and columns say, the text says
+-- A text with a size line, row clues, a line `#` and column clues is read as that puzzle in `.mk`.
 pub mk_said : (bytes after middle below_it rest : List ℕ) (width height : ℕ) (rows columns : List (List ℕ)) → length bytes ≤ 1048576
     → SaysSizes bytes (height, width) after → SayClues after rows middle → BeginsWith middle (35 ∷ []) below_it
     → SayClues below_it columns rest → length rest ≡ 0 → length rows ≡ height → length columns ≡ width
@@ -210,7 +210,7 @@ mk_said bytes after middle below_it rest width height rows columns short sizes r
     (mk_lines LONGEST_SIDE width height _ _ _ _ rows columns sizes.2 (some_text sizes.0 (digit_range _ sizes.3).0) refl
     (say_all _ rows (row_part 2).2) (say_all _ columns column_found.2) high wide))
 
--- what a size line and clues say, the text says
+-- A text with a size line and clues is read as their puzzle in `.nin`.
 pub nin_said : (bytes after rest : List ℕ) (a b : ℕ) (clues : List (List ℕ)) → length bytes ≤ 1048576 → SaysSizes bytes (a, b) after
     → SayClues after clues rest → length rest ≡ 0 → length clues ≡ a + b → read_nin LONGEST_SIDE bytes ≡ Ok (likelier a b clues)
 nin_said bytes after rest a b clues short sizes part none count =

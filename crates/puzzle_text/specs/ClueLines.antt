@@ -1,4 +1,4 @@
--- Lines that say a clue.
+-- The clue that a text line stands for.
 use Rattle.std.specs.Prelude.{ℕ, zero, List, [], ◌∷◌, Option, Some, None, Result, option_and_then, if◌then◌else◌}
 use Rattle.grid_core.specs.Clues.{is_clue}
 use Rattle.puzzle_text.specs.declared.faults.TextFault.{TextFault}
@@ -7,19 +7,20 @@ use Rattle.puzzle_text.specs.Lines.{Line}
 use Rattle.puzzle_text.specs.Numbers.{pieces, number_within}
 use Rattle.puzzle_text.specs.Answers.{or_fault, each, each_some}
 
--- the numbers of all pieces, if each is a number no more than the limit
+-- the numbers of all `pieces`, if each of them is a number of at most `limit`
 abbrev pub numbers_within : ℕ → List (List ℕ) → Option (List ℕ)
 numbers_within limit pieces = each_some (number_within limit) pieces
 
--- the clue that these numbers are, if they are one; a lone 0 is the empty clue
+-- the clue that consists of `numbers`, if they are a clue; a single 0 stands for the empty clue
 abbrev pub clue_of_numbers : ℕ → List ℕ → Option (List ℕ)
 clue_of_numbers limit (zero ∷ []) = Some []
 clue_of_numbers limit numbers = if is_clue limit numbers then Some numbers else None
 
--- the clue that a line's text says, if it says one
+-- the clue that the text of a line stands for, if it is a clue
 abbrev pub clue_of : ℕ → List ℕ → Option (List ℕ)
 clue_of limit text = option_and_then (clue_of_numbers limit) (numbers_within limit (pieces text))
 
--- the clues that these lines say, or BadNumber of the first that says none
+-- the clues of `lines`, or `BadNumber` of the first line that is not a clue
 abbrev pub clues_of : ℕ → List Line → Result (List (List ℕ)) TextFault
-clues_of limit lines = each (λ line. or_fault (BadNumber line.number) (clue_of limit line.text)) lines
+clues_of limit lines =
+    each (λ line. or_fault (BadNumber line.number) (clue_of limit line.text)) lines

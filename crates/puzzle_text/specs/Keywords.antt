@@ -1,4 +1,4 @@
--- Keyword lines.
+-- Keyword lines, their keywords and their texts.
 use Rattle.std.specs.Prelude.{ℕ, Bool, not, List, [], ◌∷◌, codes, drop, filter, Option, Some, None, option_and_then, ◌==◌, if◌then◌else◌, slice_get, take_while, reverse, unwrap_or}
 use Rattle.std.specs.Option.{option_map}
 use Rattle.std.specs.List.{prefix_len}
@@ -20,47 +20,48 @@ field_word License = codes "license"
 abbrev pub all_fields : List Field
 all_fields = Catalogue ∷ Title ∷ By ∷ Copyright ∷ License ∷ []
 
--- the letters that a line begins with, in lower case; none, if it is no keyword line
+-- the letters at the start of `line`, in lower case; empty if it is no keyword line
 abbrev pub keyword : Line → List ℕ
 keyword line = str_to_ascii_lowercase (take_while is_ascii_alphabetic line.text)
 
--- whether a line begins with a keyword
+-- `line` begins with a keyword
 abbrev pub is_keyword_line : Line → Bool
 is_keyword_line line = not (is_empty (keyword line))
 
--- what follows the keyword
+-- the argument of a keyword line: the text after its keyword, trimmed
 abbrev pub rest : Line → List ℕ
 rest line = trim (drop (prefix_len is_ascii_alphabetic line.text) line.text)
 
--- whether a line's keyword is this word
+-- the keyword of `line` is `word`
 abbrev pub has_keyword : List ℕ → Line → Bool
 has_keyword word line = bytes_eq (keyword line) word
 
--- the lines with this keyword
+-- those of `lines` whose keyword is `word`
 abbrev pub with_keyword : List ℕ → List Line → List Line
 with_keyword word lines = filter (has_keyword word) lines
 
--- the first line with this keyword
+-- the first of `lines` whose keyword is `word`
 abbrev pub first_with : List ℕ → List Line → Option Line
 first_with word lines = slice_get (with_keyword word lines) 0
 
--- the second line with this keyword
+-- the second of `lines` whose keyword is `word`
 abbrev pub second_with : List ℕ → List Line → Option Line
 second_with word lines = slice_get (with_keyword word lines) 1
 
--- what stands after the first double quote, if there is one
+-- the bytes after the first double quote, if there is one
 abbrev pub after_quote : List ℕ → Option (List ℕ)
 after_quote [] = None
 after_quote (byte ∷ bytes) = if byte == 34 then Some bytes else after_quote bytes
 
--- what stands before the last double quote, if there is one
+-- the bytes before the last double quote, if there is one
 abbrev pub before_quote : List ℕ → Option (List ℕ)
 before_quote bytes = option_map reverse (after_quote (reverse bytes))
 
--- what stands between the first and the last double quote, or all of it if there are not two
+-- the bytes between the first and the last double quote, or all of `bytes` if there are fewer than
+-- two
 abbrev pub quoted : List ℕ → List ℕ
 quoted bytes = unwrap_or (option_and_then before_quote (after_quote bytes)) bytes
 
--- the text of a field's line
+-- the text of a field's line: its argument, without double quotes around it
 abbrev pub quoted_text : Line → List ℕ
 quoted_text line = quoted (rest line)

@@ -1,4 +1,4 @@
--- Laws of the formats.
+-- Laws of the formats: what is written is read again, and greater limits keep what is read.
 use Rattle.std.specs.Prelude.{◌≡◌, ℕ, ◌≤◌, true, false, List, ◌++◌, length, Result, Ok, Err}
 use Rattle.grid_core.specs.Nonogram.{Nonogram, IsNonogramWithin, plain}
 use Rattle.puzzle_text.specs.declared.faults.TextFault.{TextFault}
@@ -10,37 +10,44 @@ use Rattle.puzzle_text.specs.Non.{read_non}
 use Rattle.puzzle_text.specs.Readings.{reading}
 use Rattle.puzzle_text.specs.Written.{text_mk, text_nin, text_non, is_ambiguous}
 
--- what is written in .mk is read again, without texts and goal
+-- the text of each puzzle in `.mk` is read again as the same puzzle without texts and goal
 abbrev pub MkIsReadBack : ℕ → Type 0
-MkIsReadBack limit = (p : Nonogram) → IsNonogramWithin limit p → read_mk limit (text_mk p) ≡ Ok (plain p.width p.height p.rows p.columns)
+MkIsReadBack limit =
+    (p : Nonogram) → IsNonogramWithin limit p
+    → read_mk limit (text_mk p) ≡ Ok (plain p.width p.height p.rows p.columns)
 
--- what is written in .nin, and isn't ambiguous, is read again, without texts and goal
+-- the text in `.nin` of each puzzle that isn't ambiguous is read again as the same puzzle without
+-- texts and goal
 abbrev pub NinIsReadBack : ℕ → Type 0
 NinIsReadBack limit = (p : Nonogram) → IsNonogramWithin limit p → is_ambiguous p ≡ false
     → read_nin limit (text_nin p) ≡ Ok (plain p.width p.height p.rows p.columns)
 
--- The text in .nin of an ambiguous puzzle is read as another size:
--- its width and height exchanged, of the same clues in the same order, so that the first of its rows
--- and columns, as many as it is wide, are the rows.
+-- The text in `.nin` of an ambiguous puzzle is read with other sizes: its width and height are
+-- exchanged, and its clues are the same in the same order. So the rows are the first `p.width` of
+-- its row clues and column clues.
 abbrev pub AmbiguousIsReadOtherwise : ℕ → Type 0
 AmbiguousIsReadOtherwise limit = (p : Nonogram) → IsNonogramWithin limit p → is_ambiguous p ≡ true
     → read_nin limit (text_nin p) ≡ Ok (reading p.height p.width (p.rows ++ p.columns))
 
--- what is written in .non is read again, texts and goal included
+-- the text of each puzzle in `.non` is read again as the same puzzle, including its texts and its
+-- goal
 abbrev pub NonIsReadBack : ℕ → Type 0
 NonIsReadBack limit = (p : Nonogram) → IsNonogramWithin limit p → read_non limit (text_non p) ≡ Ok p
 
--- what is written in any format is short enough to be read
+-- the text of each puzzle is short enough to be read, in each format
 abbrev pub WrittenIsShort : ℕ → Type 0
 WrittenIsShort limit = (p : Nonogram) → IsNonogramWithin limit p
-    → (length (text_non p) ≤ LONGEST_PUZZLE) × (length (text_mk p) ≤ LONGEST_PUZZLE) × (length (text_nin p) ≤ LONGEST_PUZZLE)
+    → (length (text_non p) ≤ LONGEST_PUZZLE)
+    × (length (text_mk p) ≤ LONGEST_PUZZLE)
+    × (length (text_nin p) ≤ LONGEST_PUZZLE)
 
--- `new` is `old`, unless `old` is BadSize or BadNumber
+-- `new` is `old`, unless `old` is `BadSize` or `BadNumber`
 abbrev pub KeepsAnswer : {A : Type 0} → Result A TextFault → Result A TextFault → Type 0
-KeepsAnswer old new = (old ≡ Err BadSize → ⊥) → ((number : ℕ) → old ≡ Err (BadNumber number) → ⊥) → new ≡ old
+KeepsAnswer old new =
+    (old ≡ Err BadSize → ⊥) → ((number : ℕ) → old ≡ Err (BadNumber number) → ⊥) → new ≡ old
 
--- a greater limit keeps what a text says: the same puzzle, or the same fault,
--- unless a size or a number was out of range
+-- with `greater` in place of `limit`, each text in each format has the same puzzle or the same
+-- fault, unless a size or a number was out of range
 abbrev pub GreaterLimitKeeps : ℕ → ℕ → Type 0
 GreaterLimitKeeps limit greater = (bytes : List ℕ)
     → KeepsAnswer (read_non limit bytes) (read_non greater bytes)

@@ -1,4 +1,4 @@
--- The definitions that public contracts rest on; those that only private calls need are the steps.
+-- The definitions that public contracts use. Those that only private functions use are in `steps`.
 pub mod Lines
 pub mod Numbers
 pub mod Answers

@@ -1,4 +1,4 @@
--- What a text in .mk says: the first check that fails, each over all lines, or the puzzle.
+-- How a text in `.mk` is read: its puzzle, or the first check that fails, each over all lines.
 use Rattle.std.specs.Prelude.{ℕ, ◌+◌, List, ◌++◌, take, drop, Option, Some, None, Result, Ok, option_and_then}
 use Rattle.std.specs.List.{position, before_first}
 use Rattle.std.specs.Option.{option_map}
@@ -12,20 +12,23 @@ use Rattle.puzzle_text.specs.Sections.{choice}
 use Rattle.puzzle_text.specs.Sizes.{text_lines, size_line}
 use Rattle.puzzle_text.specs.Readings.{reading}
 
--- the lines before the first that begins with #, and those after it
+-- the lines before the first that begins with `#`, and the lines after it, if there is one
 abbrev pub at_hash : List Line → Option (List Line × List Line)
 at_hash lines = option_map (λ i. (take i lines, drop (i + 1) lines)) (position is_hash lines)
 
--- the lines before the first that begins with #, or all of them
+-- the lines before the first that begins with `#`, or all lines if there is none
 abbrev pub before_hash : List Line → List Line
 before_hash lines = before_first is_hash lines
 
--- the clue lines of both sections at these sizes
+-- the clue lines of both sections for a puzzle of these sizes, if each section has as many
 abbrev pub both_choices : ℕ → ℕ → List Line → List Line → Option (List Line)
 both_choices width height rows columns =
-    option_and_then (λ chosen. option_and_then (λ more. Some (chosen ++ more)) (choice width columns)) (choice height rows)
+    option_and_then
+    (λ chosen.
+    option_and_then (λ more. Some (chosen ++ more)) (choice width columns))
+    (choice height rows)
 
--- sizes, and the clue lines chosen for them
+-- the sizes of a puzzle, and the clue lines of both sections
 pub record Layout : Type 0 where
   pub width : ℕ
   pub height : ℕ
@@ -34,27 +37,31 @@ pub record Layout : Type 0 where
 -- these sizes with their clue lines, if each section has as many as its size
 abbrev pub layout : ℕ → ℕ → List Line → List Line → Option Layout
 layout width height rows columns =
-    option_and_then (λ chosen. Some (record { width = width; height = height; chosen = chosen })) (both_choices width height rows columns)
+    option_and_then
+    (λ chosen. Some (record { width = width; height = height; chosen = chosen }))
+    (both_choices width height rows columns)
 
--- the first that is there
+-- the first option if it has a value, and otherwise `other`
 abbrev pub or_else : {A : Type 0} → Option A → Option A → Option A
 or_else None other = other
 or_else (Some x) other = Some x
 
--- the puzzle that these clue lines say, the first of which are its rows
+-- the puzzle of these sizes and clue lines, the rows' lines first, or `BadNumber`
 abbrev pub puzzle_of : ℕ → ℕ → ℕ → List Line → Result Nonogram TextFault
-puzzle_of limit width height chosen = clues_of limit chosen >>= λ clues. Ok (reading width height clues)
+puzzle_of limit width height chosen =
+    clues_of limit chosen >>= λ clues. Ok (reading width height clues)
 
--- the puzzle that these lines say: the height stands first in the size line,
--- unless only the other order has clue lines in both sections
+-- The puzzle of these lines, or their first fault. The first size is the height, unless only with
+-- the other order both sections have their clue lines.
 abbrev pub mk_of : ℕ → List Line → Result Nonogram TextFault
 mk_of limit lines = do
   size ← size_line limit lines
   parts ← or_fault NoSection (at_hash size.1)
   fitting ← or_fault BadCount
-      (or_else (layout size.0.1 size.0.0 parts.0 (before_hash parts.1)) (layout size.0.0 size.0.1 parts.0 (before_hash parts.1)))
+      (or_else (layout size.0.1 size.0.0 parts.0 (before_hash parts.1))
+      (layout size.0.0 size.0.1 parts.0 (before_hash parts.1)))
   puzzle_of limit fitting.width fitting.height fitting.chosen
 
--- the puzzle that a text says
+-- the puzzle of a text, or its first fault
 abbrev pub read_mk : ℕ → List ℕ → Result Nonogram TextFault
 read_mk limit bytes = text_lines bytes >>= mk_of limit

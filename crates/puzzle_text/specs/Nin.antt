@@ -1,4 +1,4 @@
--- What a text in .nin says: the first check that fails, each over all lines, or the puzzle.
+-- How a text in `.nin` is read: its puzzle, or the first check that fails, each over all lines.
 use Rattle.std.specs.Prelude.{ℕ, ◌+◌, List, Result, Ok}
 use Rattle.grid_core.specs.Nonogram.{Nonogram}
 use Rattle.puzzle_text.specs.declared.faults.TextFault.{TextFault}
@@ -10,7 +10,8 @@ use Rattle.puzzle_text.specs.Sections.{choice}
 use Rattle.puzzle_text.specs.Sizes.{text_lines, size_line}
 use Rattle.puzzle_text.specs.Readings.{likelier}
 
--- the puzzle that these lines say: all lines after the size line are one section, of rows and then columns
+-- The puzzle of these lines, or their first fault. All lines after the size line are one section,
+-- which has the clue lines of the rows and then of the columns.
 abbrev pub nin_of : ℕ → List Line → Result Nonogram TextFault
 nin_of limit lines = do
   size ← size_line limit lines
@@ -18,6 +19,6 @@ nin_of limit lines = do
   clues ← clues_of limit chosen
   Ok (likelier size.0.0 size.0.1 clues)
 
--- the puzzle that a text says
+-- the puzzle of a text, or its first fault
 abbrev pub read_nin : ℕ → List ℕ → Result Nonogram TextFault
 read_nin limit bytes = text_lines bytes >>= nin_of limit

@@ -1,4 +1,4 @@
--- What a text in .non says: the first check that fails, each over all lines, or the puzzle.
+-- How a text in `.non` is read: its puzzle, or the first check that fails, each over all lines.
 -- ---- sections
 use Rattle.std.specs.Prelude.{ℕ, ◌*◌, Bool, true, false, not, ◌&&◌, ◌||◌, List, [], ◌∷◌, length, map, filter, codes, Option, Some, None, Result, Ok, Err, option_and_then, nat_lt, ◌==◌, min, take, unwrap_or, if◌then◌else◌}
 use Rattle.std.specs.Option.{option_map}
@@ -17,29 +17,33 @@ use Rattle.puzzle_text.specs.Sections.{choice}
 use Rattle.puzzle_text.specs.Sizes.{text_lines, size_of}
 use Rattle.puzzle_text.specs.Keywords.{all_fields, field_word, keyword, rest, is_keyword_line, first_with, second_with, quoted_text}
 
--- whether a line is neither a keyword line nor a comment
+-- `line` is neither a keyword line nor a comment; it may be blank
 abbrev pub is_content : Line → Bool
 is_content line = is_empty (keyword line) && not (is_hash line)
 
--- the keyword of the last keyword line among these; no letters, if there is none
+-- the keyword of the last keyword line among `lines`; empty if there is none
 abbrev pub last_keyword : List Line → List ℕ
 last_keyword lines = unwrap_or (option_map keyword (last_or None (filter is_keyword_line lines))) []
 
--- each such line, beside the keyword of the last keyword line above it
+-- the lines that are neither keyword lines nor comments, each beside the keyword of the last
+-- keyword line above it
 abbrev pub placed : List Line → List (List ℕ × Line)
 placed lines =
     map (λ numbered. (last_keyword (take numbered.0 lines), numbered.1))
     (filter (λ numbered. is_content numbered.1) (enumerate_from 0 lines))
 
--- the lines of the section that a keyword opens
+-- the lines of the section whose keyword is `word`
 abbrev pub section : List ℕ → List (List ℕ × Line) → List Line
-section word places = map (λ place. place.1) (filter (λ place. bytes_eq place.0 word) places)
+section word places =
+    map (λ place. place.1) (filter (λ place. bytes_eq place.0 word) places)
 
--- whether a line says something and stands in no section
+-- a line, beside the keyword above it, is stray: it is not blank and belongs to no section
 abbrev pub is_outside_sections : List ℕ × Line → Bool
-is_outside_sections place = is_full place.1 && not (bytes_eq place.0 (codes "rows") || bytes_eq place.0 (codes "columns"))
+is_outside_sections place =
+    is_full place.1
+    && not (bytes_eq place.0 (codes "rows") || bytes_eq place.0 (codes "columns"))
 
--- the lines of both sections, and the number of the first line that says something and stands in neither
+-- the lines of both sections, and the number of the first stray line
 pub record Sections : Type 0 where
   pub rows : List Line
   pub columns : List Line
@@ -55,32 +59,34 @@ sections_of places = record {
 
 -- ---- checks
 
--- the lesser of two numbers, or the one that is there
+-- the lesser of two numbers, of which a missing one is ignored
 abbrev pub least : Option ℕ → Option ℕ → Option ℕ
 least None other = other
 least (Some m) None = Some m
 least (Some m) (Some n) = Some (min m n)
 
--- the least of the numbers that are there
+-- the least of `numbers`, ignoring missing ones
 abbrev pub least_of : List (Option ℕ) → Option ℕ
 least_of [] = None
 least_of (number ∷ numbers) = least number (least_of numbers)
 
--- a check that fails at this line, if there is one
+-- the fault of the line with this number, if there is one, and otherwise success
 abbrev pub refuse_at : (ℕ → TextFault) → Option ℕ → Result (Unit {0}) TextFault
 refuse_at fault None = Ok tt
 refuse_at fault (Some number) = Err (fault number)
 
--- the first line of a text field, if its text is too long
+-- the first line whose keyword is `word`, if its text is longer than `LONGEST_TEXT` bytes
 abbrev pub long_text : List Line → List ℕ → Option Line
 long_text lines word =
-    option_and_then (λ line. if nat_lt LONGEST_TEXT (length (quoted_text line)) then Some line else None) (first_with word lines)
+    option_and_then
+    (λ line. if nat_lt LONGEST_TEXT (length (quoted_text line)) then Some line else None)
+    (first_with word lines)
 
 -- the keywords of the text fields
 abbrev pub text_words : List (List ℕ)
 text_words = map field_word all_fields
 
--- the keywords that may stand once only
+-- the keywords that may occur only once
 abbrev pub single_words : List (List ℕ)
 single_words = codes "width" ∷ codes "height" ∷ codes "rows" ∷ codes "columns" ∷ []
 
@@ -88,22 +94,25 @@ single_words = codes "width" ∷ codes "height" ∷ codes "rows" ∷ codes "colu
 abbrev pub number_of_line : Option Line → Option ℕ
 number_of_line found = option_map (λ line. line.number) found
 
--- the least number of a stray line, or of the first line of a text field that is too long
+-- the number that `BadLine` reports: the least of `stray` and of the numbers of the text fields'
+-- first lines whose texts are too long
 abbrev pub bad_line : Option ℕ → List Line → Option ℕ
 bad_line stray lines =
     least stray (least_of (map (λ word. number_of_line (long_text lines word)) text_words))
 
--- the first line that repeats a keyword which may stand once only
+-- the number of the first line that repeats a keyword which may occur only once
 abbrev pub repeated : List Line → Option ℕ
 repeated lines = least_of (map (λ word. number_of_line (second_with word lines)) single_words)
 
--- passes if no line is out of place, no text is too long, and no keyword that may stand once is repeated
+-- success if there is no stray line, no text is too long, and no keyword is repeated that may occur
+-- only once; otherwise the first fault
 abbrev pub check_lines : Option ℕ → List Line → Result (Unit {0}) TextFault
-check_lines stray lines = refuse_at BadLine (bad_line stray lines) >>= λ _. refuse_at Twice (repeated lines)
+check_lines stray lines =
+    refuse_at BadLine (bad_line stray lines) >>= λ _. refuse_at Twice (repeated lines)
 
 -- ---- parts
 
--- the width and the height
+-- the width and the height, or the first fault of their lines
 abbrev pub sizes_of : ℕ → List Line → Result (ℕ × ℕ) TextFault
 sizes_of limit lines = do
   width_line ← or_fault NoSize (first_with (codes "width") lines)
@@ -112,43 +121,48 @@ sizes_of limit lines = do
   height ← size_of limit (rest height_line)
   Ok (width, height)
 
--- whether the rows section stands before the columns section
+-- the rows section is before the columns section; `NoSection` if one of them is missing
 abbrev pub rows_first : List Line → Result Bool TextFault
 rows_first lines = do
   rows_line ← or_fault NoSection (first_with (codes "rows") lines)
   columns_line ← or_fault NoSection (first_with (codes "columns") lines)
   Ok (nat_lt rows_line.number columns_line.number)
 
--- the clue lines of a section
+-- the `count` clue lines of a section, or `BadCount`
 abbrev pub clue_lines_of : ℕ → List Line → Result (List Line) TextFault
 clue_lines_of count section = or_fault BadCount (choice count section)
 
--- the row clues and the column clues;
--- of the two sections the one that stands first in the text is checked first
-abbrev pub both_clues : ℕ → Bool → List Line → List Line → Result (List (List ℕ) × List (List ℕ)) TextFault
+-- the row clues and the column clues, or `BadNumber` of the first line that is not a clue in the
+-- section that comes first in the text, or else in the other
+abbrev pub both_clues : ℕ → Bool → List Line → List Line
+    → Result (List (List ℕ) × List (List ℕ)) TextFault
 both_clues limit true rows columns =
-    clues_of limit rows >>= λ row_clues. clues_of limit columns >>= λ column_clues. Ok (row_clues, column_clues)
+    clues_of limit rows >>= λ row_clues.
+    clues_of limit columns >>= λ column_clues. Ok (row_clues, column_clues)
 both_clues limit false rows columns =
-    clues_of limit columns >>= λ column_clues. clues_of limit rows >>= λ row_clues. Ok (row_clues, column_clues)
+    clues_of limit columns >>= λ column_clues.
+    clues_of limit rows >>= λ row_clues. Ok (row_clues, column_clues)
 
--- the colour that a goal's byte says, true for filled
+-- the colour that a byte of a goal stands for: `true` for filled
 abbrev pub cell_of : ℕ → Option Bool
 cell_of byte = if byte == 48 then Some false else (if byte == 49 then Some true else None)
 
--- the cells of a goal of `count` cells
+-- the cells of a goal, if `text` is `count` bytes that stand for colours
 abbrev pub goal_cells : ℕ → List ℕ → Option (List Bool)
 goal_cells count text = if length text == count then each_some cell_of text else None
 
--- the goal that a line says, if there is one
+-- the goal of the `goal` line, if there is such a line; `BadGoal` if its text is not a goal
 abbrev pub goal_of : ℕ → Option Line → Result (Option (List Bool)) TextFault
 goal_of count None = Ok None
-goal_of count (Some line) = or_fault (BadGoal line.number) (goal_cells count (quoted_text line)) >>= λ cells. Ok (Some cells)
+goal_of count (Some line) =
+    or_fault (BadGoal line.number) (goal_cells count (quoted_text line))
+    >>= λ cells. Ok (Some cells)
 
--- the text of the first line of a field
+-- the text of the first line whose keyword is `word`
 abbrev pub field_text : List ℕ → List Line → Option (List ℕ)
 field_text word lines = option_map quoted_text (first_with word lines)
 
--- the texts of all fields
+-- the texts of all fields, each that of the field's first line
 abbrev pub texts_of : List Line → Description
 texts_of lines = record {
   catalogue = field_text (field_word Catalogue) lines;
@@ -160,7 +174,7 @@ texts_of lines = record {
 
 -- ---- the puzzle
 
--- the sizes, and whether the rows stand first
+-- the sizes, and whether the rows section is first, or the first fault of the keyword lines
 abbrev pub outline_of : ℕ → Option ℕ → List Line → Result ((ℕ × ℕ) × Bool) TextFault
 outline_of limit stray lines = do
   sizes ← sizes_of limit lines
@@ -168,13 +182,22 @@ outline_of limit stray lines = do
   checked ← check_lines stray lines
   Ok (sizes, first)
 
--- the puzzle of these sizes and clues, with the goal and the texts that these lines say
-abbrev pub puzzle_of_clues : ℕ × ℕ → List (List ℕ) × List (List ℕ) → List Line → Result Nonogram TextFault
+-- the puzzle of these sizes and clues, with the goal and the texts from the keyword lines, or
+-- `BadGoal`
+abbrev pub puzzle_of_clues : ℕ × ℕ → List (List ℕ) × List (List ℕ) → List Line
+    → Result Nonogram TextFault
 puzzle_of_clues sizes clues lines = do
   goal ← goal_of (sizes.0 * sizes.1) (first_with (codes "goal") lines)
-  Ok (record { width = sizes.0; height = sizes.1; rows = clues.0; columns = clues.1; texts = texts_of lines; goal = goal })
+  Ok (record {
+    width = sizes.0;
+    height = sizes.1;
+    rows = clues.0;
+    columns = clues.1;
+    texts = texts_of lines;
+    goal = goal;
+  })
 
--- the puzzle that these sections and the keyword lines among these lines say
+-- the puzzle of these sections and of the keyword lines among `lines`, or the first fault
 abbrev pub puzzle_said : ℕ → Sections → List Line → Result Nonogram TextFault
 puzzle_said limit sections lines = do
   outline ← outline_of limit sections.stray lines
@@ -183,10 +206,10 @@ puzzle_said limit sections lines = do
   clues ← both_clues limit outline.1 rows columns
   puzzle_of_clues outline.0 clues lines
 
--- the puzzle that these lines say
+-- the puzzle of these lines, or their first fault
 abbrev pub non_of : ℕ → List Line → Result Nonogram TextFault
 non_of limit lines = puzzle_said limit (sections_of (placed lines)) lines
 
--- the puzzle that a text says
+-- the puzzle of a text, or its first fault
 abbrev pub read_non : ℕ → List ℕ → Result Nonogram TextFault
 read_non limit bytes = text_lines bytes >>= non_of limit

@@ -1,7 +1,7 @@
--- What the code keeps, as the definitions see it.
+-- Entries as the code has them, and as the definitions have them.
 use Rattle.puzzle_text.specs.declared.collections.Entry.{Entry as KeptEntry}
 use Rattle.puzzle_text.specs.Collections.{Entry}
 
--- an entry's name and body
+-- the name and the text of an entry
 abbrev pub shown_entry : KeptEntry → Entry
 shown_entry entry = record { name = entry.name.now; body = entry.body.now }

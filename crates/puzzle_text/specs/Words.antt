@@ -1,4 +1,4 @@
--- The words of faults.
+-- Fault words: how faults are printed.
 use Rattle.std.specs.Prelude.{ℕ, List, ◌++◌, codes, decimal, Option, Some, None}
 use Rattle.puzzle_text.specs.declared.faults.TextFault.{TextFault}
 use Rattle.puzzle_text.specs.declared.faults.TextFault.TheVariants as text
@@ -8,20 +8,20 @@ use Rattle.puzzle_text.specs.declared.faults.CollectionFault.{CollectionFault}
 use Rattle.puzzle_text.specs.declared.faults.CollectionFault.TheVariants as collection
 use Rattle.puzzle_text.specs.declared.words.FaultWord.{FaultWord}
 
--- a word, and the number of a line after a colon
+-- a fault word with the number of a line after a colon
 abbrev pub at_line : List ℕ → ℕ → List ℕ
 at_line word number = word ++ codes ":" ++ decimal number
 
--- a word, and the number of its line, if it has one
+-- a fault word with the number of its line after a colon, if it has one
 abbrev pub with_line : List ℕ → Option ℕ → List ℕ
 with_line word None = word
 with_line word (Some number) = at_line word number
 
--- what the code keeps of a word as it is printed
+-- the printed text of a fault word
 abbrev pub word_text : FaultWord → List ℕ
 word_text word = with_line word.name.now word.line
 
--- the word of a fault of a puzzle's text
+-- the printed word of a fault of a puzzle's text
 abbrev pub word_of_text : TextFault → List ℕ
 word_of_text text.TooLong = codes "TooLong"
 word_of_text text.NoSize = codes "NoSize"
@@ -34,12 +34,12 @@ word_of_text (text.BadNumber number) = at_line (codes "BadNumber") number
 word_of_text (text.BadGoal number) = at_line (codes "BadGoal") number
 word_of_text text.NoMemory = codes "NoMemory"
 
--- the word of a fault of an entry: that of the fault that it carries
+-- the printed word of an entry's fault; for a fault of its text, the word of that fault
 abbrev pub word_of : EntryFault → List ℕ
 word_of UnknownFormat = codes "UnknownFormat"
 word_of (Text fault) = word_of_text fault
 
--- the word of a fault of a collection
+-- the printed word of a collection's fault
 abbrev pub word_of_collection : CollectionFault → List ℕ
 word_of_collection collection.TooLong = codes "TooLong"
 word_of_collection (collection.Stray number) = at_line (codes "Stray") number

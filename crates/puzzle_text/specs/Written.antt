@@ -6,10 +6,11 @@ use Rattle.grid_core.specs.Nonogram.{Nonogram}
 use Rattle.puzzle_text.specs.Keywords.{all_fields, field_word}
 use Rattle.puzzle_text.specs.Readings.{is_admissible, reading}
 
--- a clue, with this byte before each number but the first; the empty clue is 0
+-- a clue as text, with `separator` before each number but the first; the empty clue is `0`
 abbrev pub clue_text : ℕ → List ℕ → List ℕ
 clue_text separator [] = codes "0"
-clue_text separator (number ∷ numbers) = decimal number ++ flat_map (λ other. separator ∷ decimal other) numbers
+clue_text separator (number ∷ numbers) =
+    decimal number ++ flat_map (λ other. separator ∷ decimal other) numbers
 
 -- a clue as a line
 abbrev pub clue_line : ℕ → List ℕ → List ℕ
@@ -19,42 +20,49 @@ clue_line separator clue = clue_text separator clue ++ codes "\n"
 abbrev pub clue_lines : ℕ → List (List ℕ) → List ℕ
 clue_lines separator clues = flat_map (clue_line separator) clues
 
--- two numbers as a line
+-- two numbers, with a space between them, as a line
 abbrev pub two_numbers : ℕ → ℕ → List ℕ
 two_numbers a b = decimal a ++ codes " " ++ decimal b ++ codes "\n"
 
--- the text in .mk: height and width, the rows, a line #, the columns
+-- the text of the puzzle `p` in `.mk`: height and width, the rows, a line `#`, the columns
 abbrev pub text_mk : Nonogram → List ℕ
-text_mk p = two_numbers p.height p.width ++ clue_lines 32 p.rows ++ codes "#\n" ++ clue_lines 32 p.columns
+text_mk p =
+    two_numbers p.height p.width ++ clue_lines 32 p.rows ++ codes "#\n" ++ clue_lines 32 p.columns
 
--- the text in .nin: width and height, the rows, the columns
+-- the text of the puzzle `p` in `.nin`: width and height, the rows, the columns
 abbrev pub text_nin : Nonogram → List ℕ
 text_nin p = two_numbers p.width p.height ++ clue_lines 32 p.rows ++ clue_lines 32 p.columns
 
--- whether the text in .nin would be read with the sizes exchanged
+-- the text of the puzzle `p` in `.nin` would be read with the sizes exchanged
 abbrev pub is_ambiguous : Nonogram → Bool
-is_ambiguous p = not (p.width == p.height) && not (is_admissible p) && is_admissible (reading p.height p.width (p.rows ++ p.columns))
+is_ambiguous p =
+    not (p.width == p.height) && not (is_admissible p)
+    && is_admissible (reading p.height p.width (p.rows ++ p.columns))
 
--- a keyword and a text in double quotes as a line, if there is a text
+-- a line with a keyword and a text in double quotes, if there is a text
 abbrev pub quoted_line : List ℕ → Option (List ℕ) → List ℕ
 quoted_line keyword None = []
 quoted_line keyword (Some text) = keyword ++ codes " \"" ++ text ++ codes "\"\n"
 
--- the byte of a goal's cell
+-- the byte of a goal's cell: `1` for filled, `0` for blank
 abbrev pub goal_byte : Bool → ℕ
 goal_byte true = 49
 goal_byte false = 48
 
--- an empty line and the goal, if there is one
+-- an empty line and the `goal` line, if there is a goal
 abbrev pub goal_lines : Option (List Bool) → List ℕ
 goal_lines None = []
 goal_lines (Some cells) = codes "\n" ++ quoted_line (codes "goal") (Some (map goal_byte cells))
 
--- the lines of the texts that are there
+-- the lines of the text fields that have a text
 abbrev pub text_fields : Description → List ℕ
-text_fields texts = flat_map (λ field. quoted_line (field_word field) (text_of texts field)) all_fields
+text_fields texts =
+    flat_map (λ field. quoted_line (field_word field) (text_of texts field)) all_fields
 
--- the text in .non: the texts, the sizes, the rows, the columns, the goal
+-- the text of the puzzle `p` in `.non`: the texts, the sizes, the rows, the columns, the goal
 abbrev pub text_non : Nonogram → List ℕ
-text_non p = text_fields p.texts ++ codes "width " ++ decimal p.width ++ codes "\nheight " ++ decimal p.height
-    ++ codes "\n\nrows\n" ++ clue_lines 44 p.rows ++ codes "\ncolumns\n" ++ clue_lines 44 p.columns ++ goal_lines p.goal
+text_non p =
+    text_fields p.texts
+    ++ codes "width " ++ decimal p.width ++ codes "\nheight " ++ decimal p.height
+    ++ codes "\n\nrows\n" ++ clue_lines 44 p.rows
+    ++ codes "\ncolumns\n" ++ clue_lines 44 p.columns ++ goal_lines p.goal

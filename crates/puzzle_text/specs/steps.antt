@@ -1,4 +1,4 @@
--- The definitions that only private calls need.
+-- The definitions that only private functions use.
 pub mod Collections
 pub mod Lines
 pub mod Non

@@ -1,4 +1,4 @@
-//! Lines that say a clue.
+//! Parses clue lines.
 
 ghost use Rattle.std.specs.Prelude.{◌≡◌, [], map, length, vec_capacity, vec_len, IfOk, Some, None, if◌then◌else◌};
 ghost use Rattle.puzzle_text.specs.Answers.{Gives};
@@ -14,10 +14,12 @@ use crate::sections::Chosen;
 use grid_core::{Clue, ClueFault, LONGEST_SIDE, NoMemory};
 use std::alloc::Global;
 
-/// Reads the numbers of a line into a list, in place of what is there.
-/// Returns whether each of its pieces is a number.
+/// Parses the numbers of a text line into `numbers`, whose old elements are removed. Returns
+/// whether each piece of the line is a number of at most `LONGEST_SIDE`; if not, `numbers` holds
+/// the numbers before the first other piece.
 fn read_numbers(text: &[u8], numbers: &mut Vec<u16>) -> Result<bool, NoMemory>
-    ensures { IfOk result (λ all. (if all then Some numbers.new.items else None) ≡ numbers_within LONGEST_SIDE (pieces text.now)) }
+    ensures { IfOk result (λ all. (if all then Some numbers.new.items else None)
+        ≡ numbers_within LONGEST_SIDE (pieces text.now)) }
 {
     numbers.clear();
     let mut rest = from_piece(text);
@@ -31,7 +33,8 @@ fn read_numbers(text: &[u8], numbers: &mut Vec<u16>) -> Result<bool, NoMemory>
     Ok(true)
 }
 
-/// The clue that numbers are, if they are one.
+/// Returns the clue with these numbers, or `None` if they are not a clue. A single 0 stands for the
+/// empty clue.
 fn clue_of_numbers(alloc: Global, numbers: &[u16]) -> Result<Option<Clue>, NoMemory>
     ensures { IfOk result (λ found. found ≡ clue_of_numbers LONGEST_SIDE numbers.now) }
 {
@@ -46,7 +49,8 @@ fn clue_of_numbers(alloc: Global, numbers: &[u16]) -> Result<Option<Clue>, NoMem
     }
 }
 
-/// The clue that a line says, if it says one. The list is room for its numbers.
+/// Returns the clue in a line's text, or `None` if it is not a clue. `numbers` is a buffer for its
+/// numbers.
 fn clue_of(alloc: Global, text: &[u8], numbers: &mut Vec<u16>) -> Result<Option<Clue>, NoMemory>
     ensures { IfOk result (λ found. found ≡ clue_of LONGEST_SIDE text.now) }
 {
@@ -57,7 +61,8 @@ fn clue_of(alloc: Global, text: &[u8], numbers: &mut Vec<u16>) -> Result<Option<
     }
 }
 
-/// An empty list with room for `count` elements.
+/// Returns an empty list with a capacity of `count` elements. Fails with `NoMemory` if that
+/// allocation fails.
 pub(crate) fn room_for<T: Drop>(alloc: Global, count: usize) -> Result<Vec<T>, NoMemory>
     ensures items { IfOk result (λ list. list.items ≡ []) }
     ensures len { IfOk result (λ list. vec_len list ≡ 0) }
@@ -66,12 +71,15 @@ pub(crate) fn room_for<T: Drop>(alloc: Global, count: usize) -> Result<Vec<T>, N
     Ok(Vec::with_capacity(alloc, count)?)
 }
 
-/// The clues that these lines say.
+/// Returns the clue of each line, in order. Fails with `BadNumber` at the first line that is not a
+/// clue.
 fn clues_of(alloc: Global, lines: &[Line<'_>]) -> Result<Vec<Clue>, TextFault>
-    ensures clues { Gives (λ clues. clues.items) result (clues_of LONGEST_SIDE (map shown_line lines.now)) }
+    ensures clues { Gives (λ clues. clues.items) result
+        (clues_of LONGEST_SIDE (map shown_line lines.now)) }
     ensures length { IfOk result (λ clues. length clues.items ≡ length lines.now) }
 {
     let mut clues = room_for(alloc, lines.len())?;
+    // One buffer for the numbers of each line in turn.
     let mut numbers = room_for(alloc, 16)?;
     for line in lines {
         let Some(clue) = clue_of(alloc, line.text, &mut numbers)? else {
@@ -82,10 +90,13 @@ fn clues_of(alloc: Global, lines: &[Line<'_>]) -> Result<Vec<Clue>, TextFault>
     Ok(clues)
 }
 
-/// The clues that these clue lines say.
+/// Returns the clue of each clue line of a section, in order. Fails with `BadNumber` at the first
+/// line that is not a clue.
 pub(crate) fn chosen_clues(alloc: Global, chosen: &Chosen<'_, '_>) -> Result<Vec<Clue>, TextFault>
-    ensures clues { Gives (λ clues. clues.items) result (clues_of LONGEST_SIDE (shown_chosen chosen.now)) }
-    ensures length { IfOk result (λ clues. length clues.items ≡ length (shown_chosen chosen.now)) }
+    ensures clues { Gives (λ clues. clues.items) result
+        (clues_of LONGEST_SIDE (shown_chosen chosen.now)) }
+    ensures length { IfOk result
+        (λ clues. length clues.items ≡ length (shown_chosen chosen.now)) }
 {
     match chosen {
         Chosen::Part(lines) => clues_of(alloc, lines),
@@ -93,8 +104,8 @@ pub(crate) fn chosen_clues(alloc: Global, chosen: &Chosen<'_, '_>) -> Result<Vec
     }
 }
 
-/// The clues of the rows and of the columns. Of the two sections the one that stands first in the text is
-/// checked first.
+/// Returns the row clues and the column clues. The section that comes first in the text is parsed
+/// first, so that `BadNumber` has the number of the first bad line.
 pub(crate) fn both_clues(
     alloc: Global,
     rows_first: bool,
@@ -102,9 +113,12 @@ pub(crate) fn both_clues(
     columns: &Chosen<'_, '_>,
 ) -> Result<(Vec<Clue>, Vec<Clue>), TextFault>
     ensures answer { Gives (λ clues. (clues.0.items, clues.1.items)) result
-        (both_clues LONGEST_SIDE rows_first (shown_chosen rows.now) (shown_chosen columns.now)) }
-    ensures rows { IfOk result (λ clues. length clues.0.items ≡ length (shown_chosen rows.now)) }
-    ensures columns { IfOk result (λ clues. length clues.1.items ≡ length (shown_chosen columns.now)) }
+        (both_clues LONGEST_SIDE rows_first
+        (shown_chosen rows.now) (shown_chosen columns.now)) }
+    ensures rows { IfOk result
+        (λ clues. length clues.0.items ≡ length (shown_chosen rows.now)) }
+    ensures columns { IfOk result
+        (λ clues. length clues.1.items ≡ length (shown_chosen columns.now)) }
 {
     if rows_first {
         let row_clues = chosen_clues(alloc, rows)?;

@@ -1,4 +1,4 @@
-//! Collections of puzzle texts.
+//! Splits collections of puzzle texts into entries.
 
 ghost use Rattle.std.specs.Prelude.{◌≡◌, ◌==◌, ◌<◌, ◌≤◌, ◌^◌, not, take, map, true, false, length, Err, IfSome, OnSome, None};
 ghost use Rattle.std.specs.List.{list_all};
@@ -13,16 +13,18 @@ use crate::lines::{split_line, trim, without_ending};
 use memchr::memchr;
 use std::alloc::Global;
 
-/// The name and the text of a puzzle. The name's ending tells the text's format.
+/// An entry of a collection: a puzzle's name and its text. The ending of the name determines the
+/// format of the text.
 #[derive(Clone, Copy, Debug)]
 pub struct Entry<'a> {
-    /// What follows the `@` of its first line, without spaces and tabs at both ends.
+    /// The text after the `@` of the marker line, without spaces and tabs at both ends.
     pub name: &'a [u8],
-    /// All bytes of the lines after that one up to the next such line or the end, as they stand.
+    /// All bytes between the marker line and the next marker line or the end, unchanged.
     pub body: &'a [u8],
 }
 
-/// Whether a line, with its line feed, begins an entry.
+/// Reports whether a line, given with its line ending, is a marker line and so begins an entry: it
+/// is `@` alone, or begins with `@` and a space or a tab.
 fn is_marker(raw: &[u8]) -> bool
     ensures { result ≡ is_marker raw.now }
 {
@@ -33,7 +35,7 @@ fn is_marker(raw: &[u8]) -> bool
     }
 }
 
-/// The name that a marker line gives.
+/// Returns the name in a marker line; empty if there is none.
 fn name_of(raw: &[u8]) -> &[u8]
     ensures { result.now ≡ name_of raw.now }
 {
@@ -43,7 +45,7 @@ fn name_of(raw: &[u8]) -> &[u8]
     }
 }
 
-/// How many bytes stand before the first `@`.
+/// Returns how many bytes come before the first `@`; all bytes if there is none.
 fn before_at(bytes: &[u8]) -> usize
     ensures within { result ≤ length bytes.now }
     ensures other { list_all (λ byte. not (byte == 64)) (take result bytes.now) ≡ true }
@@ -54,7 +56,7 @@ fn before_at(bytes: &[u8]) -> usize
     }
 }
 
-/// Whether a line may begin after these bytes.
+/// Reports whether a line may start after these bytes: they are empty or end with a line feed.
 fn ends_line(bytes: &[u8]) -> bool
     ensures { result ≡ ends_line bytes.now }
 {
@@ -64,8 +66,9 @@ fn ends_line(bytes: &[u8]) -> bool
     }
 }
 
-/// What follows some lines that begin no entry: the text from the first `@` on, if that begins a line,
-/// or else the lines below it.
+/// Skips text in which no entry begins; `bytes` start at the start of a line. Returns the text from
+/// the first `@` on if that is at the start of a line, and otherwise the text after the line that
+/// contains it; empty if there is no `@`.
 fn past_plain(bytes: &[u8]) -> &[u8]
     ensures { FollowsPlain bytes.now result.now }
 {
@@ -80,12 +83,16 @@ fn past_plain(bytes: &[u8]) -> &[u8]
     after
 }
 
-/// The lines up to the next marker line, and what follows.
+/// Splits `bytes`, which start at the start of a line, before the first marker line. Returns the
+/// lines before it, which are the body of an entry, and the text from it on; that is empty if there
+/// is no marker line.
 fn split_body(bytes: &[u8]) -> (&[u8], &[u8])
     ensures body { result.0.now ≡ body_of (raw_lines bytes.now) }
     ensures others { entries_of (raw_lines result.1.now) ≡ entries_of (raw_lines bytes.now) }
     ensures within { length result.1.now ≤ length bytes.now }
 {
+    // Only lines with an `@` are looked at: `past_plain` skips all others by a search for that
+    // byte.
     let mut rest = past_plain(bytes);
     'lines: while !rest.is_empty() {
         let (raw, after) = split_line(rest);
@@ -97,7 +104,7 @@ fn split_body(bytes: &[u8]) -> (&[u8], &[u8])
     bytes.split_at(bytes.len() - rest.len())
 }
 
-/// How many entries a collection has.
+/// Returns how many entries a collection has.
 fn entry_count(bytes: &[u8]) -> usize
     ensures { result ≡ length (entries_of (raw_lines bytes.now)) }
 {
@@ -114,7 +121,7 @@ fn entry_count(bytes: &[u8]) -> usize
     count
 }
 
-/// Whether the first line begins an entry, if there is one.
+/// Reports whether the first line of `bytes` is a marker line, or `bytes` are empty.
 fn begins_with_marker(bytes: &[u8]) -> bool
     ensures { result ≡ begins_with_marker (raw_lines bytes.now) }
 {
@@ -125,10 +132,12 @@ fn begins_with_marker(bytes: &[u8]) -> bool
     is_marker(raw)
 }
 
-/// The entries of a collection, whatever stands above the first. `None` if one of them has no name, if they
-/// are over 10,000, or if a growth was refused.
+/// Returns the entries of a collection, ignoring the lines above the first marker line. Returns
+/// `None` if an entry has no name, if there are more than `MOST_ENTRIES`, or if an allocation
+/// fails.
 fn named_entries<'a>(alloc: Global, bytes: &'a [u8]) -> Option<Vec<Entry<'a>>>
-    ensures found { IfSome result (λ found. map shown_entry found.items ≡ entries_of (raw_lines bytes.now)) }
+    ensures found { IfSome result
+        (λ found. map shown_entry found.items ≡ entries_of (raw_lines bytes.now)) }
     ensures named { OnSome result (are_named (entries_of (raw_lines bytes.now)) ≡ true) }
     ensures few { OnSome result (length (entries_of (raw_lines bytes.now)) ≤ MOST_ENTRIES) }
 {
@@ -150,7 +159,8 @@ fn named_entries<'a>(alloc: Global, bytes: &'a [u8]) -> Option<Vec<Entry<'a>>>
     Some(found)
 }
 
-/// The number of the first line that belongs to no entry or names none.
+/// Returns the number, from 1, of the first stray line: a marker line without a name, or a
+/// non-blank line above the first marker line.
 #[tactic(auto, using(crate::proofs::CollectionLemmas::first_stray_found))]
 fn first_stray(bytes: &[u8]) -> Option<u32>
     requires { length bytes.now < 2 ^ 32 }
@@ -175,17 +185,22 @@ fn first_stray(bytes: &[u8]) -> Option<u32>
     None
 }
 
-/// The entries of a collection. A line `@ NAME` begins an entry;
-/// its text is the lines after that one up to the next such line or the end.
+/// Splits a collection into its entries. A line `@ NAME` begins an entry, whose text is the lines
+/// after it, up to the next such line or the end. A collection with faults fails with the first of
+/// them in the order of `CollectionFault`.
 #[tactic(auto, using(crate::proofs::CollectionLemmas::none_stray))]
 pub fn entries<'a>(alloc: Global, bytes: &'a [u8]) -> Result<Vec<Entry<'a>>, CollectionFault>
     ensures answer { GivesEntries (λ found. map shown_entry found.items) result (cut bytes.now) }
-    // `NoMemory` never stands in place of this fault, nor of another.
-    ensures too_long { LONGEST_COLLECTION < length bytes.now → result ≡ Err CollectionFault.TooLong }
+    // `NoMemory` is never returned in place of this fault, nor of any other.
+    ensures too_long { LONGEST_COLLECTION < length bytes.now
+        → result ≡ Err CollectionFault.TooLong }
 {
     if bytes.len() > LONGEST_COLLECTION {
         return Err(CollectionFault::TooLong);
     }
+    // A collection that begins with a marker line and has no fault takes this one pass over the
+    // text. Otherwise faults are looked for first, so that `NoMemory` is never returned in place of
+    // one.
     if begins_with_marker(bytes)
         && let Some(found) = named_entries(alloc, bytes)
     {

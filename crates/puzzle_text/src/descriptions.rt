@@ -1,4 +1,4 @@
-//! The texts of a puzzle in a .non text.
+//! The text fields of a `.non` text, such as its title.
 
 ghost use Rattle.std.specs.Prelude.{◌≡◌, length, map, nat_le, true, IfOk, OnOk};
 ghost use Rattle.std.specs.List.{list_all};
@@ -14,9 +14,10 @@ use crate::keywords::{FIELDS, field_word, nth_with, quoted_text};
 use grid_core::{Field, LONGEST_TEXT, NoMemory, Texts, TextsFault};
 use std::alloc::Global;
 
-/// The first line of a text field, if its text is too long.
+/// Returns the first line of a text field, if its text is longer than `LONGEST_TEXT` bytes.
 fn long_text<'a, 'b>(lines: &'b [KeywordLine<'a>], field: Field) -> Option<&'b KeywordLine<'a>>
-    ensures { option_map (λ line. shown_keyword line.now) result ≡ long_text (map shown_keyword lines.now) (field_word field) }
+    ensures { option_map (λ line. shown_keyword line.now) result
+        ≡ long_text (map shown_keyword lines.now) (field_word field) }
 {
     match nth_with(field_word(field), 0, lines) {
         Some(found) if quoted_text(found).len() > LONGEST_TEXT => Some(found),
@@ -24,7 +25,8 @@ fn long_text<'a, 'b>(lines: &'b [KeywordLine<'a>], field: Field) -> Option<&'b K
     }
 }
 
-/// The number of the first line of a text field, if its text is too long.
+/// Returns the number of the first line of a text field, if its text is longer than `LONGEST_TEXT`
+/// bytes.
 pub(crate) fn long_number(lines: &[KeywordLine<'_>], field: Field) -> Option<u32>
     ensures { result ≡ number_of_line (long_text (map shown_keyword lines.now) (field_word field)) }
 {
@@ -34,16 +36,18 @@ pub(crate) fn long_number(lines: &[KeywordLine<'_>], field: Field) -> Option<u32
     }
 }
 
-/// Whether no line is longer than a field's text may be.
+/// Reports whether no line is longer than `LONGEST_TEXT` bytes.
 pub(crate) fn are_short(lines: &[KeywordLine<'_>]) -> bool
-    ensures { result ≡ list_all (λ found. nat_le (length found.line.text.now) LONGEST_TEXT) lines.now }
+    ensures { result
+        ≡ list_all (λ found. nat_le (length found.line.text.now) LONGEST_TEXT) lines.now }
 {
     lines
         .iter()
         .all(|found| found.line.text.len() <= LONGEST_TEXT)
 }
 
-/// Sets a field to the text of its first line, if there is one.
+/// Sets a field of `texts` to the text of the field's first line. Does nothing if no line has the
+/// field's keyword.
 fn set_field(
     alloc: Global,
     texts: &mut Texts,
@@ -51,11 +55,13 @@ fn set_field(
     lines: &[KeywordLine<'_>],
 ) -> Result<(), NoMemory>
     requires { is_field (field_text (field_word field) (map shown_keyword lines.now)) ≡ true }
-    ensures { OnOk result (texts.new ≡ with_found texts.old field (field_text (field_word field) (map shown_keyword lines.now))) }
+    ensures { OnOk result (texts.new ≡ with_found texts.old field
+        (field_text (field_word field) (map shown_keyword lines.now))) }
 {
     let Some(found) = nth_with(field_word(field), 0, lines) else {
         return Ok(());
     };
+    // The contract requires that the text may stand in a field, so `BadText` cannot occur.
     match texts.set(alloc, field, quoted_text(found)) {
         Ok(()) => Ok(()),
         Err(TextsFault::NoMemory) => Err(NoMemory),
@@ -63,7 +69,7 @@ fn set_field(
     }
 }
 
-/// Sets these fields, each to the text of its first line, if there is one.
+/// Sets each of these fields to the text of its first line, if there is one.
 fn set_fields(
     alloc: Global,
     texts: &mut Texts,
@@ -71,7 +77,8 @@ fn set_fields(
     lines: &[KeywordLine<'_>],
 ) -> Result<(), NoMemory>
     requires { IsDescription (texts_of (map shown_keyword lines.now)) }
-    ensures { OnOk result (texts.new ≡ with_all_found (map shown_keyword lines.now) texts.old fields.now) }
+    ensures { OnOk result
+        (texts.new ≡ with_all_found (map shown_keyword lines.now) texts.old fields.now) }
 {
     for field in fields {
         set_field(alloc, texts, *field, lines)?;
@@ -79,7 +86,7 @@ fn set_fields(
     Ok(())
 }
 
-/// The texts of all fields.
+/// Returns the texts of all fields, each that of the field's first line.
 pub(crate) fn texts_of(alloc: Global, lines: &[KeywordLine<'_>]) -> Result<Texts, NoMemory>
     requires { IsDescription (texts_of (map shown_keyword lines.now)) }
     ensures { IfOk result (λ texts. texts ≡ texts_of (map shown_keyword lines.now)) }

@@ -1,4 +1,4 @@
-//! Why a text is refused.
+//! The faults of puzzle texts, collections and entries, and of writing a puzzle.
 
 ghost use Rattle.std.specs.Prelude.{◌≡◌};
 ghost use Rattle.puzzle_text.specs.declared.faults.TextFault.TheVariants.{NoMemory as text_memory};
@@ -9,38 +9,44 @@ use grid_core::NoMemory;
 use std::{error, fmt};
 use thiserror::Error;
 
-/// Why a puzzle's text is refused: the first of these, in this order, each looked for in the whole text.
-/// A line's number counts from 1.
+/// Why a puzzle's text is refused. Of several faults in a text, the first in the order of this list
+/// is reported, wherever in the text it is. Lines are numbered from 1.
 #[derive(Clone, Copy, Debug, PartialEq, Eq)]
 pub enum TextFault {
-    /// The whole text has more than `LONGEST_PUZZLE` bytes.
+    /// The text is longer than `LONGEST_PUZZLE` bytes.
     TooLong,
-    /// In .non there is no `width` or no `height` line; in the others there is no size line,
-    /// or it hasn't just two pieces.
+    /// In `.non`, there is no `width` line or no `height` line. In the other formats, there is no
+    /// size line, or it doesn't consist of exactly two pieces.
     NoSize,
-    /// One of the two sizes is no number from 1 to 256.
+    /// One of the two sizes is not a number from 1 to 256.
     BadSize,
-    /// In .non there is no `rows` or no `columns` line, in .mk no line after the size line begins with `#`.
+    /// In `.non`, there is no `rows` line or no `columns` line. In `.mk`, no line after the size
+    /// line begins with `#`.
     NoSection,
-    /// In .non this line says something and stands in no section, or is the first line of a text field
-    /// and its text has more than 65,536 bytes; the least such number.
+    /// In `.non`, this line is stray (not blank, neither a keyword line nor a comment, and in no
+    /// section), or it is the first line of a text field and its text is longer than 65,536 bytes.
+    /// The number is that of the first such line.
     BadLine(u32),
-    /// In .non this line repeats `width`, `height`, `rows` or `columns`; the least such number.
+    /// In `.non`, this line repeats `width`, `height`, `rows` or `columns`. The number is that of
+    /// the first such line.
     Twice(u32),
-    /// A section hasn't as many clue lines as the size asks; in .mk so in both orders of the sizes.
+    /// A section doesn't have as many clue lines as the sizes require; in `.mk`, this is so for
+    /// both orders of the sizes.
     BadCount,
-    /// This clue line says no clue: it has a piece that is no number, a 0 beside other numbers,
-    /// a number over 256, or more than 128 numbers; the least such number.
+    /// This clue line is not a clue: a piece of it is not a number, a 0 stands beside other
+    /// numbers, a number is over 256, or there are more than 128 numbers. The number is that of the
+    /// first such line.
     BadNumber(u32),
-    /// In .non this line is the first `goal` line, and its text isn't one `0` or `1` for each cell.
+    /// In `.non`, this line is the first `goal` line, and its text is not one `0` or `1` for each
+    /// cell.
     BadGoal(u32),
-    /// A growth of memory was refused. It may stand in place of any answer but `TooLong`.
+    /// An allocation failed. May be returned in place of any result except `TooLong`.
     NoMemory,
 }
 
 impl TextFault {
-    /// The printed sentence: what stands before the number of the line that it is about, that number, and
-    /// what stands after it.
+    /// Returns the printed sentence in three parts: the text before the line number, the number of
+    /// the line that the fault is about, if any, and the text after it.
     fn sentence(self) -> (&'static str, Option<u32>, &'static str) {
         match self {
             TextFault::TooLong => ("the text has more than 1048576 bytes", None, ""),
@@ -78,20 +84,21 @@ impl From<NoMemory> for TextFault {
     }
 }
 
-/// Why a collection is refused: the first of these, in this order. A line's number counts from 1.
+/// Why a collection is refused. Of several faults, the first in the order of this list is reported.
+/// Lines are numbered from 1.
 #[derive(Clone, Copy, Debug, PartialEq, Eq, Error)]
 pub enum CollectionFault {
-    /// It has more than `LONGEST_COLLECTION` bytes.
+    /// The collection is longer than `LONGEST_COLLECTION` bytes.
     #[error("the collection has more than 16777216 bytes")]
     TooLong,
-    /// This line is a marker line without a name, or isn't blank and stands above the first marker line;
-    /// the least such number.
+    /// This line is a marker line without a name, or it is above the first marker line and not
+    /// blank. The number is that of the first such line.
     #[error("line {0} belongs to no entry or names none")]
     Stray(u32),
-    /// It has more than `MOST_ENTRIES` marker lines.
+    /// The collection has more than `MOST_ENTRIES` marker lines.
     #[error("the collection has more than 10000 entries")]
     TooMany,
-    /// A growth of memory was refused. It never stands in place of another fault.
+    /// An allocation failed. Never returned in place of another fault.
     #[error("out of memory")]
     NoMemory,
 }
@@ -107,10 +114,10 @@ impl From<NoMemory> for CollectionFault {
 /// Why an entry is refused.
 #[derive(Clone, Copy, Debug, PartialEq, Eq, Error)]
 pub enum EntryFault {
-    /// The name's ending tells no format, whatever the text says.
+    /// The name has no ending of a format. Reported whatever the text is.
     #[error("the name ends in none of .non, .mk and .nin")]
     UnknownFormat,
-    /// The text is refused in the format that the name's ending tells.
+    /// The text has this fault in the format that the name's ending determines.
     #[error(transparent)]
     Text(TextFault),
 }
@@ -118,11 +125,11 @@ pub enum EntryFault {
 /// Why a puzzle is not written.
 #[derive(Clone, Copy, Debug, PartialEq, Eq, Error)]
 pub enum WriteFault {
-    /// In .nin the puzzle's text would be read with its width and height exchanged.
-    /// `NoMemory` never stands in its place.
+    /// The puzzle's text in `.nin` would be read with width and height exchanged. `NoMemory` is
+    /// never returned in place of this fault.
     #[error("the text would be read with the sizes the other way round")]
     Ambiguous,
-    /// A growth of memory was refused.
+    /// An allocation failed.
     #[error("out of memory")]
     NoMemory,
 }

@@ -1,4 +1,4 @@
-//! Whether clues fit their lines.
+//! Checks whether clues fit the lines of a grid.
 
 ghost use Rattle.std.specs.Prelude.{◌≡◌, ◌+◌, ◌-◌, ◌<◌, ◌≤◌, ◌^◌, ◌++◌, sum, length, Some, None, IfSome, if◌then◌else◌};
 ghost use Rattle.std.specs.List.{list_all};
@@ -6,7 +6,7 @@ ghost use Rattle.puzzle_text.specs.Readings.{fits, sum_all};
 
 use grid_core::{Clue, MOST_RUNS};
 
-/// The sum of a clue's numbers.
+/// Returns the sum of a clue's numbers.
 fn sum_of(numbers: &[u16]) -> u32
     requires { length numbers.now ≤ MOST_RUNS }
     ensures { result ≡ sum numbers.now }
@@ -14,7 +14,7 @@ fn sum_of(numbers: &[u16]) -> u32
     numbers.iter().map(|number| u32::from(*number)).sum()
 }
 
-/// How many cells a clue fills, if it fits a line of this length.
+/// Returns how many cells a clue fills, if it fits a line of `len` cells.
 #[tactic(auto, using(crate::proofs::NumbersLemmas::clue_bounds))]
 fn filled_within(len: u16, clue: &Clue) -> Option<u32>
     ensures cells { result ≡ (if fits len clue.now then Some (sum clue.now) else None) }
@@ -22,6 +22,8 @@ fn filled_within(len: u16, clue: &Clue) -> Option<u32>
 {
     let numbers = clue.numbers();
     let cells = sum_of(numbers);
+    // Runs have a blank cell between each two, one less than there are runs. That 1 is added on the
+    // right instead, since for the empty clue the left side would be negative.
     if cells + numbers.len() as u32 <= u32::from(len) + 1 {
         Some(cells)
     } else {
@@ -29,10 +31,11 @@ fn filled_within(len: u16, clue: &Clue) -> Option<u32>
     }
 }
 
-/// How many cells these clues fill, if each of them fits a line of this length.
+/// Returns how many cells these clues fill together, if each of them fits a line of `len` cells.
 pub(crate) fn sum_within(len: u16, clues: &[Clue]) -> Option<u32>
     requires { length clues.now ≤ 65535 }
-    ensures sum { result ≡ (if list_all (fits len) clues.now then Some (sum_all clues.now) else None) }
+    ensures sum { result
+        ≡ (if list_all (fits len) clues.now then Some (sum_all clues.now) else None) }
     ensures within { IfSome result (λ sum. sum < 2 ^ 31) }
 {
     let mut sum = 0;
@@ -45,11 +48,13 @@ pub(crate) fn sum_within(len: u16, clues: &[Clue]) -> Option<u32>
     Some(sum)
 }
 
-/// How many cells the clues of two lists fill, if each of them fits a line of this length.
+/// Returns how many cells the clues of both lists fill together, if each of them fits a line of
+/// `len` cells.
 pub(crate) fn sum_of_both(len: u16, first: &[Clue], second: &[Clue]) -> Option<u32>
     requires first { length first.now ≤ 65535 }
     requires second { length second.now ≤ 65535 }
-    ensures { result ≡ (if list_all (fits len) (first.now ++ second.now) then Some (sum_all (first.now ++ second.now)) else None) }
+    ensures { result ≡ (if list_all (fits len) (first.now ++ second.now)
+        then Some (sum_all (first.now ++ second.now)) else None) }
 {
     Some(sum_within(len, first)? + sum_within(len, second)?)
 }

@@ -19,15 +19,16 @@ use std::alloc::Global;
 /// A format of puzzle texts.
 #[derive(Clone, Copy, Debug, PartialEq, Eq)]
 pub enum Format {
-    /// Keyword lines, texts and a goal.
+    /// Keyword lines for the texts, the sizes and a goal, and a section of clue lines each for the
+    /// rows and the columns.
     Non,
-    /// Sizes, and the clues of rows and columns apart.
+    /// The sizes, the clue lines of the rows, a line `#`, and the clue lines of the columns.
     Mk,
-    /// Sizes, and all clues one after the other.
+    /// The sizes, then the clue lines of the rows and of the columns, with no line between them.
     Nin,
 }
 
-/// Whether a name has this ending, letters in either case.
+/// Reports whether a name has this ending, ignoring the case of ASCII letters.
 fn has_ending(name: &[u8], ending: &[u8]) -> bool
     ensures { result ≡ has_ending (str_to_ascii_lowercase ending.now) name.now }
 {
@@ -36,7 +37,7 @@ fn has_ending(name: &[u8], ending: &[u8]) -> bool
 }
 
 impl Format {
-    /// The word that names the format: its ending without the dot.
+    /// Returns the word that names the format: its ending without the dot.
     pub fn word(self) -> &'static str
         ensures { result.now ≡ word self }
     {
@@ -47,14 +48,14 @@ impl Format {
         }
     }
 
-    /// The words of all formats.
+    /// Returns the words of all formats.
     pub fn words() -> [&'static str; 3]
         ensures { map (λ shown. shown.now) result ≡ map word formats }
     {
         [Format::Non.word(), Format::Mk.word(), Format::Nin.word()]
     }
 
-    /// The format that this word names, if there is one.
+    /// Returns the format whose word is exactly `name`, or `None` if there is none.
     pub fn of_word(name: &str) -> Option<Format>
         ensures { result ≡ find (λ format. bytes_eq (word format) name.now) formats }
     {
@@ -66,7 +67,8 @@ impl Format {
         }
     }
 
-    /// The format that a name's ending tells, letters in either case, if it tells one.
+    /// Returns the format that the ending of `name` determines, ignoring the case of ASCII letters,
+    /// or `None` if it is not the ending of a format.
     pub fn of_name(name: &[u8]) -> Option<Format>
         ensures { result ≡ format_of name.now }
     {
@@ -82,10 +84,11 @@ impl Format {
         None
     }
 
-    /// Reads a puzzle in this format: the first fault of the text, in the order of the faults.
+    /// Reads a puzzle in this format. A text with faults fails with the first of them in the order
+    /// of `TextFault`.
     pub fn read(self, alloc: Global, bytes: &[u8]) -> Result<Puzzle, TextFault>
         ensures answer { Gives (λ p. p) result (read_as self LONGEST_SIDE bytes.now) }
-        // `NoMemory` never stands in place of this fault.
+        // `NoMemory` is never returned in place of this fault.
         ensures too_long { LONGEST_PUZZLE < length bytes.now → result ≡ Err TextFault.TooLong }
     {
         match self {
@@ -95,12 +98,13 @@ impl Format {
         }
     }
 
-    /// The text of a puzzle in this format. `Ambiguous` if that text would be read with the sizes exchanged;
-    /// else perhaps `NoMemory`.
+    /// Returns the text of a puzzle in this format. Fails with `Ambiguous` if that text would be
+    /// read with the sizes exchanged, and otherwise with `NoMemory` if an allocation fails.
     pub fn write(self, alloc: Global, puzzle: &Puzzle) -> Result<Vec<u8>, WriteFault>
         ensures text { IfOk result (λ text. text_as self puzzle.now ≡ Ok text.items) }
-        // `NoMemory` never stands in place of this fault.
-        ensures ambiguous { result ≡ Err WriteFault.Ambiguous ↔ text_as self puzzle.now ≡ Err WriteFault.Ambiguous }
+        // `NoMemory` is never returned in place of this fault.
+        ensures ambiguous { result ≡ Err WriteFault.Ambiguous
+            ↔ text_as self puzzle.now ≡ Err WriteFault.Ambiguous }
     {
         match self {
             Format::Non => Ok(write_non(alloc, puzzle)?),
@@ -110,13 +114,15 @@ impl Format {
     }
 }
 
-/// Reads the puzzle of an entry, in the format that its name's ending tells:
-/// `.non`, `.mk` or `.nin`, letters in either case.
+/// Reads the puzzle of an entry in the format that its name's ending determines: `.non`, `.mk` or
+/// `.nin`, ignoring the case of ASCII letters. Any other name fails with `UnknownFormat`.
 pub fn read_entry(alloc: Global, entry: &Entry<'_>) -> Result<Puzzle, EntryFault>
     ensures answer { GivesPuzzle result (read_entry LONGEST_SIDE (shown_entry entry.now)) }
-    // `NoMemory` never stands in place of these faults.
-    ensures unknown { result ≡ Err EntryFault.UnknownFormat ↔ is_format (shown_entry entry.now).name ≡ false }
-    ensures too_long { is_format (shown_entry entry.now).name ≡ true → LONGEST_PUZZLE < length (shown_entry entry.now).body
+    // `NoMemory` is never returned in place of these faults.
+    ensures unknown { result ≡ Err EntryFault.UnknownFormat
+        ↔ is_format (shown_entry entry.now).name ≡ false }
+    ensures too_long { is_format (shown_entry entry.now).name ≡ true
+        → LONGEST_PUZZLE < length (shown_entry entry.now).body
         → result ≡ Err (EntryFault.Text TextFault.TooLong) }
 {
     let Some(format) = Format::of_name(entry.name) else {

@@ -1,4 +1,4 @@
-//! Goals in .non texts.
+//! Parses the `goal` line of a `.non` text.
 
 ghost use Rattle.std.specs.Prelude.{◌≡◌, ◌==◌, true, length, IfOk, IfSome};
 ghost use Rattle.std.specs.Option.{is_some, option_map};
@@ -14,22 +14,25 @@ use crate::keywords::quoted_text;
 use grid_core::NoMemory;
 use std::alloc::Global;
 
-/// Whether a byte says a colour.
+/// Reports whether a byte stands for a colour: `0` for blank or `1` for filled.
 fn is_colour(byte: u8) -> bool
     ensures { result ≡ is_some (cell_of byte) }
 {
     byte == b'0' || byte == b'1'
 }
 
-/// The cells of a goal of `count` cells. All bytes are looked at in any case, many at a time.
+/// Returns the cells of a goal, `true` for filled, or `None` if `text` is not `count` bytes `0` or
+/// `1`.
 fn goal_cells(alloc: Global, count: usize, text: &[u8]) -> Result<Option<Vec<bool>>, NoMemory>
-    ensures cells { IfOk result (λ found. option_map (λ cells. cells.items) found ≡ goal_cells count text.now) }
+    ensures cells { IfOk result
+        (λ found. option_map (λ cells. cells.items) found ≡ goal_cells count text.now) }
     ensures count { IfOk result (λ found. IfSome found (λ cells. length cells.items ≡ count)) }
 {
     if text.len() != count {
         return Ok(None);
     }
     let mut cells = room_for(alloc, count)?;
+    // The loop has no early return, so that the compiler can handle several bytes at a time.
     let mut all = true;
     for byte in text {
         all &= is_colour(*byte);
@@ -38,13 +41,15 @@ fn goal_cells(alloc: Global, count: usize, text: &[u8]) -> Result<Option<Vec<boo
     Ok(if all { Some(cells) } else { None })
 }
 
-/// The goal that a line says, if there is one.
+/// Parses the goal of a `goal` line; without a line there is no goal. `count` is the number of
+/// cells. Fails with `BadGoal` if the line's text is not one `0` or `1` for each cell.
 pub(crate) fn goal_of(
     alloc: Global,
     count: usize,
     line: Option<&KeywordLine<'_>>,
 ) -> Result<Option<Vec<bool>>, TextFault>
-    ensures goal { Gives (λ goal. bools_of goal) result (goal_of count (option_map (λ found. shown_keyword found.now) line.entry)) }
+    ensures goal { Gives (λ goal. bools_of goal) result
+        (goal_of count (option_map (λ found. shown_keyword found.now) line.entry)) }
     ensures count { IfOk result (λ goal. is_goal count (bools_of goal) ≡ true) }
 {
     let Some(found) = line else {

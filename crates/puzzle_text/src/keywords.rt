@@ -1,4 +1,4 @@
-//! Keyword lines.
+//! Finds keyword lines, and takes them apart.
 
 ghost use Rattle.std.specs.Prelude.{◌≡◌, ◌==◌, ◌≤◌, map, filter, length, drop, take_while, slice_get, reverse, IfOk};
 ghost use Rattle.std.specs.List.{prefix_len};
@@ -23,7 +23,7 @@ pub(crate) const FIELDS: [Field; 5] = [
     Field::License,
 ];
 
-/// The keyword of a text field.
+/// Returns the keyword of a text field, in lower case.
 pub(crate) fn field_word(field: Field) -> &'static [u8]
     ensures word { result.now ≡ field_word field }
     ensures lower { str_to_ascii_lowercase result.now ≡ field_word field }
@@ -37,7 +37,7 @@ pub(crate) fn field_word(field: Field) -> &'static [u8]
     }
 }
 
-/// How many letters a text begins with.
+/// Returns how many ASCII letters a text begins with.
 fn letters(text: &[u8]) -> usize
     ensures count { result ≡ prefix_len is_ascii_alphabetic text.now }
     ensures within { result ≤ length text.now }
@@ -50,7 +50,7 @@ fn letters(text: &[u8]) -> usize
     text.len()
 }
 
-/// The letters that a line begins with.
+/// Returns the ASCII letters that a line begins with; empty if it is no keyword line.
 pub(crate) fn keyword<'a>(line: &Line<'a>) -> &'a [u8]
     ensures { str_to_ascii_lowercase result.now ≡ keyword (shown_line line.now) }
 {
@@ -58,12 +58,13 @@ pub(crate) fn keyword<'a>(line: &Line<'a>) -> &'a [u8]
     word
 }
 
-/// The keyword lines among these lines.
+/// Returns the keyword lines among these lines, in order.
 pub(crate) fn keyword_lines<'a>(
     alloc: Global,
     lines: &[Line<'a>],
 ) -> Result<Vec<KeywordLine<'a>>, NoMemory>
-    ensures { IfOk result (λ found. map shown_keyword found.items ≡ filter is_keyword_line (map shown_line lines.now)) }
+    ensures { IfOk result (λ found. map shown_keyword found.items
+        ≡ filter is_keyword_line (map shown_line lines.now)) }
 {
     let mut found = Vec::with_capacity(alloc, 16)?;
     for line in lines {
@@ -75,7 +76,8 @@ pub(crate) fn keyword_lines<'a>(
     Ok(found)
 }
 
-/// What follows the keyword.
+/// Returns a keyword line's argument: the text after its keyword, without spaces and tabs at both
+/// ends.
 pub(crate) fn rest<'a>(found: &KeywordLine<'a>) -> &'a [u8]
     ensures { result.now ≡ rest (shown_keyword found.now) }
 {
@@ -83,9 +85,10 @@ pub(crate) fn rest<'a>(found: &KeywordLine<'a>) -> &'a [u8]
     trim(rest)
 }
 
-/// Whether two words are one, letters in either case.
+/// Reports whether two words are equal, ignoring the case of ASCII letters.
 pub(crate) fn same_word(word: &[u8], other: &[u8]) -> bool
-    ensures { result ≡ bytes_eq (str_to_ascii_lowercase word.now) (str_to_ascii_lowercase other.now) }
+    ensures { result
+        ≡ bytes_eq (str_to_ascii_lowercase word.now) (str_to_ascii_lowercase other.now) }
 {
     word.eq_ignore_ascii_case(other)
 }
@@ -93,17 +96,20 @@ pub(crate) fn same_word(word: &[u8], other: &[u8]) -> bool
 fn has_keyword(word: &[u8], line: &KeywordLine<'_>) -> bool
     ensures { result ≡ has_keyword (str_to_ascii_lowercase word.now) (shown_keyword line.now) }
 {
+    // The lengths and the exact bytes are compared first, which costs less than ignoring the case.
     line.word.len() == word.len() && (line.word == word || same_word(line.word, word))
 }
 
-/// The line with this keyword at a place, from 0, among those with it.
+/// Returns the line at index `place`, from 0, among those whose keyword is `word`, if there are
+/// that many.
 pub(crate) fn nth_with<'a, 'b>(
     word: &[u8],
     place: usize,
     lines: &'b [KeywordLine<'a>],
 ) -> Option<&'b KeywordLine<'a>>
     ensures { option_map (λ line. shown_keyword line.now) result
-        ≡ slice_get (with_keyword (str_to_ascii_lowercase word.now) (map shown_keyword lines.now)) place }
+        ≡ slice_get (with_keyword (str_to_ascii_lowercase word.now)
+        (map shown_keyword lines.now)) place }
 {
     let mut rest = lines;
     let mut left = place;
@@ -145,7 +151,8 @@ fn before_quote(bytes: &[u8]) -> Option<&[u8]>
     None
 }
 
-/// What stands between the first and the last double quote, or all of it if there are not two.
+/// Returns the text between the first and the last double quote, or all of `bytes` if there are
+/// fewer than two.
 fn quoted(bytes: &[u8]) -> &[u8]
     ensures { result.now ≡ quoted bytes.now }
 {
@@ -155,7 +162,7 @@ fn quoted(bytes: &[u8]) -> &[u8]
     before_quote(after).unwrap_or(bytes)
 }
 
-/// The text of a field's line.
+/// Returns the text of a field's line: its argument, without double quotes around it.
 pub(crate) fn quoted_text<'a>(found: &KeywordLine<'a>) -> &'a [u8]
     ensures { result.now ≡ quoted_text (shown_keyword found.now) }
 {

@@ -1,4 +1,4 @@
-//! Laws of the formats, each the contract of a function that does nothing.
+//! Laws of the formats, each stated as the contract of a function that does nothing.
 
 ghost use Rattle.std.specs.Prelude.{ℕ, ◌≡◌, ◌≤◌};
 ghost use Rattle.puzzle_text.specs.Laws.{AmbiguousIsReadOtherwise, GreaterLimitKeeps, MkIsReadBack, NinIsReadBack, NonIsReadBack, WrittenIsShort};
@@ -6,49 +6,51 @@ ghost use Rattle.puzzle_text.specs.declared.limits.TheConstants.{LONGEST_COLLECT
 
 use grid_core::LONGEST_SIDE;
 
-/// What `write_non` gives is read again as the same puzzle, texts and goal included.
+/// The text that `write_non` returns is read again as the same puzzle, including its texts and its
+/// goal.
 #[tactic(auto, using(crate::proofs::ReadNon::non_read_again))]
 pub fn non_is_read_back()
     ensures { NonIsReadBack LONGEST_SIDE }
 {}
 
-/// What `write_mk` gives is read again as the same puzzle without texts and goal.
+/// The text that `write_mk` returns is read again as the same puzzle without texts and goal.
 #[tactic(auto, using(crate::proofs::ReadMk::mk_read_again))]
 pub fn mk_is_read_back()
     ensures { MkIsReadBack LONGEST_SIDE }
 {}
 
-/// What `write_nin` gives is read again as the same puzzle without texts and goal.
+/// The text that `write_nin` returns is read again as the same puzzle without texts and goal.
 #[tactic(auto, using(crate::proofs::ReadMk::nin_read_again))]
 pub fn nin_is_read_back()
     ensures { NinIsReadBack LONGEST_SIDE }
 {}
 
-/// The text in .nin of a puzzle that `write_nin` refuses would be read as another size:
-/// width and height exchanged, of the same clues in the same order.
+/// The text in `.nin` of a puzzle that `write_nin` refuses would be read with other sizes: width
+/// and height exchanged, and the same clues in the same order.
 #[tactic(auto, using(crate::proofs::ReadMk::nin_read_otherwise))]
 pub fn ambiguous_is_read_otherwise()
     ensures { AmbiguousIsReadOtherwise LONGEST_SIDE }
 {}
 
-/// What is written in any format is short enough to be read again.
+/// The text of a puzzle in any format is short enough to be read again.
 #[tactic(auto, using(crate::proofs::ReadNon::length_non, crate::proofs::ReadMk::length_mk, crate::proofs::ReadMk::length_nin))]
 pub fn written_is_short()
     ensures { WrittenIsShort LONGEST_SIDE }
 {}
 
-/// A greater limit of sides and clue numbers keeps what a text says, unless one was out of range.
+/// If sides and clue numbers may be greater, each text keeps its puzzle or its fault, unless that
+/// fault was `BadSize` or `BadNumber`.
 pub fn greater_limit_keeps()
     ensures { (limit greater : ℕ) → limit ≤ greater → GreaterLimitKeeps limit greater }
 {}
 
-/// The limit on sides and clue numbers keeps what a limit of 128 says of each text:
-/// the same puzzle, or the same fault, unless that is `BadSize` or `BadNumber`.
+/// With `LONGEST_SIDE` as the limit on sides and clue numbers, each text has the same puzzle or the
+/// same fault as with a limit of 128, unless that fault is `BadSize` or `BadNumber`.
 pub fn longest_side_keeps_128()
     ensures { GreaterLimitKeeps 128 LONGEST_SIDE }
 {}
 
-/// The limits on puzzles' texts and on collections are these numbers.
+/// The values of the limits on puzzles' texts and on collections.
 pub fn limits_are_numbers()
     ensures puzzle { LONGEST_PUZZLE ≡ 1048576 }
     ensures collection { LONGEST_COLLECTION ≡ 16777216 }

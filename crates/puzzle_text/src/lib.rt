@@ -1,4 +1,4 @@
-//! Puzzles as texts: three formats, read and written, and collections of such texts.
+//! Reads and writes puzzles in three text formats, and splits collections of such texts.
 #![tactic(auto)]
 
 mod clue_lines;

@@ -1,4 +1,4 @@
-//! A text as numbered lines.
+//! Splits a text into numbered lines.
 
 ghost use Rattle.std.specs.Prelude.{ℕ, ◌≡◌, ◌==◌, ◌+◌, ◌^◌, ◌<◌, ◌≤◌, ◌∷◌, [], ◌++◌, reverse, length, map, IfOk};
 ghost use Rattle.std.specs.List.{position};
@@ -9,7 +9,8 @@ use grid_core::NoMemory;
 use memchr::memchr;
 use std::alloc::Global;
 
-/// A line: its number in the text, from 1, and its bytes without spaces and tabs at both ends.
+/// A text line: its number, from 1, and its bytes without spaces and tabs at both ends. It is blank
+/// if nothing is left of it.
 #[derive(Clone, Copy)]
 pub(crate) struct Line<'a> {
     pub number: u32,
@@ -23,7 +24,7 @@ fn first_line_feed(bytes: &[u8]) -> Option<usize>
     memchr(b'\n', bytes)
 }
 
-/// The first line of a text, with its line feed, and what follows.
+/// Splits a text after its first line. Returns that line, including its line feed, and the rest.
 #[tactic(auto, using(crate::proofs::LinesLemmas::cut_at_feed, crate::proofs::LinesLemmas::cut_at_end))]
 pub(crate) fn split_line(bytes: &[u8]) -> (&[u8], &[u8])
     requires { 0 < length bytes.now }
@@ -67,14 +68,14 @@ fn trim_end(mut bytes: &[u8]) -> &[u8]
     bytes
 }
 
-/// Without spaces and tabs at both ends.
+/// Returns `bytes` without spaces and tabs at both ends.
 pub(crate) fn trim(bytes: &[u8]) -> &[u8]
     ensures { result.now ≡ trim bytes.now }
 {
     trim_end(trim_start(bytes))
 }
 
-/// Without this byte at the end.
+/// Returns `bytes` without the last one, if that is `byte`.
 fn strip_last(bytes: &[u8], byte: u8) -> &[u8]
     ensures { result.now ≡ strip_last byte bytes.now }
 {
@@ -84,19 +85,20 @@ fn strip_last(bytes: &[u8], byte: u8) -> &[u8]
     }
 }
 
-/// Without the line feed at the end, and the carriage return before it.
+/// Returns a line without the line feed at its end, and without the carriage return before it.
 pub(crate) fn without_ending(raw: &[u8]) -> &[u8]
     ensures { result.now ≡ without_ending raw.now }
 {
     strip_last(strip_last(raw, b'\n'), b'\r')
 }
 
-/// The first line of a text, without its ending, and what follows.
+/// Splits a text after its first line. Returns that line without its line ending, and the rest.
 #[tactic(auto, using(crate::proofs::LinesLemmas::line_at_feed, crate::proofs::LinesLemmas::line_at_end, std::proofs::lemmas::List::take_rest))]
 pub(crate) fn next_line(bytes: &[u8]) -> (&[u8], &[u8])
     requires { 0 < length bytes.now }
     ensures first { (number : ℕ) → numbered_from number (raw_lines bytes.now)
-        ≡ record { number = number; text = trim result.0.now } ∷ numbered_from (number + 1) (raw_lines result.1.now) }
+        ≡ record { number = number; text = trim result.0.now }
+        ∷ numbered_from (number + 1) (raw_lines result.1.now) }
     ensures shorter { length result.1.now < length bytes.now }
 {
     match first_line_feed(bytes) {
@@ -105,7 +107,7 @@ pub(crate) fn next_line(bytes: &[u8]) -> (&[u8], &[u8])
     }
 }
 
-/// Whether a line begins with `#`.
+/// Reports whether a line begins with `#`.
 pub(crate) fn is_hash(line: &Line<'_>) -> bool
     ensures { result ≡ is_hash (shown_line line.now) }
 {
@@ -115,11 +117,12 @@ pub(crate) fn is_hash(line: &Line<'_>) -> bool
     }
 }
 
-/// The lines of a text, all of them.
+/// Returns all lines of a text, numbered from 1.
 pub(crate) fn all_lines(alloc: Global, bytes: &[u8]) -> Result<Vec<Line<'_>>, NoMemory>
     requires { length bytes.now < 2 ^ 32 }
     ensures { IfOk result (λ found. map shown_line found.items ≡ lines bytes.now) }
 {
+    // An estimate of the number of lines, at 8 bytes each; with more lines the list grows.
     let mut found = Vec::with_capacity(alloc, bytes.len() / 8 + 8)?;
     let mut rest = bytes;
     let mut number = 0u32;

@@ -1,4 +1,4 @@
-//! The format .mk.
+//! The general reader for the format `.mk`.
 
 ghost use Rattle.std.specs.Prelude.{◌≡◌, ◌+◌, ◌<◌, ◌++◌, map, length, Err, IfOk, IfSome};
 ghost use Rattle.std.specs.List.{position};
@@ -25,10 +25,12 @@ fn hash_place(lines: &[Line<'_>]) -> Option<usize>
     lines.iter().position(|line| is_hash(line))
 }
 
-/// The lines before the first that begins with `#`, and those after it.
+/// Returns the lines before and the lines after the first one that begins with `#`, or `None` if
+/// there is none.
 #[tactic(auto, using(crate::proofs::SaidLines::at_hash_found, crate::proofs::SaidLines::at_hash_none))]
 fn at_hash<'a, 'b>(lines: &'b [Line<'a>]) -> Option<(&'b [Line<'a>], &'b [Line<'a>])>
-    ensures { option_map (λ parts. (map shown_line parts.0.now, map shown_line parts.1.now)) result ≡ at_hash (map shown_line lines.now) }
+    ensures { option_map (λ parts. (map shown_line parts.0.now, map shown_line parts.1.now)) result
+        ≡ at_hash (map shown_line lines.now) }
 {
     match hash_place(lines) {
         Some(place) => Some((&lines[..place], &lines[place + 1..])),
@@ -46,7 +48,8 @@ fn before_hash<'a, 'b>(lines: &'b [Line<'a>]) -> &'b [Line<'a>]
     }
 }
 
-/// The clue lines of both sections at these sizes.
+/// Returns the clue lines of both sections for a puzzle of these sizes, or `None` if one of the
+/// sections doesn't have as many as its size.
 fn both_choices<'a, 'b>(
     alloc: Global,
     width: u16,
@@ -54,10 +57,14 @@ fn both_choices<'a, 'b>(
     rows: &'b [Line<'a>],
     columns: &'b [Line<'a>],
 ) -> Result<Option<(Chosen<'a, 'b>, Chosen<'a, 'b>)>, NoMemory>
-    ensures lines { IfOk result (λ found. option_map (λ chosen. shown_chosen chosen.0 ++ shown_chosen chosen.1) found
-        ≡ both_choices width height (map shown_line rows.now) (map shown_line columns.now)) }
+    ensures lines { IfOk result (λ found.
+        option_map (λ chosen. shown_chosen chosen.0
+        ++ shown_chosen chosen.1) found
+        ≡ both_choices width height
+        (map shown_line rows.now) (map shown_line columns.now)) }
     ensures length { IfOk result (λ found. IfSome found (λ chosen.
-        (length (shown_chosen chosen.0) ≡ height) × (length (shown_chosen chosen.1) ≡ width))) }
+        (length (shown_chosen chosen.0) ≡ height)
+        × (length (shown_chosen chosen.1) ≡ width))) }
 {
     let Some(row_lines) = choice(alloc, usize::from(height), rows)? else {
         return Ok(None);
@@ -68,7 +75,8 @@ fn both_choices<'a, 'b>(
     Ok(Some((row_lines, column_lines)))
 }
 
-/// The puzzle that these clue lines say.
+/// Parses the clue lines of both sections into a puzzle of these sizes. Fails with `BadNumber` at
+/// the first line that is not a clue.
 #[tactic(auto, using(crate::proofs::SaidLines::puzzle_of_parts, crate::proofs::SaidLines::puzzle_of_both))]
 fn puzzle_of(
     alloc: Global,
@@ -80,7 +88,9 @@ fn puzzle_of(
     requires size { IsSize width height }
     requires rows { length (shown_chosen rows.now) ≡ height }
     requires columns { length (shown_chosen columns.now) ≡ width }
-    ensures { Gives (λ p. p) result (puzzle_of LONGEST_SIDE width height (shown_chosen rows.now ++ shown_chosen columns.now)) }
+    ensures { Gives (λ p. p) result
+        (puzzle_of LONGEST_SIDE width height
+        (shown_chosen rows.now ++ shown_chosen columns.now)) }
 {
     let (rows, columns) = both_clues(alloc, true, rows, columns)?;
     Ok(puzzle_from_parts(width, height, rows, columns, Texts::none(), None))
@@ -94,6 +104,7 @@ fn mk_of(alloc: Global, lines: &[Line<'_>]) -> Result<Puzzle, TextFault>
         return Err(TextFault::NoSection);
     };
     let columns = before_hash(after);
+    // The first size is the height; the other order is for texts in which that doesn't fit.
     if let Some((row_lines, column_lines)) = both_choices(alloc, b, a, rows, columns)? {
         return puzzle_of(alloc, b, a, &row_lines, &column_lines);
     }
@@ -103,10 +114,11 @@ fn mk_of(alloc: Global, lines: &[Line<'_>]) -> Result<Puzzle, TextFault>
     Err(TextFault::BadCount)
 }
 
-/// What `read_mk` reads, line by line, whatever form the text has.
+/// Reads a text in the format `.mk`, whatever form it has: the general reader, which splits the
+/// text into lines. Its results are those of `read_mk`.
 pub fn plain_mk(alloc: Global, bytes: &[u8]) -> Result<Puzzle, TextFault>
     ensures answer { Gives (λ p. p) result (read_mk LONGEST_SIDE bytes.now) }
-    // `NoMemory` never stands in place of this fault.
+    // `NoMemory` is never returned in place of this fault.
     ensures too_long { LONGEST_PUZZLE < length bytes.now → result ≡ Err TextFault.TooLong }
 {
     let lines = text_lines(alloc, bytes)?;

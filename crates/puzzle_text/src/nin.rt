@@ -1,4 +1,4 @@
-//! The format .nin.
+//! The general reader for the format `.nin`.
 
 ghost use Rattle.std.specs.Prelude.{◌≡◌, ◌<◌, map, length, Err};
 ghost use Rattle.puzzle_text.specs.Answers.{Gives};
@@ -27,10 +27,11 @@ fn nin_of(alloc: Global, lines: &[Line<'_>]) -> Result<Puzzle, TextFault>
     Ok(likelier(a, b, clues)?)
 }
 
-/// What `read_nin` reads, line by line, whatever form the text has.
+/// Reads a text in the format `.nin`, whatever form it has: the general reader, which splits the
+/// text into lines. Its results are those of `read_nin`.
 pub fn plain_nin(alloc: Global, bytes: &[u8]) -> Result<Puzzle, TextFault>
     ensures answer { Gives (λ p. p) result (read_nin LONGEST_SIDE bytes.now) }
-    // `NoMemory` never stands in place of this fault.
+    // `NoMemory` is never returned in place of this fault.
     ensures too_long { LONGEST_PUZZLE < length bytes.now → result ≡ Err TextFault.TooLong }
 {
     let lines = text_lines(alloc, bytes)?;

@@ -1,4 +1,4 @@
-//! The format .non.
+//! The general reader for the format `.non`.
 
 ghost use Rattle.std.specs.Prelude.{◌≡◌, ◌<◌, map, length, Err, IfOk, OnOk};
 ghost use Rattle.std.specs.Str.{str_to_ascii_lowercase};
@@ -25,7 +25,8 @@ use crate::sizes::{size_of, text_lines};
 use grid_core::{Clue, LONGEST_SIDE, Puzzle};
 use std::alloc::Global;
 
-/// The lesser of two numbers that may be missing.
+/// Returns the lesser of two numbers, of which a missing one is ignored; `None` if both are
+/// missing.
 fn least(first: Option<u32>, second: Option<u32>) -> Option<u32>
     ensures { result ≡ least first second }
 {
@@ -36,7 +37,7 @@ fn least(first: Option<u32>, second: Option<u32>) -> Option<u32>
     }
 }
 
-/// The least of the numbers that are there.
+/// Returns the least of these numbers, ignoring missing ones; `None` if all are missing.
 fn least_of(numbers: &[Option<u32>]) -> Option<u32>
     ensures { result ≡ least_of numbers.now }
 {
@@ -46,9 +47,10 @@ fn least_of(numbers: &[Option<u32>]) -> Option<u32>
     }
 }
 
-/// The number of the second line with a keyword, if there is one.
+/// Returns the number of the second line with the keyword `word`, if there is one.
 fn second_number(lines: &[KeywordLine<'_>], word: &[u8]) -> Option<u32>
-    ensures { result ≡ number_of_line (second_with (str_to_ascii_lowercase word.now) (map shown_keyword lines.now)) }
+    ensures { result ≡ number_of_line
+        (second_with (str_to_ascii_lowercase word.now) (map shown_keyword lines.now)) }
 {
     match nth_with(word, 1, lines) {
         Some(found) => Some(found.line.number),
@@ -56,12 +58,14 @@ fn second_number(lines: &[KeywordLine<'_>], word: &[u8]) -> Option<u32>
     }
 }
 
-/// The least number of a line that stands in no section, or of a text field's first line whose text is too
-/// long.
+/// Returns the number that `BadLine` is to report: the least of `stray`, which is that of the first
+/// stray line, and of those of the text fields' first lines whose texts are too long.
 #[tactic(auto, using(crate::proofs::FeedsLemmas::short_lines))]
 fn bad_line(keyword_lines: &[KeywordLine<'_>], stray: Option<u32>) -> Option<u32>
     ensures { result ≡ bad_line stray (map shown_keyword keyword_lines.now) }
 {
+    // A text is a part of its line, so if all lines are short enough, so are all texts, and no
+    // field has to be looked for.
     if are_short(keyword_lines) {
         return stray;
     }
@@ -69,7 +73,7 @@ fn bad_line(keyword_lines: &[KeywordLine<'_>], stray: Option<u32>) -> Option<u32
     least(stray, least_of(&long))
 }
 
-/// The number of the first line that repeats a keyword which may stand once only.
+/// Returns the number of the first line that repeats `width`, `height`, `rows` or `columns`.
 fn repeated(lines: &[KeywordLine<'_>]) -> Option<u32>
     ensures { result ≡ repeated (map shown_keyword lines.now) }
 {
@@ -81,12 +85,13 @@ fn repeated(lines: &[KeywordLine<'_>]) -> Option<u32>
     ])
 }
 
-/// Checks that no line is out of place, no text is too long, and no keyword that may stand once only is
-/// repeated.
+/// Checks that there is no stray line, that no field's text is too long, and that no keyword is
+/// repeated that may occur only once. `stray` is the number of the first stray line.
 #[tactic(auto, using(crate::proofs::FeedsLemmas::lawful_texts))]
 fn check_lines(keyword_lines: &[KeywordLine<'_>], stray: Option<u32>) -> Result<(), TextFault>
     requires { HaveNoFeed (map shown_keyword keyword_lines.now) }
-    ensures answer { Gives (λ done. done) result (check_lines stray (map shown_keyword keyword_lines.now)) }
+    ensures answer { Gives (λ done. done) result
+        (check_lines stray (map shown_keyword keyword_lines.now)) }
     ensures texts { OnOk result (IsDescription (texts_of (map shown_keyword keyword_lines.now))) }
 {
     if let Some(number) = bad_line(keyword_lines, stray) {
@@ -98,9 +103,11 @@ fn check_lines(keyword_lines: &[KeywordLine<'_>], stray: Option<u32>) -> Result<
     Ok(())
 }
 
-/// The width and the height.
+/// Parses the width and the height. Fails with `NoSize` if one of the two lines is missing, and
+/// otherwise with `BadSize` if one of the sizes is out of range.
 fn sizes_of(lines: &[KeywordLine<'_>]) -> Result<(u16, u16), TextFault>
-    ensures sizes { Gives (λ sizes. sizes) result (sizes_of LONGEST_SIDE (map shown_keyword lines.now)) }
+    ensures sizes { Gives (λ sizes. sizes) result
+        (sizes_of LONGEST_SIDE (map shown_keyword lines.now)) }
     ensures range { IfOk result (λ sizes. IsSize sizes.0 sizes.1) }
 {
     let Some(width) = nth_with(b"width", 0, lines) else {
@@ -112,7 +119,8 @@ fn sizes_of(lines: &[KeywordLine<'_>]) -> Result<(u16, u16), TextFault>
     Ok((size_of(rest(width))?, size_of(rest(height))?))
 }
 
-/// Whether the rows section stands before the columns section.
+/// Reports whether the rows section is before the columns section. Fails with `NoSection` if one of
+/// them is missing.
 fn rows_first(lines: &[KeywordLine<'_>]) -> Result<bool, TextFault>
     ensures { Gives (λ first. first) result (rows_first (map shown_keyword lines.now)) }
 {
@@ -125,23 +133,26 @@ fn rows_first(lines: &[KeywordLine<'_>]) -> Result<bool, TextFault>
     Ok(rows.line.number < columns.line.number)
 }
 
-/// The sizes, and whether the rows section stands before the columns section, if no keyword line is at fault.
+/// Checks the keyword lines. Returns the width and the height, and whether the rows section is
+/// before the columns section. `stray` is the number of the first stray line.
 pub(crate) fn outline_of(
     keyword_lines: &[KeywordLine<'_>],
     stray: Option<u32>,
 ) -> Result<((u16, u16), bool), TextFault>
     requires { HaveNoFeed (map shown_keyword keyword_lines.now) }
-    ensures answer { Gives (λ outline. outline) result (outline_of LONGEST_SIDE stray (map shown_keyword keyword_lines.now)) }
+    ensures answer { Gives (λ outline. outline) result
+        (outline_of LONGEST_SIDE stray (map shown_keyword keyword_lines.now)) }
     ensures range { IfOk result (λ outline. IsSize outline.0.0 outline.0.1) }
     ensures texts { OnOk result (IsDescription (texts_of (map shown_keyword keyword_lines.now))) }
 {
+    // In the order of `TextFault`, which decides the fault that is reported.
     let sizes = sizes_of(keyword_lines)?;
     let rows_first = rows_first(keyword_lines)?;
     check_lines(keyword_lines, stray)?;
     Ok((sizes, rows_first))
 }
 
-/// The puzzle of these clues, with the goal and the texts that the keyword lines say.
+/// Builds the puzzle of these sizes and clues, with the goal and the texts from the keyword lines.
 pub(crate) fn puzzle_of_clues(
     alloc: Global,
     keyword_lines: &[KeywordLine<'_>],
@@ -154,7 +165,8 @@ pub(crate) fn puzzle_of_clues(
     requires clues { HasClueForEachLine width height rows.items columns.items }
     requires texts { IsDescription (texts_of (map shown_keyword keyword_lines.now)) }
     ensures { Gives (λ p. p) result
-        (puzzle_of_clues (width, height) (rows.items, columns.items) (map shown_keyword keyword_lines.now)) }
+        (puzzle_of_clues (width, height) (rows.items, columns.items)
+        (map shown_keyword keyword_lines.now)) }
 {
     let count = usize::from(width) * usize::from(height);
     let goal = goal_of(alloc, count, nth_with(b"goal", 0, keyword_lines))?;
@@ -162,14 +174,17 @@ pub(crate) fn puzzle_of_clues(
     Ok(puzzle_from_parts(width, height, rows, columns, texts, goal))
 }
 
-/// The puzzle that a text says by its keyword lines and by its sections.
+/// Builds the puzzle of a text from its keyword lines and its sections. Fails with the text's first
+/// fault.
 fn puzzle_said(
     alloc: Global,
     keyword_lines: &[KeywordLine<'_>],
     sections: &Sections<'_>,
 ) -> Result<Puzzle, TextFault>
     requires { HaveNoFeed (map shown_keyword keyword_lines.now) }
-    ensures { Gives (λ p. p) result (puzzle_said LONGEST_SIDE (shown_sections sections.now) (map shown_keyword keyword_lines.now)) }
+    ensures { Gives (λ p. p) result
+        (puzzle_said LONGEST_SIDE (shown_sections sections.now)
+        (map shown_keyword keyword_lines.now)) }
 {
     let ((width, height), rows_first) = outline_of(keyword_lines, sections.stray)?;
     let rows = clue_lines_of(alloc, height, &sections.rows)?;
@@ -188,11 +203,12 @@ fn non_of(alloc: Global, lines: &[Line<'_>]) -> Result<Puzzle, TextFault>
     puzzle_said(alloc, &keyword_lines, &sections)
 }
 
-/// What `read_non` reads, line by line, whatever form the text has.
+/// Reads a text in the format `.non`, whatever form it has: the general reader, which splits the
+/// text into lines. Its results are those of `read_non`.
 #[tactic(auto, using(crate::proofs::FeedsLemmas::lines_have_no_feed))]
 pub fn plain_non(alloc: Global, bytes: &[u8]) -> Result<Puzzle, TextFault>
     ensures answer { Gives (λ p. p) result (read_non LONGEST_SIDE bytes.now) }
-    // `NoMemory` never stands in place of this fault.
+    // `NoMemory` is never returned in place of this fault.
     ensures too_long { LONGEST_PUZZLE < length bytes.now → result ≡ Err TextFault.TooLong }
 {
     let lines = text_lines(alloc, bytes)?;

@@ -1,4 +1,4 @@
-//! The numbers of a line.
+//! Parses the numbers of a line. They are in its pieces, which commas, spaces and tabs separate.
 
 ghost use Rattle.std.specs.Prelude.{◌≡◌, ◌==◌, ◌||◌, ◌<◌, ◌≤◌, ◌^◌, [], ◌∷◌, length, false, slice_index, IfSome, IfNone, None};
 ghost use Rattle.std.specs.List.{position};
@@ -6,7 +6,8 @@ ghost use Rattle.std.specs.Option.{option_map};
 ghost use Rattle.puzzle_text.specs.ClueLines.{numbers_within};
 ghost use Rattle.puzzle_text.specs.Numbers.{is_separator, number_within, pieces};
 
-/// The number that a piece writes in decimal, if it is no more than the limit.
+/// Returns the number that a piece is in decimal digits, or `None` if it is not a number or over
+/// `limit`. Leading zeros are accepted.
 #[tactic(auto, using(crate::proofs::NumbersLemmas::next_digits, crate::proofs::NumbersLemmas::next_value))]
 pub(crate) fn number_within(limit: u16, piece: &[u8]) -> Option<u16>
     ensures number { result ≡ number_within limit piece.now }
@@ -20,6 +21,8 @@ pub(crate) fn number_within(limit: u16, piece: &[u8]) -> Option<u16>
         if !digit.is_ascii_digit() {
             return None;
         }
+        // More digits never make a number less, so one over the limit can be refused at once,
+        // before `value` overflows.
         value = value * 10 + u32::from(*digit - b'0');
         if value > u32::from(limit) {
             return None;
@@ -34,7 +37,7 @@ fn is_separator(byte: u8) -> bool
     byte == b',' || byte == b' ' || byte == b'\t'
 }
 
-/// What is left of a line from the first byte that is no separator.
+/// Skips separators. Returns the line from its first byte on that is not a comma, a space or a tab.
 pub(crate) fn from_piece(mut text: &[u8]) -> &[u8]
     ensures pieces { pieces result.now ≡ pieces text.entry.now }
     ensures first { 0 < length result.now → is_separator (slice_index result.now 0) ≡ false }
@@ -55,7 +58,8 @@ fn first_separator(text: &[u8]) -> Option<usize>
     text.iter().position(|byte| is_separator(*byte))
 }
 
-/// The first piece of a line between commas, spaces and tabs, and what follows it.
+/// Returns the first piece of a line, and the text after the separator that follows it. `None` if
+/// the line has no piece.
 #[tactic(auto, using(crate::proofs::NumbersLemmas::first_piece, crate::proofs::NumbersLemmas::only_piece, std::proofs::lemmas::List::take_rest))]
 pub(crate) fn next_piece(text: &[u8]) -> Option<(&[u8], &[u8])>
     ensures none { IfNone result (pieces text.now ≡ []) }
@@ -72,8 +76,8 @@ pub(crate) fn next_piece(text: &[u8]) -> Option<(&[u8], &[u8])>
     }
 }
 
-/// The number that the first piece writes in decimal, if it is no more than the limit, and what follows the
-/// piece.
+/// Parses the piece at the start of `text` as a decimal number. Returns it, and the text after the
+/// separator that follows the piece. `None` if the piece is not a number or is over `limit`.
 #[tactic(auto, using(crate::proofs::NumbersLemmas::number_refused, crate::proofs::NumbersLemmas::next_digits, crate::proofs::NumbersLemmas::next_value))]
 pub(crate) fn first_number(limit: u16, text: &[u8]) -> Option<(u16, &[u8])>
     requires some { 0 < length text.now }

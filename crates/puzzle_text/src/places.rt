@@ -1,4 +1,4 @@
-//! Which section of a .non text each line stands in.
+//! Splits the lines of a `.non` text into its sections.
 
 ghost use Rattle.std.specs.Prelude.{◌≡◌, map, length, IfOk, OnOk};
 ghost use Rattle.std.specs.Str.{str_to_ascii_lowercase};
@@ -14,17 +14,17 @@ use crate::sections::{Chosen, choice};
 use grid_core::NoMemory;
 use std::alloc::Global;
 
-/// Which section a line stands in.
+/// The section that the lines below a keyword line belong to.
 #[derive(Clone, Copy)]
 pub(crate) enum Under {
     Rows,
     Columns,
-    /// Neither.
+    /// Neither section.
     Other,
 }
 
-/// The lines of both sections, and the number of the first line that says something and stands in neither.
-/// Keyword lines and comments stand in none.
+/// The lines of both sections, and the number of the first stray line: one that is not blank and
+/// belongs to neither section. Keyword lines and comments are in no section, and not stray.
 #[derive(Drop)]
 pub(crate) struct Sections<'a> {
     pub rows: Vec<Line<'a>>,
@@ -32,7 +32,7 @@ pub(crate) struct Sections<'a> {
     pub stray: Option<u32>,
 }
 
-/// Which section a keyword opens.
+/// Returns the section that a keyword begins.
 pub(crate) fn opened_by(word: &[u8]) -> Under
     ensures { IsUnder (str_to_ascii_lowercase word.now) result }
 {
@@ -46,9 +46,11 @@ pub(crate) fn opened_by(word: &[u8]) -> Under
 }
 
 impl<'a> Sections<'a> {
-    /// Adds a line at the end of its section, or notes its number if it stands in none.
+    /// Appends a line to its section. If it belongs to none, records its number as that of the
+    /// first stray line, unless it is blank or an earlier line is stray.
     fn put(&mut self, under: Under, line: Line<'a>) -> Result<(), NoMemory>
-        ensures { OnOk result (shown_sections self.new ≡ with_line (shown_sections self.old) under (shown_line line.entry)) }
+        ensures { OnOk result (shown_sections self.new
+            ≡ with_line (shown_sections self.old) under (shown_line line.entry)) }
     {
         match under {
             Under::Rows => self.rows.push(line)?,
@@ -63,11 +65,13 @@ impl<'a> Sections<'a> {
     }
 }
 
-/// The sections of a text.
+/// Splits the lines of a text into its sections.
 #[tactic(auto, using(crate::proofs::SectionsLemmas::nothing_above))]
 pub(crate) fn sections_of<'a>(alloc: Global, lines: &[Line<'a>]) -> Result<Sections<'a>, NoMemory>
-    ensures { IfOk result (λ found. shown_sections found ≡ sections_of (placed (map shown_line lines.now))) }
+    ensures { IfOk result
+        (λ found. shown_sections found ≡ sections_of (placed (map shown_line lines.now))) }
 {
+    // Each list gets capacity for all lines, so that none has to grow.
     let mut sections = Sections {
         rows: Vec::with_capacity(alloc, lines.len())?,
         columns: Vec::with_capacity(alloc, lines.len())?,
@@ -77,6 +81,7 @@ pub(crate) fn sections_of<'a>(alloc: Global, lines: &[Line<'a>]) -> Result<Secti
     for line in lines {
         let word = keyword(line);
         if !word.is_empty() {
+            // Each keyword line ends the section above it, even if it begins none.
             place = opened_by(word);
         } else if !is_hash(line) {
             sections.put(place, *line)?;
@@ -85,13 +90,14 @@ pub(crate) fn sections_of<'a>(alloc: Global, lines: &[Line<'a>]) -> Result<Secti
     Ok(sections)
 }
 
-/// The clue lines of a section.
+/// Returns the `count` clue lines of a section. Fails with `BadCount` if it doesn't have as many.
 pub(crate) fn clue_lines_of<'a, 'b>(
     alloc: Global,
     count: u16,
     section: &'b [Line<'a>],
 ) -> Result<Chosen<'a, 'b>, TextFault>
-    ensures answer { Gives (λ chosen. shown_chosen chosen) result (clue_lines_of count (map shown_line section.now)) }
+    ensures answer { Gives (λ chosen. shown_chosen chosen) result
+        (clue_lines_of count (map shown_line section.now)) }
     ensures length { IfOk result (λ chosen. length (shown_chosen chosen) ≡ count) }
 {
     match choice(alloc, usize::from(count), section)? {

@@ -1,5 +1,6 @@
-//! Readers of texts in their usual form, on one walk over the bytes. What they don't take in full, a fault or
-//! an odd line, they leave to the plain readers.
+//! The fast path: readers for texts in their usual form, which parse a text's bytes in one pass,
+//! with the parsers of `usual_lines` for clue lines. What a fast reader doesn't accept, be it a
+//! fault or an unusual line, the general reader reads from the start.
 
 ghost use Rattle.std.specs.Prelude.{◌≡◌, ◌≤◌, length, map, IfOk, IfSome, IsSome, Ok};
 ghost use Rattle.puzzle_text.specs.Mk.{read_mk};
@@ -19,17 +20,22 @@ use crate::usual_parts::{Parts, parts_of};
 use grid_core::{LONGEST_SIDE, Puzzle, Texts};
 use std::alloc::Global;
 
-/// The puzzle that the parts of a .non text say, if they say one.
+/// Builds the puzzle from the keyword lines and clues that the fast path collected from a `.non`
+/// text. Any error sends the text to the general reader, which finds the fault to be reported.
 fn puzzle_said(alloc: Global, parts: Parts<'_>) -> Result<Puzzle, TextFault>
     requires { HaveNoFeed (map shown_keyword parts.keyword_lines.items) }
-    ensures { IfOk result (λ p. (sections : Sections) → HaveClues sections parts.entry.rows.items parts.entry.columns.items
-        → puzzle_said LONGEST_SIDE sections (map shown_keyword parts.entry.keyword_lines.items) ≡ Ok p) }
+    ensures { IfOk result (λ p. (sections : Sections)
+        → HaveClues sections parts.entry.rows.items parts.entry.columns.items
+        → puzzle_said LONGEST_SIDE sections
+        (map shown_keyword parts.entry.keyword_lines.items)
+        ≡ Ok p) }
 {
     let Parts {
         keyword_lines,
         rows,
         columns,
     } = parts;
+    // There is no stray line, since the fast path accepts none.
     let ((width, height), _) = outline_of(&keyword_lines, None)?;
     if rows.len() != usize::from(height) || columns.len() != usize::from(width) {
         return Err(TextFault::BadCount);
@@ -37,8 +43,10 @@ fn puzzle_said(alloc: Global, parts: Parts<'_>) -> Result<Puzzle, TextFault>
     puzzle_of_clues(alloc, &keyword_lines, width, height, rows, columns)
 }
 
-/// Reads a .non text in its usual form: all keyword lines but `rows` and `columns` in any order, the sizes
-/// above the sections. If it answers, the answer is that of `read_non`.
+/// Reads a `.non` text in its usual form: `height` is above `rows` and `width` above `columns`, and
+/// the clue lines of a section follow its keyword line, with no other line before or between them.
+/// All other keyword lines may be in any order. If it returns a puzzle, `read_non` returns the
+/// same.
 #[tactic(auto, using(crate::proofs::UsualLines::kept_clean))]
 pub fn quick_non(alloc: Global, bytes: &[u8]) -> Option<Puzzle>
     ensures answer { IfSome result (λ p. read_non LONGEST_SIDE bytes.now ≡ Ok p) }
@@ -50,8 +58,9 @@ pub fn quick_non(alloc: Global, bytes: &[u8]) -> Option<Puzzle>
     puzzle_said(alloc, parts_of(alloc, bytes)?).ok()
 }
 
-/// Reads a .mk text in its usual form: the height first, and no blank line. If it answers, the answer is
-/// that of `read_mk`.
+/// Reads a `.mk` text in its usual form: the height comes first, the line between the sections is
+/// just `#`, and there is no other line than those of the sizes and the clues. If it returns a
+/// puzzle, `read_mk` returns the same.
 pub fn quick_mk(alloc: Global, bytes: &[u8]) -> Option<Puzzle>
     ensures answer { IfSome result (λ p. read_mk LONGEST_SIDE bytes.now ≡ Ok p) }
     ensures short { IsSome result → length bytes.now ≤ LONGEST_PUZZLE }
@@ -68,7 +77,8 @@ pub fn quick_mk(alloc: Global, bytes: &[u8]) -> Option<Puzzle>
     Some(puzzle_from_parts(width, height, rows, columns, Texts::none(), None))
 }
 
-/// Reads a .nin text in its usual form: no blank line. If it answers, the answer is that of `read_nin`.
+/// Reads a `.nin` text in its usual form: there is no other line than those of the sizes and the
+/// clues. If it returns a puzzle, `read_nin` returns the same.
 pub fn quick_nin(alloc: Global, bytes: &[u8]) -> Option<Puzzle>
     ensures answer { IfSome result (λ p. read_nin LONGEST_SIDE bytes.now ≡ Ok p) }
     ensures short { IsSome result → length bytes.now ≤ LONGEST_PUZZLE }

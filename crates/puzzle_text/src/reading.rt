@@ -1,4 +1,5 @@
-//! The readers of the three formats: the quick one first, and what that doesn't take the plain one.
+//! The readers of the three formats. Each tries the fast path first, and the general reader for
+//! what that doesn't accept.
 
 ghost use Rattle.std.specs.Prelude.{◌≡◌, ◌<◌, length, Err};
 ghost use Rattle.puzzle_text.specs.Answers.{Gives};
@@ -15,11 +16,12 @@ use crate::quick::{quick_mk, quick_nin, quick_non};
 use grid_core::{LONGEST_SIDE, Puzzle};
 use std::alloc::Global;
 
-/// Reads a puzzle in the format .non: keyword lines for the texts, the sizes and the goal,
-/// and a section of clue lines each under `rows` and `columns`.
+/// Reads a puzzle in the format `.non`: keyword lines for the texts, the sizes and the goal, and a
+/// section of clue lines each below `rows` and `columns`. A text with faults fails with the first
+/// of them in the order of `TextFault`.
 pub fn read_non(alloc: Global, bytes: &[u8]) -> Result<Puzzle, TextFault>
     ensures answer { Gives (λ p. p) result (read_non LONGEST_SIDE bytes.now) }
-    // `NoMemory` never stands in place of this fault.
+    // `NoMemory` is never returned in place of this fault.
     ensures too_long { LONGEST_PUZZLE < length bytes.now → result ≡ Err TextFault.TooLong }
 {
     match quick_non(alloc, bytes) {
@@ -28,12 +30,14 @@ pub fn read_non(alloc: Global, bytes: &[u8]) -> Result<Puzzle, TextFault>
     }
 }
 
-/// Reads a puzzle in the format .mk: a line with the two sizes, the clue lines of the rows,
-/// a line that begins with `#`, those of the columns. The first size is the height,
-/// unless only the other order has clue lines in both sections.
+/// Reads a puzzle in the format `.mk`: a line with the two sizes, the clue lines of the rows, a
+/// line that begins with `#`, and the clue lines of the columns; a further line that begins with
+/// `#` and all lines below it are ignored. The first size is the height, unless only with the other
+/// order both sections have as many clue lines as their size. A text with faults fails with the
+/// first of them in the order of `TextFault`.
 pub fn read_mk(alloc: Global, bytes: &[u8]) -> Result<Puzzle, TextFault>
     ensures answer { Gives (λ p. p) result (read_mk LONGEST_SIDE bytes.now) }
-    // `NoMemory` never stands in place of this fault.
+    // `NoMemory` is never returned in place of this fault.
     ensures too_long { LONGEST_PUZZLE < length bytes.now → result ≡ Err TextFault.TooLong }
 {
     match quick_mk(alloc, bytes) {
@@ -42,12 +46,13 @@ pub fn read_mk(alloc: Global, bytes: &[u8]) -> Result<Puzzle, TextFault>
     }
 }
 
-/// Reads a puzzle in the format .nin: a line with the two sizes, then the clue lines of the rows and
-/// of the columns. The first size is the width, unless only the other order lets each clue fit its line
-/// and gives rows and columns the same sum.
+/// Reads a puzzle in the format `.nin`: a line with the two sizes, then the clue lines of the rows
+/// and of the columns. The first size is the width, unless only with the other order each clue fits
+/// its line and the row clues add up to as many filled cells as the column clues. A text with
+/// faults fails with the first of them in the order of `TextFault`.
 pub fn read_nin(alloc: Global, bytes: &[u8]) -> Result<Puzzle, TextFault>
     ensures answer { Gives (λ p. p) result (read_nin LONGEST_SIDE bytes.now) }
-    // `NoMemory` never stands in place of this fault.
+    // `NoMemory` is never returned in place of this fault.
     ensures too_long { LONGEST_PUZZLE < length bytes.now → result ≡ Err TextFault.TooLong }
 {
     match quick_nin(alloc, bytes) {

@@ -1,4 +1,4 @@
-//! A list of clues as a puzzle of given sizes.
+//! Decides which of the two sizes of a `.nin` text is the width.
 
 ghost use Rattle.std.specs.Prelude.{◌≡◌, ◌+◌, ◌≤◌, ◌++◌, length, take, drop, true, IfOk};
 ghost use Rattle.grid_core.specs.Nonogram.{plain};
@@ -10,7 +10,8 @@ use crate::fitting::{sum_of_both, sum_within};
 use crate::parts::puzzle_from_parts;
 use grid_core::{Clue, NoMemory, Puzzle, Texts};
 
-/// Whether each clue fits its line and the rows have as many filled cells as the columns.
+/// Reports whether a puzzle of these sizes and clues is admissible: each clue fits its line, and
+/// the row clues add up to as many filled cells as the column clues.
 fn are_admissible(width: u16, height: u16, rows: &[Clue], columns: &[Clue]) -> bool
     requires rows { length rows.now ≤ 65535 }
     requires columns { length columns.now ≤ 65535 }
@@ -21,7 +22,8 @@ fn are_admissible(width: u16, height: u16, rows: &[Clue], columns: &[Clue]) -> b
     in_rows.is_some() && in_rows == in_columns
 }
 
-/// Whether the puzzle of these clues, the first of which are its rows, is admissible.
+/// Reports whether the puzzle of these sizes is admissible whose row clues are the first `height`
+/// clues, and whose column clues are the others.
 fn is_admissible(width: u16, height: u16, clues: &[Clue]) -> bool
     requires length { length clues.now ≡ width + height }
     ensures { result ≡ is_admissible (reading width height clues.now) }
@@ -30,7 +32,8 @@ fn is_admissible(width: u16, height: u16, clues: &[Clue]) -> bool
     are_admissible(width, height, rows, columns)
 }
 
-/// The puzzle of these clues, the first of which are its rows.
+/// Returns the puzzle of these sizes whose row clues are the first `height` clues, and whose column
+/// clues are the others. Fails with `NoMemory` if an allocation fails.
 fn reading(width: u16, height: u16, clues: Vec<Clue>) -> Result<Puzzle, NoMemory>
     requires size { IsSize width height }
     requires count { length clues.items ≡ width + height }
@@ -41,7 +44,9 @@ fn reading(width: u16, height: u16, clues: Vec<Clue>) -> Result<Puzzle, NoMemory
     Ok(puzzle_from_parts(width, height, rows, columns, Texts::none(), None))
 }
 
-/// The sizes in the order width and height, unless only the other order is admissible.
+/// Returns the puzzle of width `a` and height `b`, unless only the puzzle of width `b` and height
+/// `a` is admissible. A puzzle is admissible if each clue fits its line and the row clues add up to
+/// as many filled cells as the column clues.
 pub(crate) fn likelier(a: u16, b: u16, clues: Vec<Clue>) -> Result<Puzzle, NoMemory>
     requires size { IsSize a b }
     requires count { length clues.items ≡ a + b }
@@ -54,12 +59,15 @@ pub(crate) fn likelier(a: u16, b: u16, clues: Vec<Clue>) -> Result<Puzzle, NoMem
     }
 }
 
-/// Whether the puzzle would be admissible with its sizes exchanged.
+/// Reports whether the puzzle would be admissible with its sizes exchanged: its rows would be the
+/// first `width` of all clues, the row clues before the column clues.
 fn is_other_admissible(width: u16, height: u16, rows: &[Clue], columns: &[Clue]) -> bool
     requires rows { length rows.now ≡ height }
     requires columns { length columns.now ≡ width }
     ensures { result ≡ is_admissible (reading height width (rows.now ++ columns.now)) }
 {
+    // The other puzzle's rows are the first and the third of these slices, its columns the second
+    // and the fourth. So the clues don't have to be copied into one list.
     let (first, second) = rows.split_at(usize::from(width.min(height)));
     let (third, fourth) = columns.split_at(usize::from(width.saturating_sub(height)));
     let in_rows = sum_of_both(height, first, third);
@@ -67,7 +75,7 @@ fn is_other_admissible(width: u16, height: u16, rows: &[Clue], columns: &[Clue])
     in_rows.is_some() && in_rows == in_columns
 }
 
-/// Whether the puzzle is admissible with its own sizes.
+/// Reports whether the puzzle is admissible with its own sizes.
 fn is_own_admissible(puzzle: &Puzzle) -> bool
     ensures { result ≡ is_admissible puzzle.now }
 {
@@ -79,7 +87,7 @@ fn is_own_admissible(puzzle: &Puzzle) -> bool
     )
 }
 
-/// Whether the text in .nin would be read with the sizes exchanged.
+/// Reports whether the puzzle's text in `.nin` would be read with the sizes exchanged.
 pub(crate) fn is_ambiguous(puzzle: &Puzzle) -> bool
     ensures { result ≡ is_ambiguous puzzle.now }
 {

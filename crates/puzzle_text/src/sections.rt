@@ -1,4 +1,5 @@
-//! Which lines of a section are its clue lines.
+//! Selects the clue lines of a section. A blank line in it is either an empty clue or no clue line;
+//! the number of clue lines that the sizes require decides which.
 
 ghost use Rattle.std.specs.Prelude.{◌≡◌, ◌==◌, ◌<◌, ◌^◌, not, filter, map, length, count_by, drop, take, IfOk, IfSome};
 ghost use Rattle.std.specs.List.{list_all};
@@ -15,22 +16,24 @@ use std::alloc::Global;
 /// The clue lines of a section.
 #[derive(Drop)]
 pub(crate) enum Chosen<'a, 'b> {
-    /// A part of the section.
+    /// A slice of the section's lines.
     Part(&'b [Line<'a>]),
-    /// Its lines that aren't blank.
+    /// A list of the section's non-blank lines.
     Full(Vec<Line<'a>>),
 }
 
-/// How many lines aren't blank.
+/// Returns how many of the lines are not blank.
 fn full_count(section: &[Line<'_>]) -> usize
     ensures { result ≡ count_by (λ line. is_full (shown_line line)) section.now }
 {
     section.iter().filter(|line| !line.text.is_empty()).count()
 }
 
-/// The lines that aren't blank.
+/// Returns the lines that are not blank.
 fn full_lines<'a>(alloc: Global, section: &[Line<'a>]) -> Result<Vec<Line<'a>>, NoMemory>
-    ensures { IfOk result (λ full. full.items ≡ filter (λ line. is_full (shown_line line)) section.now) }
+    ensures { IfOk result
+        (λ full. full.items
+        ≡ filter (λ line. is_full (shown_line line)) section.now) }
 {
     let full = section
         .iter()
@@ -46,10 +49,12 @@ fn are_blank(lines: &[Line<'_>]) -> bool
     lines.iter().all(|line| line.text.is_empty())
 }
 
-/// The first `count` lines of a section, if all after them are blank.
+/// Returns the first `count` lines of a section, if it has as many and all lines after them are
+/// blank.
 #[tactic(auto, using(crate::proofs::SectionsLemmas::front_is))]
 fn front<'a, 'b>(count: usize, section: &'b [Line<'a>]) -> Option<&'b [Line<'a>]>
-    ensures { option_map (λ first. map shown_line first.now) result ≡ front count (map shown_line section.now) }
+    ensures { option_map (λ first. map shown_line first.now) result
+        ≡ front count (map shown_line section.now) }
 {
     if section.len() < count {
         return None;
@@ -61,16 +66,20 @@ fn front<'a, 'b>(count: usize, section: &'b [Line<'a>]) -> Option<&'b [Line<'a>]
     Some(first)
 }
 
-/// The `count` clue lines of a section: its lines that aren't blank, or else its first ones.
-/// The first ones are tried first: if all after them are blank, and `count` lines aren't, these are the same.
+/// Returns the `count` clue lines of a section: its non-blank lines, if there are `count` of them;
+/// otherwise its first `count` lines, if only blank lines follow; otherwise `None`. The second case
+/// is tested first, since it allocates nothing. If both cases apply they select the same lines.
 #[tactic(auto, using(crate::proofs::SectionsLemmas::front_chosen, crate::proofs::SectionsLemmas::choice_none, crate::proofs::SectionsLemmas::choice_full, crate::proofs::SectionsLemmas::lengths))]
 pub(crate) fn choice<'a, 'b>(
     alloc: Global,
     count: usize,
     section: &'b [Line<'a>],
 ) -> Result<Option<Chosen<'a, 'b>>, NoMemory>
-    ensures lines { IfOk result (λ found. option_map shown_chosen found ≡ choice count (map shown_line section.now)) }
-    ensures length { IfOk result (λ found. IfSome found (λ chosen. length (shown_chosen chosen) ≡ count)) }
+    ensures lines { IfOk result
+        (λ found. option_map shown_chosen found
+        ≡ choice count (map shown_line section.now)) }
+    ensures length { IfOk result
+        (λ found. IfSome found (λ chosen. length (shown_chosen chosen) ≡ count)) }
 {
     if let Some(first) = front(count, section) {
         return Ok(Some(Chosen::Part(first)));

@@ -1,4 +1,4 @@
-//! The lines of a puzzle's text, and the size line.
+//! Splits a puzzle's text into lines, and parses sizes.
 
 ghost use Rattle.std.specs.Prelude.{◌≡◌, ◌<◌, ◌≤◌, map, length, Err, IfOk};
 ghost use Rattle.std.specs.Option.{option_map};
@@ -15,10 +15,11 @@ use crate::numbers::{next_piece, number_within};
 use grid_core::LONGEST_SIDE;
 use std::alloc::Global;
 
-/// The lines of a puzzle's text, if it is not too long.
+/// Returns the lines of a puzzle's text. Fails with `TooLong` if it is longer than `LONGEST_PUZZLE`
+/// bytes.
 pub(crate) fn text_lines(alloc: Global, bytes: &[u8]) -> Result<Vec<Line<'_>>, TextFault>
     ensures answer { Gives (λ found. map shown_line found.items) result (text_lines bytes.now) }
-    // `NoMemory` never stands in place of this fault.
+    // `NoMemory` is never returned in place of this fault.
     ensures too_long { LONGEST_PUZZLE < length bytes.now → result ≡ Err TextFault.TooLong }
 {
     if bytes.len() > LONGEST_PUZZLE {
@@ -27,7 +28,7 @@ pub(crate) fn text_lines(alloc: Global, bytes: &[u8]) -> Result<Vec<Line<'_>>, T
     Ok(all_lines(alloc, bytes)?)
 }
 
-/// The size that a piece says.
+/// Parses a size. Fails with `BadSize` if it is not a number from 1 to `LONGEST_SIDE`.
 pub(crate) fn size_of(piece: &[u8]) -> Result<u16, TextFault>
     ensures size { Gives (λ size. size) result (size_of LONGEST_SIDE piece.now) }
     ensures range { IfOk result (λ size. (1 ≤ size) × (size ≤ LONGEST_SIDE)) }
@@ -38,11 +39,13 @@ pub(crate) fn size_of(piece: &[u8]) -> Result<u16, TextFault>
     }
 }
 
-/// The two numbers of a size line.
+/// Parses the two sizes of a size line. Fails with `NoSize` if it doesn't consist of exactly two
+/// pieces, and otherwise with `BadSize` if one of them is not a size.
 fn two_sizes(text: &[u8]) -> Result<(u16, u16), TextFault>
     ensures sizes { Gives (λ sizes. sizes) result (two_sizes LONGEST_SIDE (pieces text.now)) }
     ensures range { IfOk result (λ sizes. IsSize sizes.0 sizes.1) }
 {
+    // The pieces are counted before one is parsed, since `NoSize` comes before `BadSize`.
     let Some((first, after)) = next_piece(text) else {
         return Err(TextFault::NoSize);
     };
@@ -55,9 +58,10 @@ fn two_sizes(text: &[u8]) -> Result<(u16, u16), TextFault>
     Ok((size_of(first)?, size_of(second)?))
 }
 
-/// The first line that isn't blank, and the lines after it.
+/// Returns the first line that is not blank, and the lines after it.
 fn first_full<'a, 'b>(lines: &'b [Line<'a>]) -> Option<(Line<'a>, &'b [Line<'a>])>
-    ensures { option_map (λ found. (shown_line found.0, map shown_line found.1.now)) result ≡ first_full (map shown_line lines.now) }
+    ensures { option_map (λ found. (shown_line found.0, map shown_line found.1.now)) result
+        ≡ first_full (map shown_line lines.now) }
 {
     let mut rest = lines;
     while let [line, others @ ..] = rest {
@@ -69,11 +73,13 @@ fn first_full<'a, 'b>(lines: &'b [Line<'a>]) -> Option<(Line<'a>, &'b [Line<'a>]
     None
 }
 
-/// The sizes of the size line, and the lines after it.
+/// Parses the size line, which is the first line that is not blank. Returns the two sizes in the
+/// order of that line, and the lines after it.
 pub(crate) fn size_line<'a, 'b>(
     lines: &'b [Line<'a>],
 ) -> Result<((u16, u16), &'b [Line<'a>]), TextFault>
-    ensures answer { Gives (λ found. (found.0, map shown_line found.1.now)) result (size_line LONGEST_SIDE (map shown_line lines.now)) }
+    ensures answer { Gives (λ found. (found.0, map shown_line found.1.now)) result
+        (size_line LONGEST_SIDE (map shown_line lines.now)) }
     ensures range { IfOk result (λ found. IsSize found.0.0 found.0.1) }
 {
     let Some((line, others)) = first_full(lines) else {

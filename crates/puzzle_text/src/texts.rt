@@ -1,11 +1,12 @@
-//! Texts that grow.
+//! Appends to texts.
 
 ghost use Rattle.std.specs.Prelude.{◌≡◌, ◌++◌, OnErr, OnOk, decimal};
 
 use grid_core::NoMemory;
 use itoa::Buffer;
 
-/// Adds the bytes to the end of the text. `NoMemory` if it can't grow: then it is as it was.
+/// Appends the bytes to the text. Fails with `NoMemory` if an allocation fails; the text is then
+/// unchanged.
 pub fn push_bytes(text: &mut Vec<u8>, bytes: &[u8]) -> Result<(), NoMemory>
     ensures ok { OnOk result (text.new.items ≡ text.old.items ++ bytes.now) }
     ensures err { OnErr result (text.new.items ≡ text.old.items) }
@@ -14,8 +15,8 @@ pub fn push_bytes(text: &mut Vec<u8>, bytes: &[u8]) -> Result<(), NoMemory>
     Ok(())
 }
 
-/// Adds the number to the end of the text, in decimal digits with no leading zeros.
-/// `NoMemory` if it can't grow: then it is as it was.
+/// Appends the number to the text, in decimal digits without leading zeros. Fails with `NoMemory`
+/// if an allocation fails; the text is then unchanged.
 pub fn push_number(text: &mut Vec<u8>, number: u64) -> Result<(), NoMemory>
     ensures ok { OnOk result (text.new.items ≡ text.old.items ++ decimal number) }
     ensures err { OnErr result (text.new.items ≡ text.old.items) }

@@ -1,4 +1,5 @@
-//! Lines in their usual form: numbers with a comma or a space between each two, and LF or CR LF behind them.
+//! The fast path's parsers of lines in their usual form: numbers with a single comma or space
+//! between them, and LF or CR LF at the end of each line, the last one included.
 
 ghost use Rattle.std.specs.Prelude.{◌≡◌, ◌+◌, ◌-◌, ◌<◌, ◌≤◌, ◌∷◌, [], length, true, IfSome, IsTrue};
 ghost use Rattle.std.specs.Char.{is_ascii_digit};
@@ -8,7 +9,7 @@ use crate::clue_lines::room_for;
 use grid_core::{Clue, LONGEST_SIDE};
 use std::alloc::Global;
 
-/// The value of a digit.
+/// Returns the value of a decimal digit.
 fn digit(byte: u8) -> Option<u8>
     ensures { IfSome result (λ value. (is_ascii_digit byte ≡ true) × (value ≡ byte - 48)) }
 {
@@ -19,7 +20,7 @@ fn digit(byte: u8) -> Option<u8>
     }
 }
 
-/// The number that one digit writes, if it isn't 0.
+/// Returns the number that one digit stands for, if it is not 0.
 fn of_one(a: u8) -> Option<u8>
     ensures number { IfSome result (IsNumeral (a ∷ [])) }
     ensures small { IfSome result (λ number. number ≤ 9) }
@@ -30,14 +31,15 @@ fn of_one(a: u8) -> Option<u8>
     }
 }
 
-/// The number that two digits write, if the first isn't 0.
+/// Returns the number that two digits stand for, if the first is not 0.
 fn of_two(a: u8, b: u8) -> Option<u8>
     ensures { IfSome result (IsNumeral (a ∷ b ∷ [])) }
 {
     Some(of_one(a)? * 10 + digit(b)?)
 }
 
-/// The number up to 256 that three digits write, if the first isn't 0.
+/// Returns the number that three digits stand for, if the first is not 0 and the number is at most
+/// 256.
 fn of_three(a: u8, b: u8, c: u8) -> Option<u16>
     ensures { IfSome result (IsNumeral (a ∷ b ∷ c ∷ [])) }
 {
@@ -49,14 +51,16 @@ fn of_three(a: u8, b: u8, c: u8) -> Option<u16>
     }
 }
 
-/// The number from 1 to 256 that a text begins with, of up to three digits, the byte behind it, and what
-/// follows that byte.
+/// Parses a number from 1 to 256 at the start of a text, without leading zeros. Returns it, the
+/// byte after it, and the text after that byte.
 #[inline(always)]
 fn number(text: &[u8]) -> Option<(u16, u8, &[u8])>
-    ensures number { IfSome result (λ found. BeginsWithNumber text.now found.0 (found.1 ∷ found.2.now)) }
+    ensures number { IfSome result
+        (λ found. BeginsWithNumber text.now found.0 (found.1 ∷ found.2.now)) }
     ensures shorter { IfSome result (λ found. length found.2.now < length text.now) }
 {
-    // Separators and the endings of lines are less than any digit.
+    // Separators and the bytes of line endings are less than any digit, so that one comparison
+    // finds the end of the number. Which of them it is, the caller checks.
     match text {
         [a, end, ..] if *end < b'0' => Some((u16::from(of_one(*a)?), *end, &text[2..])),
         [a, b, end, rest @ ..] if *end < b'0' => Some((u16::from(of_two(*a, *b)?), *end, rest)),
@@ -65,7 +69,8 @@ fn number(text: &[u8]) -> Option<(u16, u8, &[u8])>
     }
 }
 
-/// What follows the ending of a line of which this is the first byte.
+/// Returns the text after a line ending that starts with the byte `end` and continues in `rest`.
+/// `None` if that is neither LF nor CR LF.
 fn below(end: u8, rest: &[u8]) -> Option<&[u8]>
     ensures ends { IfSome result (λ below. EndsLine (end ∷ rest.now) below.now) }
     ensures within { IfSome result (λ below. length below.now ≤ length rest.now) }
@@ -79,14 +84,16 @@ fn below(end: u8, rest: &[u8]) -> Option<&[u8]>
     }
 }
 
-/// Whether a byte is a comma or a space.
+/// Reports whether a byte is a comma or a space.
 fn is_separator(byte: u8) -> bool
     ensures { IsTrue result → IsSeparator byte }
 {
     byte == b',' || byte == b' '
 }
 
-/// Makes an empty clue the one that the first line says. Returns what follows the line.
+/// Parses the first line of `text` into `clue`, which has to be empty. Returns the text after that
+/// line, or `None` if the line is no clue in its usual form; `clue` may then have some of its
+/// numbers.
 fn read_clue_line<'t>(clue: &mut Clue, text: &'t [u8]) -> Option<&'t [u8]>
     requires { clue.old ≡ [] }
     ensures clue { IfSome result (λ below. SaysClue text.now clue.new below.now) }
@@ -98,7 +105,8 @@ fn read_clue_line<'t>(clue: &mut Clue, text: &'t [u8]) -> Option<&'t [u8]>
         if end == b'\n' {
             return Some(after);
         }
-        // Behind a separator stand a digit and a byte more.
+        // A separator is followed by a number and one more byte. With fewer than two bytes after
+        // it, it is refused, since it is no line ending either.
         match after {
             [_, _, ..] if is_separator(end) => rest = after,
             _ => return below(end, after),
@@ -110,11 +118,13 @@ fn read_clue_line<'t>(clue: &mut Clue, text: &'t [u8]) -> Option<&'t [u8]>
     }
 }
 
-/// The clues that the first `count` lines say, and what follows these lines.
+/// Parses the first `count` lines as clues. Returns them, and the text after these lines. `None` if
+/// one of them is no clue in its usual form, or if an allocation fails.
 pub(crate) fn read_clue_lines(alloc: Global, count: u16, text: &[u8]) -> Option<(Vec<Clue>, &[u8])>
     ensures clues { IfSome result (λ found. SayClues text.now found.0.items found.1.now) }
     ensures count { IfSome result (λ found. length found.0.items ≡ count) }
-    ensures room { IfSome result (λ found. length found.0.items + length found.1.now ≤ length text.now) }
+    ensures room { IfSome result
+        (λ found. length found.0.items + length found.1.now ≤ length text.now) }
 {
     let count = usize::from(count);
     let mut clues = room_for(alloc, count).ok()?;
@@ -127,7 +137,8 @@ pub(crate) fn read_clue_lines(alloc: Global, count: u16, text: &[u8]) -> Option<
     Some((clues, rest))
 }
 
-/// The two sizes that the first line says, and what follows the line.
+/// Parses the first line as two sizes. Returns them in the order of the line, and the text after
+/// it.
 pub(crate) fn size_line(text: &[u8]) -> Option<((u16, u16), &[u8])>
     ensures { IfSome result (λ found. SaysSizes text.now found.0 found.1.now) }
 {
@@ -139,7 +150,7 @@ pub(crate) fn size_line(text: &[u8]) -> Option<((u16, u16), &[u8])>
     Some(((first, second), below(end, after)?))
 }
 
-/// What follows the first line, if it is `#`.
+/// Returns the text after the first line, if that is `#`.
 pub(crate) fn hash_line(text: &[u8]) -> Option<&[u8]>
     ensures { IfSome result (λ rest. BeginsWith text.now (35 ∷ []) rest.now) }
 {

@@ -1,4 +1,5 @@
-//! The parts of a usual .non text: its keyword lines, and the clues of its sections.
+//! The fast path for `.non`: collects the keyword lines of a text, and parses the
+//! clues of its sections.
 
 ghost use Rattle.std.specs.Prelude.{◌≡◌, ◌+◌, ◌<◌, ◌≤◌, ◌^◌, [], ◌∷◌, ◌++◌, length, map, IfSome, OnSome};
 ghost use Rattle.puzzle_text.specs.steps.Shown.{shown_keyword};
@@ -13,7 +14,7 @@ use crate::usual_lines::read_clue_lines;
 use grid_core::Clue;
 use std::alloc::Global;
 
-/// The keyword lines of a text, and the clues of its sections.
+/// The keyword lines of a text in its usual form, and the clues of its sections.
 #[derive(Drop)]
 pub(crate) struct Parts<'t> {
     pub keyword_lines: Vec<KeywordLine<'t>>,
@@ -21,8 +22,9 @@ pub(crate) struct Parts<'t> {
     pub columns: Vec<Clue>,
 }
 
-/// Reads the clues of the first lines, as many as the keyword line with this word says, into a section that
-/// has none. Returns how many these are, and what follows them.
+/// Parses the clue lines of a section, which `text` begins with, into `section`. There have to be
+/// as many as the size in the keyword line with this `word`. Returns how many there are, and the
+/// text after them. `None` if `section` has clues already, since a repeated section is a fault.
 fn read_section<'t>(
     alloc: Global,
     word: &[u8],
@@ -47,8 +49,8 @@ fn read_section<'t>(
 }
 
 impl<'t> Parts<'t> {
-    /// Adds a keyword line, and the clues of the section that it opens, if it opens one. Returns how many these
-    /// are, and what follows them.
+    /// Adds a keyword line. If it begins a section, parses the section's clue lines too, which
+    /// `text` begins with. Returns how many clue lines there are, and the text after them.
     fn add(
         &mut self,
         alloc: Global,
@@ -60,10 +62,12 @@ impl<'t> Parts<'t> {
         ensures line { OnSome result (map shown_keyword self.new.keyword_lines.items
             ≡ map shown_keyword self.old.keyword_lines.items ++ shown_keyword line.entry ∷ []) }
         ensures others { OnSome result
-            (KeepsOthers under self.old.rows.items self.old.columns.items self.new.rows.items self.new.columns.items) }
-        ensures clues { IfSome result (λ found.
-            SayClues text.now (clues_under under self.new.rows.items self.new.columns.items) found.1.now) }
-        ensures count { IfSome result (λ found. found.0 ≡ length (clues_under under self.new.rows.items self.new.columns.items)) }
+            (KeepsOthers under self.old.rows.items self.old.columns.items
+            self.new.rows.items self.new.columns.items) }
+        ensures clues { IfSome result (λ found. SayClues text.now
+            (clues_under under self.new.rows.items self.new.columns.items) found.1.now) }
+        ensures count { IfSome result (λ found. found.0
+            ≡ length (clues_under under self.new.rows.items self.new.columns.items)) }
         ensures room { IfSome result (λ found. found.0 + length found.1.now ≤ length text.now) }
     {
         self.keyword_lines.push(line).ok()?;
@@ -87,12 +91,14 @@ impl<'t> Parts<'t> {
     }
 }
 
-/// The parts of a text in its usual form: the lines of each section stand together below its keyword, and as
-/// many as the size above says.
+/// Collects the keyword lines and the clues of a text in its usual form. The clue lines of a
+/// section follow its keyword line, as many as the size above requires; other lines are keyword
+/// lines, comments or blank. `None` for any other text.
 pub(crate) fn parts_of<'t>(alloc: Global, text: &'t [u8]) -> Option<Parts<'t>>
     requires { length text.now < 2 ^ 32 }
     ensures { IfSome result (λ parts.
-        HasParts text.now (map shown_keyword parts.keyword_lines.items) parts.rows.items parts.columns.items) }
+        HasParts text.now (map shown_keyword parts.keyword_lines.items)
+        parts.rows.items parts.columns.items) }
 {
     let mut parts = Parts {
         keyword_lines: Vec::with_capacity(alloc, 16).ok()?,
@@ -120,6 +126,8 @@ pub(crate) fn parts_of<'t>(alloc: Global, text: &'t [u8]) -> Option<Parts<'t>>
             number += count;
             below = after;
         } else if !line.text.is_empty() && !is_hash(&line) {
+            // A stray line. A blank line is skipped: the section above has all its clue lines
+            // already, and none of them is blank.
             return None;
         }
     }

@@ -1,4 +1,4 @@
-//! The words of faults.
+//! Fault words: how faults are printed.
 
 ghost use Rattle.std.specs.Prelude.{◌≡◌, ◌++◌, IfOk, OnOk};
 ghost use Rattle.puzzle_text.specs.Words.{at_line, word_of, word_of_collection, word_of_text, word_text};
@@ -8,24 +8,24 @@ use crate::texts::{push_bytes, push_number};
 use grid_core::NoMemory;
 use std::alloc::Global;
 
-/// The word of a fault, as it is printed.
+/// A fault word: the name of a fault as it is printed, and the number of the line that it is about.
 #[derive(Clone, Copy, Debug, PartialEq, Eq)]
 pub struct FaultWord {
-    /// The word.
+    /// The name of the fault.
     pub name: &'static str,
     /// The number of the line that the fault is about, if it is about one.
     pub line: Option<u32>,
 }
 
 impl FaultWord {
-    /// A word by itself.
+    /// Returns the word of a fault that is not about a line.
     pub fn alone(name: &'static str) -> FaultWord
         ensures { word_text result ≡ name.now }
     {
         FaultWord { name, line: None }
     }
 
-    /// A word that is about a line.
+    /// Returns the word of a fault that is about the line `number`.
     pub fn at_line(name: &'static str, number: u32) -> FaultWord
         ensures { word_text result ≡ at_line name.now number }
     {
@@ -35,8 +35,9 @@ impl FaultWord {
         }
     }
 
-    /// Adds the word to the end of the text, and after a colon the number of its line, if it has one:
-    /// `BadCount`, `BadNumber:2`. `NoMemory` if the text can't grow.
+    /// Appends the word to the text, and a colon and the number of its line, if it has one:
+    /// `BadCount`, `BadNumber:2`. Fails with `NoMemory` if an allocation fails; the text may then
+    /// end with the first bytes of the word.
     pub fn push(self, text: &mut Vec<u8>) -> Result<(), NoMemory>
         ensures { OnOk result (text.new.items ≡ text.old.items ++ word_text self) }
     {
@@ -50,7 +51,7 @@ impl FaultWord {
 }
 
 impl TextFault {
-    /// The fault's word.
+    /// Returns the fault's word.
     pub fn word(self) -> FaultWord
         ensures { word_text result ≡ word_of_text self }
     {
@@ -70,7 +71,7 @@ impl TextFault {
 }
 
 impl EntryFault {
-    /// The fault's word: that of the text's fault, if it is one.
+    /// Returns the fault's word; for a fault of the text, the word of that fault.
     pub fn word(self) -> FaultWord
         ensures { word_text result ≡ word_of self }
     {
@@ -82,7 +83,7 @@ impl EntryFault {
 }
 
 impl CollectionFault {
-    /// The fault's word.
+    /// Returns the fault's word.
     pub fn word(self) -> FaultWord
         ensures { word_text result ≡ word_of_collection self }
     {
@@ -95,7 +96,8 @@ impl CollectionFault {
     }
 }
 
-/// The word of a fault, and after a colon the number of its line, if it has one: `BadCount`, `BadNumber:2`.
+/// Returns the printed word of a fault, with a colon and the number of its line, if it has one:
+/// `BadCount`, `BadNumber:2`. Fails with `NoMemory` if an allocation fails.
 pub fn fault_text(alloc: Global, fault: &EntryFault) -> Result<Vec<u8>, NoMemory>
     ensures { IfOk result (λ text. text.items ≡ word_of fault.now) }
 {

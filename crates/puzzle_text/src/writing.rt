@@ -1,4 +1,4 @@
-//! Puzzles as texts.
+//! Writes puzzles as texts.
 
 ghost use Rattle.std.specs.Prelude.{◌≡◌, ◌++◌, ◌↔◌, codes, decimal, map, true, Err, OnOk, IfOk};
 ghost use Rattle.std.specs.List.{flat_map};
@@ -50,7 +50,8 @@ fn push_sizes(out: &mut Vec<u8>, a: u16, b: u16) -> Result<(), NoMemory>
     Ok(())
 }
 
-/// The text of a puzzle in the format .mk. It has no place for texts and goal.
+/// Returns the text of a puzzle in the format `.mk`, which leaves out its texts and its goal. Fails
+/// with `NoMemory` if an allocation fails.
 pub fn write_mk(alloc: Global, puzzle: &Puzzle) -> Result<Vec<u8>, NoMemory>
     ensures { IfOk result (λ text. text.items ≡ text_mk puzzle.now) }
 {
@@ -62,13 +63,15 @@ pub fn write_mk(alloc: Global, puzzle: &Puzzle) -> Result<Vec<u8>, NoMemory>
     Ok(out)
 }
 
-/// The text of a puzzle in the format .nin, which has no place for texts and goal.
-/// `Ambiguous` if that text would be read with the sizes exchanged; else perhaps `NoMemory`.
+/// Returns the text of a puzzle in the format `.nin`, which leaves out its texts and its goal.
+/// Fails with `Ambiguous` if that text would be read with the sizes exchanged, and otherwise with
+/// `NoMemory` if an allocation fails.
 pub fn write_nin(alloc: Global, puzzle: &Puzzle) -> Result<Vec<u8>, WriteFault>
     ensures text { IfOk result (λ text. text.items ≡ text_nin puzzle.now) }
-    // `NoMemory` never stands in place of this fault.
+    // `NoMemory` is never returned in place of this fault.
     ensures ambiguous { result ≡ Err WriteFault.Ambiguous ↔ is_ambiguous puzzle.now ≡ true }
 {
+    // Checked before any allocation, so that `NoMemory` is never returned in its place.
     if is_ambiguous(puzzle) {
         return Err(WriteFault::Ambiguous);
     }
@@ -80,7 +83,8 @@ pub fn write_nin(alloc: Global, puzzle: &Puzzle) -> Result<Vec<u8>, WriteFault>
 }
 
 fn push_field(out: &mut Vec<u8>, texts: &Texts, field: Field) -> Result<(), NoMemory>
-    ensures { OnOk result (out.new.items ≡ out.old.items ++ quoted_line (field_word field) (text_of texts.now field)) }
+    ensures { OnOk result (out.new.items
+        ≡ out.old.items ++ quoted_line (field_word field) (text_of texts.now field)) }
 {
     if let Some(text) = texts.get(field) {
         out.extend_from_slice(field_word(field))?;
@@ -93,7 +97,8 @@ fn push_field(out: &mut Vec<u8>, texts: &Texts, field: Field) -> Result<(), NoMe
 
 fn push_fields(out: &mut Vec<u8>, texts: &Texts, fields: &[Field]) -> Result<(), NoMemory>
     ensures { OnOk result (out.new.items
-        ≡ out.old.items ++ flat_map (λ field. quoted_line (field_word field) (text_of texts.now field)) fields.now) }
+        ≡ out.old.items ++ flat_map
+        (λ field. quoted_line (field_word field) (text_of texts.now field)) fields.now) }
 {
     for field in fields {
         push_field(out, texts, *field)?;
@@ -107,7 +112,7 @@ fn push_texts(out: &mut Vec<u8>, texts: &Texts) -> Result<(), NoMemory>
     push_fields(out, texts, &FIELDS)
 }
 
-/// The cells of a goal, as they are written.
+/// Appends the cells of a goal: `1` for a filled one, `0` for a blank one.
 fn push_cells(out: &mut Vec<u8>, cells: &[bool]) -> Result<(), NoMemory>
     ensures { OnOk result (out.new.items ≡ out.old.items ++ map goal_byte cells.now) }
 {
@@ -118,7 +123,8 @@ fn push_cells(out: &mut Vec<u8>, cells: &[bool]) -> Result<(), NoMemory>
 }
 
 fn push_goal(out: &mut Vec<u8>, goal: Option<&[bool]>) -> Result<(), NoMemory>
-    ensures { OnOk result (out.new.items ≡ out.old.items ++ goal_lines (option_map (λ cells. cells.now) goal.entry)) }
+    ensures { OnOk result (out.new.items
+        ≡ out.old.items ++ goal_lines (option_map (λ cells. cells.now) goal.entry)) }
 {
     if let Some(cells) = goal {
         out.extend_from_slice(b"\ngoal \"")?;
@@ -128,7 +134,8 @@ fn push_goal(out: &mut Vec<u8>, goal: Option<&[bool]>) -> Result<(), NoMemory>
     Ok(())
 }
 
-/// The text of a puzzle in the format .non, texts and goal included.
+/// Returns the text of a puzzle in the format `.non`, including its texts and its goal. Fails with
+/// `NoMemory` if an allocation fails.
 pub fn write_non(alloc: Global, puzzle: &Puzzle) -> Result<Vec<u8>, NoMemory>
     ensures { IfOk result (λ text. text.items ≡ text_non puzzle.now) }
 {

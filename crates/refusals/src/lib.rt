@@ -1,4 +1,4 @@
-//! Refusing growths of memory, for tests.
+//! Making allocations fail on purpose, for tests.
 #![tactic(auto)]
 
 mod refusals;

@@ -1,65 +1,70 @@
-//! Refusing growths of memory, each in turn: `tools/sweep.sh` runs tests under a tool that heeds the signs
-//! given here. Without it nothing is refused, and the tests pass with ample memory.
+//! Requests by which a test arms the failure tool that `tools/sweep.sh` runs it under
+//! (`tools/sweep.c`). Without that tool no allocation fails, and the tests pass with ample memory.
 
 use std::alloc::Global;
 
-/// A request of this many bytes and `number` more, which no machine grants, is a sign: of the growths that
-/// follow, the one of that number is refused, and with 0 each of them.
+/// Arms the failure tool. Requesting `SIGN + n` bytes makes the `n`-th allocation after it fail,
+/// or, with `n` = 0, every later one. No machine grants a request of this size, so without the tool
+/// it has no effect.
 const SIGN: usize = 1 << 61;
 
-/// A request of just this many bytes ends the refusals, and is itself refused if there was one.
+/// Disarms the failure tool. A request of exactly this many bytes fails if an allocation failed
+/// since the tool was armed.
 const QUESTION: usize = 1_060_921;
 
-/// More growths than any call here makes.
+/// More allocations than any call that is swept makes.
 const MOST_GROWTHS: usize = 3000;
 
-/// What a call answered.
+/// How a call under the failure tool ended.
 #[derive(Clone, Copy, Debug, PartialEq, Eq)]
 pub enum Told {
-    /// What it answers with ample memory.
+    /// With the result that it has if memory is available.
     Wanted,
-    /// That a growth of memory was refused.
+    /// With the fault that an allocation failed.
     NoMemory,
-    /// Anything else.
+    /// With any other result.
     Other,
 }
 
-/// Why a call doesn't stand a sweep.
+/// Why `sweep` failed.
 #[derive(Clone, Copy, Debug, PartialEq, Eq)]
 pub enum Unswept {
-    /// With the growth of this number refused it told this, or told of a refusal that wasn't.
+    /// With the allocation of this number failing the call ended so: wrongly, or with `NoMemory`
+    /// although no allocation failed.
     Refused(usize, Told),
-    /// After the growth of this number was refused the next call told this.
+    /// After the allocation of this number had failed the next call, with ample memory, ended so.
     Afterwards(usize, Told),
-    /// Its growths have no end.
+    /// The call makes more allocations than `MOST_GROWTHS`.
     Endless,
 }
 
-/// What a call told by an answer that is the wanted one, or isn't.
+/// Returns `Wanted` if the result is the expected one, and `Other` if not.
 pub fn told_if(is_wanted: bool) -> Told {
     if is_wanted { Told::Wanted } else { Told::Other }
 }
 
-/// Has the growth of this number refused, or with 0 each growth.
+/// Makes the allocation of this number fail, counted from 1, or every one if `number` is 0.
 pub fn refuse(alloc: Global, number: usize) {
     let _sign = Vec::<u8>::with_capacity(alloc, SIGN.wrapping_add(number));
 }
 
-/// Ends the refusals. Returns whether there was one.
+/// Lets allocations succeed again. Returns whether one failed since `refuse`.
 pub fn was_refused(alloc: Global) -> bool {
     Vec::<u8>::with_capacity(alloc, QUESTION).is_err()
 }
 
-/// Returns whether growths are refused if the tool heeds the sign to refuse each of them, and a refused one
-/// is told.
+/// Reports whether the failure tool works as asked: if it is there, an allocation fails and
+/// `was_refused` reports that; if not, neither happens.
 pub fn is_heeded(alloc: Global) -> bool {
     refuse(alloc, 0);
     let heeded = Vec::<u8>::with_capacity(alloc, 1).is_err();
     was_refused(alloc) == heeded
 }
 
-/// Refuses each growth of a call in turn. The call has to tell what is wanted, or `NoMemory` and a growth was
-/// refused, and the next call what is wanted. Returns how many growths were refused.
+/// Runs `call` with its first allocation failing, then with its second, and so on until none fails.
+/// Each of these runs has to return the expected result, or `NoMemory` if an allocation did fail;
+/// after each, a run with ample memory has to return the expected result. Returns how many
+/// allocations were made to fail.
 pub fn sweep<C: Fn() -> Told>(alloc: Global, call: C) -> Result<usize, Unswept>
     requires { C.IsAlwaysCallable call }
 {

@@ -1,4 +1,4 @@
--- What is printed of an answer.
+-- Lemmas on the text that is printed of an answer.
 use Rattle.std.proofs.Common.{◌≡◌, ◌∙◌, ℕ, true, false, List, ap, subst, Result, Ok, Err, IsOk}
 use Rattle.std.specs.Prelude.{IfOk, OnOk, Vec}
 use Rattle.std.specs.declared.alloc.Global.{Global}
@@ -16,7 +16,7 @@ use Rattle.puzzle_text.specs.declared.faults.EntryFault.{EntryFault}
 use Rattle.survey_text.specs.Entries.{entry_text, found_of}
 use Rattle.reports.specs.Reports.{solve_text}
 
--- what an answer found is the report on the puzzle, if it is one
+-- if the outcome of a puzzle is not a failure, its findings are the report on the puzzle
 found_is : (limit : ℕ) (pick : Pick) (p q : Nonogram) (outcome : Result Findings NoMemory) → q ≡ p →
     IsOutcome p limit pick outcome → IsOk outcome
     → found_of q outcome ≡ Ok (p, report_of (picked pick p.width) p limit)
@@ -24,7 +24,7 @@ found_is limit pick p q (Err refused) e is_outcome ok = let bad : false ≡ true
 found_is limit pick p q (Ok findings) e is_outcome ok =
     ap (λ (r : Nonogram). found_of r (Ok findings)) e ∙ ap (λ (found : Findings). found_of p (Ok found)) is_outcome
 
--- the text of an answer that has a report is that of its job's puzzle
+-- the text printed of an answer is that of the puzzle of its job
 pub answer_printed : (name : List ℕ) (p : Nonogram) (limit : ℕ) (pick : Pick) (job : Job) (answer : Answer)
     (made : Result (Vec ℕ Global) NoMemory)
     → job.puzzle ≡ p → job.guesses ≡ limit → job.pick ≡ pick → IsAnswerTo job answer

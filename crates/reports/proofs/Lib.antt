@@ -1,3 +1,3 @@
--- Lemmas on what is printed of a puzzle.
+-- The modules of lemmas on the reports on a puzzle.
 mod FoundLemmas
 mod FullLemmas

@@ -1,4 +1,4 @@
--- A puzzle's text in another format.
+-- The text of a puzzle in another format.
 use Rattle.std.specs.Prelude.{◌≡◌, ℕ, List, Result, Ok, Err, IsOk, Vec}
 use Rattle.std.specs.declared.alloc.Global.{Global}
 use Rattle.grid_core.specs.Nonogram.{Nonogram}
@@ -12,24 +12,26 @@ use Rattle.puzzle_text.specs.declared.formats.Format.{Format}
 use Rattle.reports.specs.declared.converting.ConvertFault.{ConvertFault}
 use Rattle.reports.specs.declared.converting.ConvertFault.TheVariants.{Entry, Ambiguous, NoMemory}
 
--- a writer's answer as that of a conversion
+-- the result of a writer, as that of a conversion
 abbrev pub in_conversion : Result (List ℕ) WriteFault → Result (List ℕ) ConvertFault
 in_conversion (Ok text) = Ok text
 in_conversion (Err written.Ambiguous) = Err Ambiguous
 in_conversion (Err written.NoMemory) = Err NoMemory
 
--- the puzzle's text in a format. In .nin there is none if it would be read with the sizes the other way round
+-- the text of `p` in `format`, or `Ambiguous` if, in `.nin`, it would be read with width and height
+-- exchanged
 abbrev pub text_in_format : Format → Nonogram → Result (List ℕ) ConvertFault
 text_in_format format p = in_conversion (text_as format p)
 
--- the text in a format of the puzzle that was read, or the fault
+-- the text in `format` of the puzzle that was read, or the fault of the text
 abbrev pub converted : Format → Result Nonogram EntryFault → Result (List ℕ) ConvertFault
 converted format (Ok p) = text_in_format format p
 converted format (Err fault) = Err (Entry fault)
 
--- What a call answered is this answer. `NoMemory` of the reading may stand in place of any answer, and
--- that of the writing in place of a text.
-abbrev pub GivesConverted : Result (Vec ℕ Global) ConvertFault → Result (List ℕ) ConvertFault → Type 0
+-- what a call returned is `answer`, or it failed with `NoMemory`: in reading it may whatever that
+-- is, in writing only if that is a text
+abbrev pub GivesConverted :
+    Result (Vec ℕ Global) ConvertFault → Result (List ℕ) ConvertFault → Type 0
 GivesConverted (Ok text) answer = answer ≡ Ok text.items
 GivesConverted (Err (Entry (Text text.NoMemory))) answer = Unit {0}
 GivesConverted (Err NoMemory) answer = IsOk answer

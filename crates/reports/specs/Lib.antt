@@ -1,3 +1,3 @@
--- The definitions that public contracts rest on.
+-- The definitions that public contracts use.
 pub mod Reports
 pub mod Converting

@@ -1,4 +1,4 @@
-//! A puzzle's text in another format.
+//! Converting a puzzle's text to another format.
 
 ghost use Rattle.std.specs.Prelude.{◌≡◌, ◌<◌, ◌↔◌, true, false, length, Err, MatchResult, Ok};
 ghost use Rattle.puzzle_text.specs.Formats.{is_format};
@@ -10,21 +10,23 @@ use puzzle_text::{Entry, EntryFault, Format, LONGEST_PUZZLE, TextFault, WriteFau
 use std::alloc::Global;
 use thiserror::Error;
 
-/// Why a text is not converted: the first of these, in this order.
+/// Why a text is not converted. If several faults apply, the first of them in this order is
+/// returned.
 #[derive(Clone, Copy, Debug, PartialEq, Eq, Error)]
 pub enum ConvertFault {
-    /// The text is refused.
+    /// The text is refused for this fault, or an allocation failed in reading it.
     #[error(transparent)]
     Entry(EntryFault),
-    /// The puzzle's text in `.nin` would be read with the sizes the other way round.
+    /// The puzzle's text in `.nin` would be read with width and height exchanged.
     #[error("the text would be read with the sizes the other way round")]
     Ambiguous,
-    /// A growth of memory was refused in writing.
+    /// An allocation failed in writing.
     #[error("out of memory")]
     NoMemory,
 }
 
-/// The text of a puzzle in a format.
+/// Returns the text of `puzzle` in `format`. Fails with `Ambiguous` if that text, in `.nin`, would
+/// be read with width and height exchanged, and otherwise with `NoMemory` if an allocation fails.
 fn text_in_format(alloc: Global, puzzle: &Puzzle, format: Format) -> Result<Vec<u8>, ConvertFault>
     ensures answer { GivesConverted result (text_in_format format puzzle.now) }
     ensures writing { (fault : EntryFault) → result ≡ Err (ConvertFault.Entry fault) → ⊥ }
@@ -36,9 +38,10 @@ fn text_in_format(alloc: Global, puzzle: &Puzzle, format: Format) -> Result<Vec<
     }
 }
 
-/// The text of a puzzle's text in another format. `Entry` with the text's fault; else `Ambiguous`, if the new
-/// text, in `.nin`, would be read with the sizes the other way round; else perhaps `NoMemory`. That of the
-/// reading is an `Entry`.
+/// Reads the puzzle in the text `body`, whose format the ending of `name` determines, and returns
+/// its text in `format`. Fails with `Entry` if the text is refused or an allocation fails in
+/// reading it; otherwise with `Ambiguous` if the new text, in `.nin`, would be read with width and
+/// height exchanged; and otherwise with `NoMemory` if an allocation fails in writing it.
 pub fn convert(
     alloc: Global,
     name: &[u8],
@@ -46,10 +49,11 @@ pub fn convert(
     format: Format,
 ) -> Result<Vec<u8>, ConvertFault>
     ensures answer { GivesConverted result (converted format (said name.now body.now)) }
-    // `NoMemory` never stands in place of these faults.
-    ensures unknown { result ≡ Err (ConvertFault.Entry EntryFault.UnknownFormat) ↔ is_format name.now ≡ false }
-    ensures too_long { is_format name.now ≡ true → LONGEST_PUZZLE < length body.now →
-        result ≡ Err (ConvertFault.Entry (EntryFault.Text TextFault.TooLong)) }
+    // `NoMemory` is never returned in place of these faults.
+    ensures unknown { result ≡ Err (ConvertFault.Entry EntryFault.UnknownFormat)
+        ↔ is_format name.now ≡ false }
+    ensures too_long { is_format name.now ≡ true → LONGEST_PUZZLE < length body.now
+        → result ≡ Err (ConvertFault.Entry (EntryFault.Text TextFault.TooLong)) }
 {
     match read_entry(alloc, &Entry { name, body }) {
         Ok(puzzle) => text_in_format(alloc, &puzzle, format),

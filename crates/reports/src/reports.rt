@@ -1,4 +1,4 @@
-//! What is printed of one puzzle.
+//! The reports on one puzzle: on its closure under line deduction, and on its grade and solutions.
 
 ghost use Rattle.std.specs.Prelude.{◌≡◌, ◌≤◌, ◌<◌, ◌↔◌, ◌++◌, true, false, length, Ok, Err, IfErr, IfOk, OnOk, MatchResult};
 ghost use Rattle.std.specs.List.{list_all};
@@ -15,21 +15,23 @@ use solve_core::{Pick, line_grid};
 use std::alloc::Global;
 use survey_text::{print_graded, push_grid};
 
-/// Whether each cell of a grid is known.
+/// Reports whether all cells of `grid` are known.
 fn is_full(grid: &Grid) -> bool
     ensures { result ≡ list_all is_known grid.now.cells }
 {
     grid.first_unknown().is_none()
 }
 
-/// The first word on a closed grid that is alive.
+/// Returns the first word of the report on a closed grid that is alive: `one` if it is full, and
+/// `open` if not.
 fn closed_word(grid: &Grid) -> &'static str
     ensures { result.now ≡ closed_word grid.now }
 {
     if is_full(grid) { "one" } else { "open" }
 }
 
-/// Adds what is printed of a closed grid that is alive.
+/// Appends the report on a closed grid that is alive: its word, the number of known cells, and its
+/// rows.
 fn push_report(text: &mut Vec<u8>, grid: &Grid) -> Result<(), NoMemory>
     ensures { OnOk result (text.new.items ≡ text.old.items ++ grid_report grid.now) }
 {
@@ -40,7 +42,7 @@ fn push_report(text: &mut Vec<u8>, grid: &Grid) -> Result<(), NoMemory>
     push_grid(text, grid)
 }
 
-/// Adds what is printed of a closed grid, or of a dead one.
+/// Appends the report on a closed grid, which is `None` if it is dead.
 fn push_closed(text: &mut Vec<u8>, closed: &Option<Grid>) -> Result<(), NoMemory>
     ensures { OnOk result (text.new.items ≡ text.old.items ++ closed_text closed.now) }
 {
@@ -50,7 +52,8 @@ fn push_closed(text: &mut Vec<u8>, closed: &Option<Grid>) -> Result<(), NoMemory
     }
 }
 
-/// What is printed of a puzzle closed by line logic.
+/// Returns the report on the closure of `puzzle` under line deduction. Fails with `NoMemory` if an
+/// allocation does.
 fn lines_text(alloc: Global, puzzle: &Puzzle) -> Result<Vec<u8>, NoMemory>
     ensures { IfOk result (λ text. text.items ≡ lines_text puzzle.now) }
 {
@@ -60,9 +63,10 @@ fn lines_text(alloc: Global, puzzle: &Puzzle) -> Result<Vec<u8>, NoMemory>
     Ok(text)
 }
 
-/// The text, or that its memory was refused.
+/// Returns the text in `made`, or, if an allocation failed, the fault `Text(NoMemory)`.
 fn text_or_fault(made: Result<Vec<u8>, NoMemory>) -> Result<Vec<u8>, EntryFault>
-    ensures { MatchResult made (λ text. result ≡ Ok text) (λ _. result ≡ Err (EntryFault.Text TextFault.NoMemory)) }
+    ensures { MatchResult made
+        (λ text. result ≡ Ok text) (λ _. result ≡ Err (EntryFault.Text TextFault.NoMemory)) }
 {
     match made {
         Ok(text) => Ok(text),
@@ -70,7 +74,8 @@ fn text_or_fault(made: Result<Vec<u8>, NoMemory>) -> Result<Vec<u8>, EntryFault>
     }
 }
 
-/// The same, as an answer to an entry.
+/// Returns the text of `lines_text`, with a failed allocation reported as the entry's fault
+/// `Text(NoMemory)`.
 fn lines_answer(alloc: Global, puzzle: &Puzzle) -> Result<Vec<u8>, EntryFault>
     ensures answer { GivesText result (Ok (lines_text puzzle.now)) }
     ensures reading { IfErr result (λ fault. fault ≡ EntryFault.Text TextFault.NoMemory) }
@@ -78,14 +83,16 @@ fn lines_answer(alloc: Global, puzzle: &Puzzle) -> Result<Vec<u8>, EntryFault>
     text_or_fault(lines_text(alloc, puzzle))
 }
 
-/// The grid of a puzzle's text closed by line logic: `one K` if it is full, or `open K`, with K the number of
-/// known cells, and its rows; `none 0` if it is dead. Else the text's fault, or `NoMemory`.
+/// Reads the puzzle in the text `body`, whose format the ending of `name` determines, and returns
+/// the report on its closure under line deduction: `one K` if that is full, or `open K` if not,
+/// with K the number of known cells, and then its rows; or `none 0` if it is dead. Fails with the
+/// fault of the text, or with `Text(NoMemory)` if an allocation fails.
 pub fn lines_report(alloc: Global, name: &[u8], body: &[u8]) -> Result<Vec<u8>, EntryFault>
     ensures answer { GivesText result (text_or_fault lines_text (said name.now body.now)) }
-    // `NoMemory` never stands in place of these faults.
+    // `NoMemory` is never returned in place of these faults.
     ensures unknown { result ≡ Err EntryFault.UnknownFormat ↔ is_format name.now ≡ false }
-    ensures too_long { is_format name.now ≡ true → LONGEST_PUZZLE < length body.now →
-        result ≡ Err (EntryFault.Text TextFault.TooLong) }
+    ensures too_long { is_format name.now ≡ true → LONGEST_PUZZLE < length body.now
+        → result ≡ Err (EntryFault.Text TextFault.TooLong) }
 {
     match read_entry(alloc, &Entry { name, body }) {
         Ok(puzzle) => lines_answer(alloc, &puzzle),
@@ -93,7 +100,8 @@ pub fn lines_report(alloc: Global, name: &[u8], body: &[u8]) -> Result<Vec<u8>, 
     }
 }
 
-/// What is printed of a graded puzzle and its solutions.
+/// Grades `puzzle` and returns the report on its grade and solutions. Fails with `NoMemory` if an
+/// allocation does, in grading or in printing.
 fn solve_text(
     alloc: Global,
     name: &[u8],
@@ -104,13 +112,15 @@ fn solve_text(
     requires { guesses ≤ MOST_GUESSES }
     ensures { IfOk result (λ text. text.items ≡ solve_text name.now guesses pick puzzle) }
 {
+    // Graded as the only entry of a survey would be, so that the text is the same as there.
     let answer = grade(alloc, Job::new(1, puzzle, guesses, pick));
     print_graded(alloc, 1, name, &answer, true)
 }
 
-/// The line of a puzzle's text in a survey, numbered 1, and its solutions, each followed by an empty line.
-/// The search spends at most `guesses` guesses, from 0 to 1,000,000, each by the rule. Else the text's fault,
-/// or `NoMemory`.
+/// Reads the puzzle in the text `body`, whose format the ending of `name` determines, grades it,
+/// and returns its line in a survey, numbered 1, and its solutions, each followed by an empty line.
+/// The search spends at most `guesses` guesses, 0 to 1,000,000, on cells that `pick` chooses. Fails
+/// with the fault of the text, or with `Text(NoMemory)` if an allocation fails.
 pub fn solve_report(
     alloc: Global,
     name: &[u8],
@@ -119,11 +129,12 @@ pub fn solve_report(
     pick: Pick,
 ) -> Result<Vec<u8>, EntryFault>
     requires { guesses ≤ MOST_GUESSES }
-    ensures answer { GivesText result (text_or_fault (solve_text name.now guesses pick) (said name.now body.now)) }
-    // `NoMemory` never stands in place of these faults.
+    ensures answer { GivesText result
+        (text_or_fault (solve_text name.now guesses pick) (said name.now body.now)) }
+    // `NoMemory` is never returned in place of these faults.
     ensures unknown { result ≡ Err EntryFault.UnknownFormat ↔ is_format name.now ≡ false }
-    ensures too_long { is_format name.now ≡ true → LONGEST_PUZZLE < length body.now →
-        result ≡ Err (EntryFault.Text TextFault.TooLong) }
+    ensures too_long { is_format name.now ≡ true → LONGEST_PUZZLE < length body.now
+        → result ≡ Err (EntryFault.Text TextFault.TooLong) }
 {
     match read_entry(alloc, &Entry { name, body }) {
         Ok(puzzle) => text_or_fault(solve_text(alloc, name, puzzle, guesses, pick)),

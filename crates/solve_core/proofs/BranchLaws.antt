@@ -1,4 +1,4 @@
--- The branches of a search: what settled cells, a filled guess and a blank one make of them.
+-- The branches of a search, and how assignments, a filled guess and a blank guess change them.
 use Rattle.solve_core.proofs.Names.{◌≡◌, ℕ, zero, suc, ◌+◌, ◌<◌, ◌≤◌, List, [], ◌∷◌, ◌++◌, length, set, take, drop, refl, sym, ap, ◌∙◌, arith, length-append, append-nil, append_assoc, Option, Some, AllByRecursion, drop-length, drop-append-le, length-take-le, take-append-drop, Cell, Filled, Blank, GridLine, Branch, Guess, events, TrailStep, TrailedGrid, cleared, IsTrailed, cells_before, IsNext, IsBranch, AreInOrder, AreBefore, IsWork, pending, open_events, ready_events, rules}
 use Rattle.solve_core.proofs.TrailSteps.{cleared-append, all_append}
 
@@ -8,13 +8,13 @@ drop_take (suc m) zero xs h = absurd (omega arith)
 drop_take (suc m) (suc n) [] h = refl
 drop_take (suc m) (suc n) (x ∷ xs) h = drop_take m n xs (omega arith)
 
--- going back to a mark leaves what was before each earlier one
+-- undoing to `mark` doesn't change the cells at an earlier checkpoint
 pub before_back : (cells : List Cell) (trail : List TrailStep) (earlier mark : ℕ) → earlier ≤ mark
     → cells_before (cells_before cells trail mark) (take mark trail) earlier ≡ cells_before cells trail earlier
 before_back cells trail earlier mark h =
     sym (cleared-append cells (drop earlier (take mark trail)) (drop mark trail)) ∙ ap (cleared cells) (drop_take earlier mark trail h)
 
--- if the mark is the whole length of the trail, nothing is undone
+-- undoing to the trail's whole length changes nothing
 before-now : (cells : List Cell) (trail : List TrailStep) → cells_before cells trail (length trail) ≡ cells
 before-now cells trail = ap (cleared cells) (drop-length trail)
 
@@ -22,12 +22,12 @@ pub before-more : (limit more : ℕ) (branches : List Branch) → limit ≤ more
 before-more limit more [] l h = tt
 before-more limit more (b ∷ branches) l h = (omega (arith, h.0), before-more limit more branches l h.1)
 
--- what holds of all items of a list holds of the last one, and of all before it
+-- a property of all items of a list ending with `x` holds of `x` and of all items before it
 pub all_split : {X : Type 0} (P : X → Type 0) (xs : List X) (x : X) → AllByRecursion P (xs ++ (x ∷ [])) → P x × AllByRecursion P xs
 all_split P [] x k = (k.0, tt)
 all_split P (y ∷ xs) x k = let r = all_split P xs x k.1 in (r.0, (k.0, r.1))
 
--- the last of branches in order was made later than all others
+-- the last one of ordered branches was made after all others, which are in order
 order-last : (branches : List Branch) (last : Branch) → AreInOrder (branches ++ (last ∷ [])) →
     AreBefore last.mark branches × AreInOrder branches
 order-last [] last h = (tt, tt)
@@ -41,19 +41,19 @@ order-more : (branches : List Branch) (last : Branch) → AreInOrder branches �
 order-more [] last h k = (tt, tt)
 order-more (b ∷ branches) last h k = search (rules, all_append, (order-more branches last h.1 k.1))
 
--- branches in order are no more than the steps before which they were made
+-- ordered branches whose checkpoints are between `first` and `limit` are fewer than `limit - first`
 order-count : (limit first : ℕ) (branches : List Branch) → AreInOrder branches → AreBefore limit branches →
     AllByRecursion (λ (b : Branch). first < b.mark) branches → first < limit → first + length branches < limit
 order-count limit first [] h k m l = omega arith
 order-count limit first (b ∷ branches) h k m l = omega (arith, m.0, order-count limit b.mark branches h.1 k.1 h.0 k.0)
 
--- branches in order are no more than `limit`, if each was made before the trail had `limit` steps
+-- ordered branches whose checkpoints are below `limit` are at most `limit`
 pub branch-count : (limit : ℕ) (branches : List Branch) → AreInOrder branches → AreBefore limit branches → length branches ≤ limit
 branch-count limit [] h k = omega arith
 branch-count limit (b ∷ branches) h k = omega (arith, order-count limit b.mark branches h.1 k.1 h.0 k.0)
 
 module _ (pick : List Cell → Option ℕ) (lines : List GridLine) where
-  -- the branches mean the same for other cells and another trail, if the cells before each are the same
+  -- the branches owe the same events on another board, if the cells at each checkpoint are the same
   module _ (cells now : List Cell) (trail after : List TrailStep) (limit : ℕ)
       (same : (mark : ℕ) → mark < limit → cells_before now after mark ≡ cells_before cells trail mark) where
     pending-same : (branches : List Branch) → AreBefore limit branches →
@@ -66,12 +66,12 @@ module _ (pick : List Cell → Option ℕ) (lines : List GridLine) where
     branches-same [] h k = tt
     branches-same (b ∷ branches) h k = (rw (same b.mark h.0) k.0, branches-same branches h.1 k.1)
 
-  -- what is settled and put on the trail leaves the work in order
+  -- the branches stay valid when cells are assigned
   pub trailed-work : (old new : TrailedGrid) (branches : List Branch) → IsTrailed old new →
       IsWork pick lines old.cells old.trail branches → IsWork pick lines new.cells new.trail branches
   trailed-work old new branches t w = search (rules, before-more, length-append, branches-same, drop-append-le, cleared-append)
 
-  -- what is settled and put on the trail changes nothing of what happens from the branches
+  -- the branches owe the same events after cells are assigned
   pub trailed-pending : (old new : TrailedGrid) (branches : List Branch) → IsTrailed old new →
       IsWork pick lines old.cells old.trail branches →
       pending pick lines new.cells new.trail branches ≡ pending pick lines old.cells old.trail branches
@@ -85,19 +85,19 @@ module _ (pick : List Cell → Option ℕ) (lines : List GridLine) where
 
   module _ (cells : List Cell) (trail : List TrailStep) (branches made : List Branch) (b : Branch) (e : made ≡ branches ++ (b ∷ []))
       (m : b.mark ≡ length trail) where
-    -- a filled guess: its branch is kept
+    -- after a filled guess the branches with its branch appended are valid
     pub fork-work : IsWork pick lines cells trail branches → AreBefore (length trail) branches → IsNext pick lines cells b.place →
         IsWork pick lines cells trail made
     fork-work w older n = search (rules, all_append, order-more, made, before-now)
 
-    -- the two guesses of a cell are the filled one, made at once, and the blank one, owed by a new last branch
+    -- the two guesses of a cell are the filled one, made now, and the blank one, owed by the new last branch
     pub fork-events : open_events pick lines cells (Some b.place) (pending pick lines cells trail branches) ≡
         ready_events pick lines cells (Some (b.place, Filled)) (pending pick lines cells trail made)
     fork-events = rw (e, pending-last cells trail branches b, m, before-now cells trail) refl
 
   module _ (cells now : List Cell) (trail after : List TrailStep) (all rest : List Branch) (b : Branch) (e : all ≡ rest ++ (b ∷ []))
       (f : now ≡ cells_before cells trail b.mark) (g : after ≡ take b.mark trail) (w : IsWork pick lines cells trail all) where
-    -- what the last branch leaves
+    -- the other branches have earlier checkpoints than the last one, and are in order
     last : AreBefore b.mark rest × AreInOrder rest
     last = order-last rest b (rw e at w.order)
 
@@ -107,14 +107,15 @@ module _ (pick : List Cell → Option ℕ) (lines : List GridLine) where
     same : (mark : ℕ) → mark < b.mark → cells_before now after mark ≡ cells_before cells trail mark
     same mark h = rw (f, g) (before_back cells trail mark b.mark (omega arith))
 
-    -- a blank guess: the cells settled since its branch was made are unknown again
+    -- after undoing to the last branch's checkpoint, the other branches are valid
     pub back-work : IsWork pick lines now after rest
     back-work = search (rules, all_split, length-take-le, before-more, last, made, branches-same, same)
 
-    -- what happens from the branches is the last one's blank guess, made at once, and what the others owe
-    pub back-events : pending pick lines cells trail all ≡ ready_events pick lines now (Some (b.place, Blank)) (pending pick lines now after rest)
+    -- the events owed by all branches are the last one's blank guess, made now, and those owed by the others
+    pub back-events : pending pick lines cells trail all
+        ≡ ready_events pick lines now (Some (b.place, Blank)) (pending pick lines now after rest)
     back-events = rw (e, pending-last cells trail rest b, pending-same cells now trail after b.mark same rest last.0, f) refl
 
-    -- in the cells as they were when the last branch was made, its cell is the one to guess next
+    -- after undoing to the last branch's checkpoint, its cell is the next one to be guessed
     pub back-ready : IsNext pick lines now b.place
     back-ready = rw f made.0

@@ -1,7 +1,7 @@
--- A line that is written cell by cell, at the places where it changes.
+-- Membership of an index in a mask that is 0, and in a list of cell indices.
 use Rattle.solve_core.proofs.Names.{◌≡◌, ◌≢◌, ℕ, suc, ◌<◌, ◌⊎◌, inl, inr, List, [], ◌∷◌, length, get_or, ap, arith, bit_at, bit_at-zero, cases_eq, Has}
 
--- no place is in a mask that is 0
+-- a mask that is 0 contains no index
 pub none_in : (m : ℕ) → m ≡ 0 → (k : ℕ) → Has m k → ⊥
 none_in m e k h = absurd (omega (arith, h, bit_at-zero k, ap (λ (n : ℕ). bit_at n k) e))
 
@@ -9,7 +9,7 @@ none_of : (q p : ℕ) (ps : List ℕ) → q ≢ p → ((k : ℕ) → k < length 
     (k : ℕ) → k < length (q ∷ ps) → get_or (q ∷ ps) k 0 ≢ p
 none_of q p ps h l k m = grind arith
 
--- a place is among some or not
+-- `p` is an element of `places`, or differs from each of them
 pub is_among : (places : List ℕ) (p : ℕ) →
     ((k : ℕ) × (k < length places) × (get_or places k 0 ≡ p)) ⊎ ((k : ℕ) → k < length places → get_or places k 0 ≢ p)
 is_among [] p = inr (λ k l. absurd (omega arith))

@@ -1,9 +1,9 @@
--- The closure is the least line-closed grid, and loses no solution.
+-- The closure is the least line-closed grid above a grid, and each solution that extends the grid extends the closure.
 use Rattle.solve_core.proofs.Names.{◌≡◌, ℕ, zero, suc, ◌+◌, ◌<◌, Bool, false, List, [], ◌∷◌, length, get_or, set, map, Option, Some, None, refl, ap, ◌∙◌, arith, length-set, option_map, AllByRecursion, get_or-map, set-get_or, Cell, Unknown, Blank, CellExtends, Extends, colour, runs, GridLine, cells_at, deduced, with_cells, deduce_line, round, repeat, closure, AtMost, AtMost-trans, Extends-trans, Extends-antisym, IsLeastClosed, deduced-below, deduced-monotone, deduced-full, get_or-map_colour, rules}
 use Rattle.solve_core.proofs.Order.{HasLength, join_all-above, join_all-least, below_each}
 use Rattle.solve_core.proofs.Closing.{IsDeduction, repeat-above, repeat-below, repeat-least, repeat-closed, unknown_count-le}
 
--- if a grid knows no less, its cell does neither, whatever stands for one outside
+-- if `z` extends `g`, cell `k` of `z` extends that of `g`; if there is none, any value extends it
 at_more : (g z : List Cell) (k : ℕ) (d : Cell) → Extends g z → CellExtends (get_or g k Unknown) (get_or z k d)
 at_more [] [] k d h = tt
 at_more (x ∷ g) (y ∷ z) zero d h = h.0
@@ -14,19 +14,19 @@ cells_at-monotone : (g z : List Cell) (d : Cell) (places : List ℕ) → Extends
 cells_at-monotone g z d [] h = tt
 cells_at-monotone g z d (k ∷ places) h = (at_more g z k d h, cells_at-monotone g z d places h)
 
--- writing what stands there changes nothing
+-- writing the cells that are there already changes nothing
 pub with_cells-read : (d : Cell) (g : List Cell) (places : List ℕ) → with_cells g places (cells_at d g places) ≡ g
 with_cells-read d g [] = refl
 with_cells-read d g (p ∷ ps) = ap (λ (r : List Cell). with_cells r ps (cells_at d g ps)) (set-get_or g p d) ∙ with_cells-read d g ps
 
--- if a grid knows no less, and a cell neither, then the grid with the cell written knows no less
+-- writing a cell is monotone in the grid and in the cell
 pub set-monotone : (g z : List Cell) (k : ℕ) (c d : Cell) → Extends g z → CellExtends c d → Extends (set g k c) (set z k d)
 set-monotone [] [] k c d h e = tt
 set-monotone (x ∷ g) (y ∷ z) zero c d h e = (e, h.1)
 set-monotone (x ∷ g) (y ∷ z) (suc k) c d h e = (h.0, set-monotone g z k c d h.1 e)
 set-monotone _ _ k c d h e = absurd h
 
--- if a grid knows no less, and the cells written at some places neither, the result knows no less
+-- writing several cells is monotone in the grid and in the cells
 pub with_cells-monotone : (g z : List Cell) (places : List ℕ) (cs ds : List Cell) → Extends g z → Extends cs ds →
     Extends (with_cells g places cs) (with_cells z places ds)
 with_cells-monotone g z (k ∷ places) (c ∷ cs) (d ∷ ds) h e =
@@ -39,11 +39,11 @@ written-monotone : (g z : List Cell) (places : List ℕ) (o p : Option (List Cel
     AtMost (option_map (with_cells g places) o) (option_map (with_cells z places) p)
 written-monotone g z places o p h k = search (rules, with_cells-monotone)
 
--- if a grid knows more, no less is deduced from a line
+-- deducing a line is monotone: a grid that knows more yields no less
 pub deduce_line-monotone : (line : GridLine) (g z : List Cell) → Extends g z → AtMost (deduce_line g line) (deduce_line z line)
 deduce_line-monotone line g z h = search (rules, written-monotone, deduced-monotone, cells_at-monotone)
 
--- a grid with cells written at some places is as long as before
+-- writing cells doesn't change the length of a grid
 pub length-with_cells : (g : List Cell) (places : List ℕ) (cs : List Cell) → length (with_cells g places cs) ≡ length g
 length-with_cells g [] cs = refl
 length-with_cells g (k ∷ places) [] = refl
@@ -52,20 +52,20 @@ length-with_cells g (k ∷ places) (c ∷ cs) = length-with_cells (set g k c) pl
 length-written : (g : List Cell) (places : List ℕ) (o : Option (List Cell)) → HasLength (length g) (option_map (with_cells g places) o)
 length-written g places o = search (rules, length-with_cells)
 
--- what each line deduces from a grid is as long as the grid, or dead
+-- the grid with a line deduced is dead or as long as before
 lengths : (g : List Cell) (lines : List GridLine) → AllByRecursion (HasLength (length g)) (map (deduce_line g) lines)
 lengths g [] = tt
 lengths g (line ∷ lines) = (length-written g line.places (deduced (cells_at Unknown g line.places) line.clue), lengths g lines)
 
--- a round only adds to what is known
+-- a round only adds known cells
 pub round-above : (lines : List GridLine) (g : List Cell) → AtMost (Some g) (round lines g)
 round-above lines g = (join_all-above g (map (deduce_line g) lines) (lengths g lines)).0
 
--- and is above what each line deduces
+-- a round is above the deduction of each line
 pub round-above_each : (lines : List GridLine) (g : List Cell) → AllByRecursion (λ o. AtMost o (round lines g)) (map (deduce_line g) lines)
 round-above_each lines g = (join_all-above g (map (deduce_line g) lines) (lengths g lines)).1
 
--- the round of the greater grid, if it's not dead, is above each of the smaller grid's deductions
+-- if `z` extends `g`, a grid `w` above all deductions from `z` is above all deductions from `g`
 lines_above : (lines : List GridLine) (g z w : List Cell) → Extends g z →
     AllByRecursion (λ o. AtMost o (Some w)) (map (deduce_line z) lines) →
     AllByRecursion (λ o. AtMost o (Some w)) (map (deduce_line g) lines)
@@ -81,7 +81,7 @@ round-deduction lines = record {
       (lines_above lines g z w h (rw is at (round-above_each lines z))));
 }
 
--- a deduction, repeated once more than there are cells, gives the least closed grid above the first one
+-- a deduction repeated once more than there are cells yields the least fixpoint above the first grid
 pub repeat-IsLeastClosed : (f : List Cell → Option (List Cell)) → IsDeduction f → (g : List Cell) →
     IsLeastClosed f g (repeat f (length g + 1) g)
 repeat-IsLeastClosed f d g = record {
@@ -90,11 +90,11 @@ repeat-IsLeastClosed f d g = record {
   least = λ z e h. repeat-least f d (length g + 1) g z e h;
 }
 
--- the closure is the least line-closed grid that knows what the grid knows
+-- the closure is the least line-closed grid that extends the grid, or dead if there is none
 pub closure-IsLeastClosed : (lines : List GridLine) (g : List Cell) → IsLeastClosed (round lines) g (closure lines g)
 closure-IsLeastClosed lines g = repeat-IsLeastClosed (round lines) (round-deduction lines) g
 
--- a step and a grid have at most one least closed grid
+-- the least grid above `g` that `f` leaves unchanged is unique
 pub IsLeastClosed-unique : (f : List Cell → Option (List Cell)) (g : List Cell) (a b : Option (List Cell)) → IsLeastClosed f g a →
     IsLeastClosed f g b → a ≡ b
 IsLeastClosed-unique f g None None h k = refl
@@ -102,7 +102,7 @@ IsLeastClosed-unique f g None (Some y) h k = absurd (h.least y (k.closed y refl)
 IsLeastClosed-unique f g (Some x) None h k = absurd (k.least x (h.closed x refl) h.above)
 IsLeastClosed-unique f g (Some x) (Some y) h k = search (rules, Extends-antisym)
 
--- along each line the runs of a full grid are the clue
+-- `full`, a full grid, meets the clue of each of `lines`
 abbrev pub MeetsLines : List GridLine → List Bool → Type 0
 MeetsLines lines full = AllByRecursion (λ line. runs (cells_at false full line.places) ≡ line.clue) lines
 
@@ -120,26 +120,27 @@ lines_below (line ∷ lines) full g m h =
     let below : AtMost (deduced old line.clue) (Some (cells_at Blank z line.places)) =
     rw same (deduced-below old line.clue (cells_at false full line.places)
     (record { extends = rw same at (cells_at-monotone g z Blank line.places h); runs_are = m.0 })) in (
-      rw (with_cells-read Blank z line.places) at (written-monotone g z line.places (deduced old line.clue) (Some (cells_at Blank z line.places)) h below),
+      rw (with_cells-read Blank z line.places) at
+          (written-monotone g z line.places (deduced old line.clue) (Some (cells_at Blank z line.places)) h below),
       lines_below lines full g m.1 h,
     )
 
--- a round learns nothing that a solution hasn't
+-- if a solution extends a grid, it extends the grid after a round
 pub round-below : (lines : List GridLine) (full : List Bool) → MeetsLines lines full → (g : List Cell) → Extends g (map colour full) →
     AtMost (round lines g) (Some (map colour full))
 round-below lines full m g h = join_all-least g (map colour full) (map (deduce_line g) lines) h (lines_below lines full g m h)
 
--- every solution that extends a grid extends its closure, which so isn't dead
+-- each solution that extends a grid extends its closure, which is therefore alive
 pub closure-below : (lines : List GridLine) (full : List Bool) → MeetsLines lines full → (g : List Cell) → Extends g (map colour full) →
     AtMost (closure lines g) (Some (map colour full))
 closure-below lines full m g h = repeat-below (round lines) (map colour full) (round-below lines full m) (length g + 1) g h
 
--- what is both above and below a grid is the grid
+-- an outcome that is both above and below `z` is `z`
 pub same_at_most : (z : List Cell) (o : Option (List Cell)) → AtMost (Some z) o → AtMost o (Some z) → o ≡ Some z
 same_at_most z None h k = absurd k
 same_at_most z (Some w) h k = ap (λ (r : List Cell). Some r) (Extends-antisym w z k h)
 
--- the places of each line are in the grid
+-- the cell indices of each line are below `n`
 abbrev pub AreInRange : ℕ → List GridLine → Type 0
 AreInRange n lines = AllByRecursion (λ line. AllByRecursion (λ k. k < n) line.places) lines
 
@@ -153,7 +154,7 @@ meets_each : (lines : List GridLine) (full : List Bool) (w : List Cell) → AreI
 meets_each [] full w r h = tt
 meets_each (line ∷ lines) full w r h = search (rules, cells_at-colour, deduced-full, (meets_each lines full w r.1 h.1))
 
--- a full grid that a round doesn't find dead is a solution
+-- a full grid that a round leaves alive meets its lines
 pub full-meets : (lines : List GridLine) (full : List Bool) (w : List Cell) → AreInRange (length full) lines →
     round lines (map colour full) ≡ Some w → MeetsLines lines full
 full-meets lines full w r e =

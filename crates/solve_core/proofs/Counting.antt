@@ -1,7 +1,7 @@
--- How many cells are known.
+-- Numbers of known and of unknown cells.
 use Rattle.solve_core.proofs.Names.{take, ◌≤◌, ◌≡◌, ℕ, zero, suc, ◌+◌, ◌<◌, true, false, List, [], ◌∷◌, length, get_or, cond, refl, sym, ap, ◌∙◌, arith, true≢false, list_all, count_by_more_yes, sum_by-cons, Cell, Unknown, is_known, is_unknown, GridLine, unknown_count, IsTried, count_by, AllPass-from_list_all, rules}
 
--- each cell is known or unknown
+-- the known and the unknown cells together are all cells
 pub known-and-unknown : (cells : List Cell) → count_by is_known cells + unknown_count cells ≡ length cells
 known-and-unknown [] = refl
 known-and-unknown (Unknown ∷ cells) = search (rules, sum_by-cons, (known-and-unknown cells))
@@ -10,7 +10,7 @@ known-and-unknown (c ∷ cells) = omega (arith, sum_by-cons (λ (c : Cell). cond
 known-if : (c : Cell) → is_unknown c ≡ false → is_known c ≡ true
 known-if c h = search (rules, true≢false)
 
--- each of the n cells before one is known
+-- the `n` cells from `from` up to `to`, all known, add `n` to the number of known cells
 pub count-run : (cells : List Cell) (n from to : ℕ) → from + n ≡ to → to ≤ length cells →
     ((k : ℕ) → from ≤ k → k < to → is_unknown (get_or cells k Unknown) ≡ false) →
     count_by is_known (take to cells) ≡ count_by is_known (take from cells) + n
@@ -32,7 +32,7 @@ all-of-none [] h = refl
 all-of-none (Unknown ∷ cells) h = absurd (omega (arith, h))
 all-of-none (_ ∷ cells) h = all-of-none cells h
 
--- if all cells are known, there is none to try
+-- in a full grid no unknown cell has a refuted colour
 pub full-tried : (lines : List GridLine) (cells : List Cell) → list_all is_known cells ≡ true → (k : ℕ) → k < length cells →
     IsTried lines cells k
 full-tried lines cells h k l e = absurd (true≢false (sym (AllPass-from_list_all is_known cells h k Unknown l) ∙ ap is_known e))

@@ -1,4 +1,4 @@
--- A grid as its rows and its columns: its cells, and what changing one of them does.
+-- The rows and the columns of a grid: how they are read, written and counted.
 use Rattle.solve_core.proofs.Names.{◌≡◌, ℕ, ◌+◌, ◌-◌, ◌*◌, ◌/◌, ◌%◌, ◌<◌, ◌≤◌, List, [], ◌∷◌, length, get_or, refl, sym, ap, ◌∙◌, arith, replicate, ext_get_or, get_or_default, get_or-replicate, length-replicate, div_below, Cell, Unknown, PartialGrid, IsSize, places_from, cells_at, length-places_from, get_or-places_from, length-cells_at, get_or-cells_at, IsUnknownCell, AreLinesOf, cells_of_rows, row_of, get_or-row_of, get_or-rows, length-row_of, length-rows, cases_lt, inl, inr, subst, rules, sum_by-cons, count_by, is_known}
 use Rattle.std.specs.Prelude.{◌^◌, sum_by}
 use Rattle.std.proofs.lemmas.List.Sums.{count_by-le-length, sum_by-append}
@@ -12,37 +12,37 @@ pub get_or-along : (cells : List Cell) (first step n i k : ℕ) → i < n → fi
     get_or (cells_at Unknown cells (places_from first step n)) i Unknown ≡ get_or cells k Unknown
 get_or-along cells first step n i k h e = search (rules, get_or-cells_at, length-places_from, get_or-places_from)
 
--- the column and the row of a place
+-- the column and the row of cell `k` are within the grid, and determine `k`
 pub place_in : (cells : List Cell) (rows columns : List (List Cell)) (k : ℕ) → AreLinesOf cells rows columns → k < length cells
     → (0 < length columns) × (k % length columns < length columns) × (k / length columns < length rows) ×
     (k ≡ k / length columns * length columns + k % length columns)
 place_in cells rows columns k a l = search (rules, div_below)
 
--- a cell in a column and a row is one of the board's
+-- the cell in column `x` and row `y` is a cell of the grid
 pub cell_in : (cells : List Cell) (rows columns : List (List Cell)) (x y : ℕ) → AreLinesOf cells rows columns → x < length columns →
     y < length rows → y * length columns + x < length cells
 cell_in cells rows columns x y a lx ly = omega (arith, row_within (length columns) (length rows) y x ly lx, a.count)
 
--- the line that is read at an index, whatever stands for one outside
+-- a line read at a valid index doesn't depend on the default value
 pub line_read : (lines : List (List Cell)) (i : ℕ) (line : List Cell) → i < length lines → get_or lines i line ≡ get_or lines i []
 line_read lines i line h = get_or_default lines i line [] h
 
 -- ---- lines that are written one by one
 
--- the first n lines are written, the others are as they were
+-- the first `n` lines are those of `new`, and the others those of `old`
 pub record IsWrittenTo (old : List (List Cell)) (new : ℕ → List Cell) (n : ℕ) (lines : List (List Cell)) : Type 0 where
   pub written : (k : ℕ) → k < n → get_or lines k [] ≡ new k
   pub left : (k : ℕ) → n ≤ k → get_or lines k [] ≡ get_or old k []
 
--- ---- the cells of rows
+-- ---- the cells of rows and of columns
 
--- a row and a column read at a cell
+-- the cell in column `x` and row `y` is the same in its row, in its column and in the grid
 pub cell-read : {cells : List Cell} (rows columns : List (List Cell)) (x y : ℕ) → AreLinesOf cells rows columns → x < length columns →
     y < length rows → (get_or (get_or rows y []) x Unknown ≡ get_or cells (y * length columns + x) Unknown) ×
     (get_or (get_or columns x []) y Unknown ≡ get_or cells (y * length columns + x) Unknown)
 cell-read {cells} rows columns x y a lx ly = search (rules, get_or-along)
 
--- the cells of the rows of a grid are its cells
+-- the cells of the rows, one row after the other, are those of the grid
 pub lines_cells : (cells : List Cell) (rows columns : List (List Cell)) → AreLinesOf cells rows columns → cells_of_rows rows ≡ cells
 lines_cells cells rows columns a =
     let w = length columns in
@@ -52,21 +52,21 @@ lines_cells cells rows columns a =
     let at = place_in cells rows columns k a (omega (arith, long, a.count)) in
     rw (← at.3) at (get_or-rows w rows (k / w) (k % w) wide at.2 at.1 ∙ (cell-read rows columns (k % w) (k / w) a at.1 at.2).0))
 
--- how long a row and a column are
+-- a row is as long as the grid is wide, and a column as long as it is high
 pub lines-long : (rows columns : List (List Cell)) (x y : ℕ) → AreLinesOf (cells_of_rows rows) rows columns → x < length columns →
     y < length rows → (length (get_or rows y []) ≡ length columns) × (length (get_or columns x []) ≡ length rows)
 lines-long rows columns x y a lx ly = search (rules, length-along)
 
--- the grid that rows and columns are
+-- the grid whose lines are `rows` and `columns`
 abbrev pub grid_of_lines : List (List Cell) → List (List Cell) → PartialGrid
 grid_of_lines rows columns = record { width = length columns; height = length rows; cells = cells_of_rows rows }
 
--- of no place of them anything is known
+-- each cell that is read from an unknown grid is unknown
 read-unknown : (n : ℕ) (places : List ℕ) → cells_at Unknown (replicate n Unknown) places ≡ replicate (length places) Unknown
 read-unknown n [] = refl
 read-unknown n (k ∷ places) = λ i. get_or-replicated n k Unknown i ∷ read-unknown n places i
 
--- lines of which nothing is known
+-- unknown rows and columns are the lines of the unknown grid
 pub lines-unknown : (w h : ℕ) (rows columns : List (List Cell)) → IsSize w h → rows ≡ replicate h (replicate w Unknown) →
     columns ≡ replicate w (replicate h Unknown)
     → (cells_of_rows rows ≡ replicate (w * h) Unknown) × AreLinesOf (cells_of_rows rows) rows columns
@@ -81,20 +81,21 @@ lines-unknown w h rows columns size er el =
 
 -- ---- unknown cells
 
--- an unknown cell of a row is one of the grid
+-- an unknown cell of a row is an unknown cell of the grid
 pub unknown-in_grid : (rows columns : List (List Cell)) (y x : ℕ) → AreLinesOf (cells_of_rows rows) rows columns → y < length rows →
     IsUnknownCell (get_or rows y []) x → (x < length columns) × IsUnknownCell (cells_of_rows rows) (y * length columns + x)
 unknown-in_grid rows columns y x a ly u =
     let lx : x < length columns = omega (arith, u.0, (lines-long rows columns 0 y a a.size.width_from ly).0) in
     (lx, (cell_in (cells_of_rows rows) rows columns x y a lx ly, sym (cell-read rows columns x y a lx ly).0 ∙ u.1))
 
--- and the other way
+-- an unknown cell of the grid is an unknown cell of its row
 pub unknown-in_row : (rows columns : List (List Cell)) (y x : ℕ) → AreLinesOf (cells_of_rows rows) rows columns → y < length rows →
     x < length columns → IsUnknownCell (cells_of_rows rows) (y * length columns + x) → IsUnknownCell (get_or rows y []) x
 unknown-in_row rows columns y x a ly lx u =
     (omega (arith, lx, (lines-long rows columns x y a lx ly).0), (cell-read rows columns x y a lx ly).0 ∙ u.1)
 
--- what holds of all cells from one on up to a place of row y, and of those up to another place of the row
+-- what holds of the cells from `from` up to a column of row `y`, and of the row's cells from there up to column `end`,
+-- holds of all cells from `from` up to column `end`
 pub passed : (P : ℕ → Type 0) (w y column end from : ℕ) → ((k : ℕ) → from ≤ k → k < y * w + column → P k) →
     ((x : ℕ) → column ≤ x → x < end → P (y * w + x)) → (k : ℕ) → from ≤ k → k < y * w + end → P k
 passed P w y column end from before here k low high = elim (cases_lt k (y * w + column)) [
@@ -104,19 +105,19 @@ passed P w y column end from before here k low high = elim (cases_lt k (y * w + 
 
 -- ---- known cells
 
--- the known cells of each row are those of the grid
+-- the rows together have as many known cells as the grid
 pub known_by_rows : (rows : List (List Cell)) → sum_by (count_by is_known) rows ≡ count_by is_known (cells_of_rows rows)
 known_by_rows [] = refl
 known_by_rows (row ∷ rows) = search (rules, sum_by-cons, sum_by-append, (known_by_rows rows))
 
--- and they are few enough
+-- the number of known cells fits into 32 bits
 pub few_known : (rows columns : List (List Cell)) → AreLinesOf (cells_of_rows rows) rows columns →
     sum_by (count_by is_known) rows < 2 ^ 32
 few_known rows columns a = rw (known_by_rows rows) (let few = count_by-le-length is_known (cells_of_rows rows) in grind (arith, a, few))
 
--- ---- rows read from a grid
+-- ---- rows loaded from a grid
 
--- if the rows are those of a grid, and the columns have the cells of the rows, they are the lines of the grid
+-- rows that are those of a grid, and columns with the same cells, are the lines of the grid
 pub lines-read : (g : PartialGrid) (rows columns : List (List Cell)) → IsSize (length columns) (length rows) →
     length g.cells ≡ length columns * length rows → g.width ≡ length columns → ((y : ℕ) → y < length rows → get_or rows y [] ≡ row_of g y) →
     ((x : ℕ) → x < length columns → length (get_or columns x []) ≡ length rows) →

@@ -1,4 +1,4 @@
--- Lemmas on a whole puzzle: its closure, its trials, its search, and the steps of the program that make them.
+-- Lemmas on a puzzle's closure, trials and search, and on the functions that compute them.
 pub mod Names
 pub mod NeutralCells
 pub mod Order

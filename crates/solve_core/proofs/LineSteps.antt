@@ -1,4 +1,4 @@
--- Writing a line into a grid: which cells change, and what the closure is afterwards.
+-- Writing a line into a grid: which cells change, and what becomes of the closure.
 use Rattle.solve_core.proofs.Names.{◌≡◌, ◌≢◌, ℕ, zero, suc, ◌+◌, ◌*◌, ◌<◌, true, List, [], ◌∷◌, length, get_or, set, Option, Some, None, option_map, refl, sym, ap, ◌∙◌, ext_get_or, inl, inr, arith, length-set, get_or-set_same, replicate, AllByRecursion, Cell, Unknown, CellExtends, Extends, is_known, GridLine, places_from, cells_at, deduced, length-places_from, get_or-places_from, length-cells_at, get_or-cells_at, with_cells, deduce_line, round, closure, IsDeduced, IsWritten, unknown_count, AtMost, Extends-refl, Extends-trans, Extends-antisym, length-Extends, deduced-above, deduced-settled, IsLeastClosed, rules}
 use Rattle.solve_core.proofs.Changes.{is_among}
 use Rattle.solve_core.proofs.Closing.{fewer_unknown}
@@ -13,7 +13,7 @@ set_elsewhere (x ∷ g) zero c (suc k) h = refl
 set_elsewhere (x ∷ g) (suc p) c zero h = refl
 set_elsewhere (x ∷ g) (suc p) c (suc k) h = set_elsewhere g p c k (λ e. h (ap suc e))
 
--- a place where nothing else is written keeps its cell
+-- cell `k` keeps its value if nothing else is written at its index
 pub get_or-with_cells : (g : List Cell) (places : List ℕ) (d : List Cell) (k : ℕ)
     → ((i : ℕ) → i < length places → get_or places i 0 ≡ k → get_or d i Unknown ≡ get_or g k Unknown) →
     get_or (with_cells g places d) k Unknown ≡ get_or g k Unknown
@@ -23,22 +23,22 @@ get_or-with_cells g (p ∷ ps) (c ∷ d) k h =
     let here : get_or (set g p c) k Unknown ≡ get_or g k Unknown = set_elsewhere g p c k (λ e. h 0 (omega arith) e) in
     get_or-with_cells (set g p c) ps d k (λ i l e. h (suc i) (omega arith) e ∙ sym here) ∙ here
 
--- a list of one item reads as that, also outside
+-- a list of equal items reads as that item at each index, and outside if it is the default
 pub get_or-replicated : {X : Type 0} (n k : ℕ) (d : X) → get_or (replicate n d) k d ≡ d
 get_or-replicated zero k d = refl
 get_or-replicated (suc n) zero d = refl
 get_or-replicated (suc n) (suc k) d = get_or-replicated n k d
 
--- no place is in the list twice
+-- no index is in the list twice
 abbrev pub AreDistinct : List ℕ → Type 0
 AreDistinct [] = Unit {0}
 AreDistinct (p ∷ ps) = ((i : ℕ) → i < length ps → get_or ps i 0 ≢ p) × AreDistinct ps
 
--- each place is below a bound
+-- each index is below `n`
 abbrev pub AreBelow : ℕ → List ℕ → Type 0
 AreBelow n places = AllByRecursion (λ k. k < n) places
 
--- what was written at places is read there
+-- the cells that were written at `places` are read there
 pub cells_at-with_cells : (g : List Cell) (places : List ℕ) (d : List Cell) → AreDistinct places → AreBelow (length g) places →
     length d ≡ length places → cells_at Unknown (with_cells g places d) places ≡ d
 cells_at-with_cells g [] [] a b e = refl
@@ -46,7 +46,7 @@ cells_at-with_cells g (p ∷ ps) (c ∷ d) a b e =
     search (rules, get_or-with_cells, get_or-set_same, length-set, (cells_at-with_cells (set g p c) ps d a.1 (rw length-set b.1)))
 cells_at-with_cells g _ _ a b e = absurd (omega arith)
 
--- a grid into which those cells are written by which another one differs is that one
+-- a grid that differs from `z` only at `places` becomes `z` when the cells of `z` are written there
 pub with_cells-same : (g z : List Cell) (places : List ℕ) → AreDistinct places → AreBelow (length g) places → length z ≡ length g →
     ((p : ℕ) → ((k : ℕ) → k < length places → get_or places k 0 ≢ p) → get_or g p Unknown ≡ get_or z p Unknown) →
     with_cells g places (cells_at Unknown z places) ≡ z
@@ -60,12 +60,12 @@ with_cells-same g z places a b e others =
       | inr none ↦ get_or-with_cells g places line p (λ k h s. absurd (none k h s)) ∙ others p none
     ])
 
--- places that are a step apart are distinct, if the step is positive
+-- indices that are `step` apart are distinct, if `step` is positive
 pub distinct_from : (first step n : ℕ) → 0 < step → AreDistinct (places_from first step n)
 distinct_from first step zero h = tt
 distinct_from first step (suc n) h = search (rules, length-places_from, get_or-places_from, (distinct_from (first + step) step n h))
 
--- places that are a step apart are below a size, if each is by its number among them
+-- indices that are `step` apart are below `size`, if each of them is
 pub below_from : (first step n size : ℕ) → ((i : ℕ) → i < n → first + i * step < size) → AreBelow size (places_from first step n)
 below_from first step zero size h = tt
 below_from first step (suc n) size h = (
@@ -73,7 +73,7 @@ below_from first step (suc n) size h = (
   below_from (first + step) step n size (λ i l. let next = h (suc i) (omega arith) in omega (arith, next)),
 )
 
--- two grids that have the same cell at each of some places are read alike there
+-- two grids with the same cells at `places` are read alike there
 pub cells_at-same : (a b : List Cell) (places : List ℕ) →
     ((i : ℕ) → i < length places → get_or a (get_or places i 0) Unknown ≡ get_or b (get_or places i 0) Unknown) →
     cells_at Unknown a places ≡ cells_at Unknown b places
@@ -83,58 +83,60 @@ cells_at-same a b (p ∷ ps) h =
     let rest : cells_at Unknown a ps ≡ cells_at Unknown b ps = cells_at-same a b ps (λ i l. h (suc i) (omega arith)) in
     λ i. first i ∷ rest i
 
--- a cell that is written at one of some places is read there
-pub cells_at-set : (g : List Cell) (places : List ℕ) (b : ℕ) (c : Cell) → AreDistinct places → AreBelow (length g) places → b < length places →
+-- a cell that is written at one of `places` is read there
+pub cells_at-set : (g : List Cell) (places : List ℕ) (b : ℕ) (c : Cell) → AreDistinct places → AreBelow (length g) places
+    → b < length places →
     cells_at Unknown (set g (get_or places b 0) c) places ≡ set (cells_at Unknown g places) b c
 cells_at-set g [] b c distinct below l = absurd (omega arith)
 cells_at-set g (p ∷ ps) zero c distinct below l = search (rules, get_or-set_same, cells_at-same, set_elsewhere)
 cells_at-set g (p ∷ ps) (suc b) c distinct below l = search (rules, set_elsewhere, (cells_at-set g ps b c distinct.1 below.1 (omega arith)))
 
--- a settled line gives nothing
+-- a line that deduces just its own cells leaves the grid unchanged
 pub settled_line : (g : List Cell) (line : GridLine) → IsDeduced g line → deduce_line g line ≡ Some g
-settled_line g line h = ap (option_map (with_cells g line.places)) h ∙ ap (λ (r : List Cell). Some r) (with_cells-read Unknown g line.places)
+settled_line g line h = ap (option_map (with_cells g line.places)) h
+    ∙ ap (λ (r : List Cell). Some r) (with_cells-read Unknown g line.places)
 
--- what is certain of a line was written
+-- `new` is the grid `g` with a deduced line written into it
 module _ (line : GridLine) (g new : List Cell) (w : IsWritten line g new) where
   above : Extends (cells_at Unknown g line.places) w.certain
   above = rw w.is_certain at (deduced-above (cells_at Unknown g line.places) line.clue)
 
-  -- deducing the line gives these cells
+  -- deducing the line yields the new grid
   pub written_line : deduce_line g line ≡ Some new
   written_line = ap (option_map (with_cells g line.places)) w.is_certain ∙ ap (λ (r : List Cell). Some r) (sym w.written)
 
-  -- that only adds to what is known
+  -- the new grid extends the old one
   pub written-extends : Extends g new
   written-extends = rw w.written (rw (with_cells-read Unknown g line.places) at
       (with_cells-monotone g g line.places (cells_at Unknown g line.places) w.certain (Extends-refl g) above))
 
   module _ (a : AreDistinct line.places) (b : AreBelow (length g) line.places) where
-    -- what was written is read
+    -- the line of the new grid has the deduced cells
     pub written-read : cells_at Unknown new line.places ≡ w.certain
     written-read = search (rules, cells_at-with_cells, length-Extends, above, length-cells_at)
 
-    -- the line that was written is settled
+    -- the line of the new grid deduces just its own cells
     pub written-settled : IsDeduced new line
     written-settled = rw written-read (deduced-settled (cells_at Unknown g line.places) w.certain line.clue w.is_certain)
 
-    -- a cell stays that the line doesn't have, or that it had as it is
+    -- a cell keeps its value if it isn't on the line, or if the line doesn't change it
     pub written-elsewhere : (k : ℕ) →
         ((i : ℕ) → i < length line.places → get_or line.places i 0 ≡ k → get_or new k Unknown ≡ get_or g k Unknown) →
         get_or new k Unknown ≡ get_or g k Unknown
     written-elsewhere k h = search (rules, get_or-with_cells, written-read, get_or-cells_at)
 
-  -- fewer cells are unknown if a line learned something
+  -- if the deduced line differs from the old one, fewer cells are unknown
   pub written-fewer : w.certain ≢ cells_at Unknown g line.places → AreDistinct line.places → AreBelow (length g) line.places →
       unknown_count new < unknown_count g
   written-fewer n a b = search (rules, fewer_unknown, written-extends, written-read)
 
--- from a grid between one and its closure the closure is the same
+-- a grid between `g` and its least fixpoint has the same least fixpoint
 pub least_between : (f : List Cell → Option (List Cell)) (g z : List Cell) (c d : Option (List Cell)) → IsLeastClosed f g c →
     IsLeastClosed f z d → Extends g z → AtMost (Some z) c → d ≡ c
 least_between f g z c d lc ld h below =
     IsLeastClosed-unique f z d c ld (record { above = below; closed = lc.closed; least = λ w e k. lc.least w e (Extends-trans g z w h k) })
 
--- one line's deduction leaves the closure as it is
+-- deducing one of the lines doesn't change the closure
 pub line_keeps : (lines : List GridLine) (g new : List Cell) (line : GridLine) → IsOneOf line lines → Extends g new →
     deduce_line g line ≡ Some new → closure lines new ≡ closure lines g
 line_keeps lines g new line m h e =
@@ -147,16 +149,17 @@ pub line_dead : (lines : List GridLine) (g : List Cell) (line : GridLine) → Is
     deduced (cells_at Unknown g line.places) line.clue ≡ None → closure lines g ≡ None
 line_dead lines g line m e = search (rules, step_within, closure-IsLeastClosed, option_map)
 
--- a cell that learned something was unknown
+-- a cell that changed to one that extends it was unknown and is known now
 pub learned_cell : (old new : Cell) → CellExtends old new → new ≢ old → (old ≡ Unknown) × (is_known new ≡ true)
 learned_cell old new h k = search rules
 
--- a line stays as it is if a cell that isn't its own is written
-pub kept-elsewhere : (g : List Cell) (k : ℕ) (c : Cell) (line : GridLine) → ((b : ℕ) → b < length line.places → k ≢ get_or line.places b 0) →
+-- writing a cell that isn't on a line doesn't change the line
+pub kept-elsewhere : (g : List Cell) (k : ℕ) (c : Cell) (line : GridLine)
+    → ((b : ℕ) → b < length line.places → k ≢ get_or line.places b 0) →
     cells_at Unknown (set g k c) line.places ≡ cells_at Unknown g line.places
 kept-elsewhere g k c line apart = search (rules, cells_at-same, set_elsewhere)
 
--- a line of a closed grid knows all that is certain of it
+-- each line of a line-closed grid deduces just its own cells
 pub closed_settled : (lines : List GridLine) (g : List Cell) (line : GridLine) → round lines g ≡ Some g → IsOneOf line lines →
     AreDistinct line.places → AreBelow (length g) line.places → IsDeduced g line
 closed_settled lines g line e m distinct within = to (deduced (cells_at Unknown g line.places) line.clue)

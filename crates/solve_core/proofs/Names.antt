@@ -1,4 +1,4 @@
--- The names that most proofs cite, passed on from one place. Declares nothing.
+-- Re-exports the names that most proofs cite. Declares nothing.
 pub use Rattle.std.proofs.Common.{Bool, IfNone, IfSome, List, None, Option, Some, [], add-one, add-zero, ap, append-nil, append_assoc, arith, below_more, cond, count_by, drop, false, get_or, get_or-set_other, get_or-set_same, inl, inr, is_none, leb, length, length-append, length-set, ltb-false, ltb-true, map, nat_eq, nat_le, nat_lt, option_and_then, option_map, refl, replicate, rules, set, slice_index_or, slice_set, subst, suc, sym, take, take_all, true, true≢false, vec_capacity, vec_len, zero, zero-add, ℕ, ◌%◌, ◌*◌, ◌++◌, ◌+◌, ◌-◌, ◌/◌, ◌<◌, ◌∙◌, ◌∷◌, ◌≡◌, ◌≢◌, ◌≤◌, ◌⊎◌}
 pub use Rattle.std.proofs.Math.ListN.{get_or-eq_default, get_or-map, length-map}
 pub use Rattle.std.proofs.Math.Seq.{drop-append_seam, drop-length, take-append_seam}

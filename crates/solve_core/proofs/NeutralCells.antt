@@ -1,4 +1,4 @@
--- A cell with a colour by which nothing else is certain, as tables of fresh lines tell.
+-- Colours that are inert at a cell, as the valid lookahead tables of its row and its column show.
 use Rattle.std.proofs.Math.Nat.{mod-add-div'}
 use Rattle.solve_core.proofs.Names.{AreFresh, ColourMasks, Filled, Blank, Has, ap, is_known, is_none, is_refuted, lines_of, mask_if, mask_of, sym, false, true, true≢false, ◌≡◌, ◌≢◌, ℕ, ◌+◌, ◌*◌, ◌/◌, ◌%◌, ◌<◌, List, length, set, None, Some, arith, cases_eq, get_or, inl, inr, is_filled, refl, subst, Cell, Unknown, Nonogram, Side, Rows, Columns, cells_at, deduced, line_on, crossing, count_on, place_on, get_or-cells_at, get_or-places_on, length-cells_at, length-places_on, IsMarkedOn, IsDeduced, IsAtRest, Closing, LineMarks}
 use Rattle.solve_core.proofs.GridSteps.{apart_settled, settled_closed}
@@ -8,18 +8,18 @@ use Rattle.solve_core.specs.steps.Closers.{IsNeutralCell}
 use Rattle.solve_core.specs.steps.LinePairs.{IsNeutralAt, LineTables, table_on}
 use Rattle.solve_core.specs.steps.Trails.{CanSettle}
 
--- a fresh line has a table
+-- the table of a line in `fresh` isn't empty
 pub fresh_has_table : (p : Nonogram) (fresh : LineMarks) (tables : LineTables) (cells : List Cell) → AreFresh p fresh tables cells →
     (side : Side) (i : ℕ) → IsMarkedOn fresh side i → (table_on side i tables).line ≢ None
 fresh_has_table p fresh tables cells f side i marked none = let e = f.table_is side i marked in cc
 
 module _ (p : Nonogram) (c : Closing) (cells : List Cell) (colour : Cell) (rest : IsAtRest p c cells)
     (fresh : AreFresh p c.fresh c.kept.tables cells) where
-  -- nothing else is certain of line i of a side with the colour at its cell b
+  -- by a valid table, the colour is inert at cell `b` of line `i` of an axis
   abbrev IsNeutralLine : Side → ℕ → ℕ → Type 0
   IsNeutralLine side i b = IsMarkedOn c.fresh side i × IsNeutralAt c.kept.tables side i b (is_filled colour)
 
-  -- a line with a colour at a neutral cell is settled
+  -- a line deduces just its own cells after an inert colour is assigned to one of them
   settled : (side : Side) (i b k : ℕ) → 0 < p.width → i < count_on side p.width p.height → b < count_on (crossing side) p.width p.height →
       k ≡ place_on side p.width i b → CanSettle cells k colour → IsNeutralLine side i b → IsDeduced (set cells k colour) (line_on side p i)
   settled side i b k some li lb at can neutral =
@@ -37,7 +37,7 @@ module _ (p : Nonogram) (c : Closing) (cells : List Cell) (colour : Cell) (rest 
       (subst (λ (v : Cell). deduced (set line b v) clue ≡ Some (set line b v)) (coloured_as colour can.known)
       (table.nothing_else b within unknown neutral.1))
 
-  -- if nothing else is certain of its row and of its column once a cell has a colour, nothing is of the cells
+  -- a colour that is inert on the row and on the column of a cell is inert in the grid
   pub neutral_cell : (y x : ℕ) → IsNeutralLine Rows y x → IsNeutralLine Columns x y → IsNeutralCell p cells (y * p.width + x) colour
   neutral_cell y x row column can =
       settled_closed p (set cells (y * p.width + x) colour) rest.marks.puzzle
@@ -57,7 +57,7 @@ module _ (p : Nonogram) (c : Closing) (cells : List Cell) (colour : Cell) (rest 
         | inr other ↦ apart_settled p cells side i b _ j colour li lb at lj other (rest.marks.settled side j lj (rest.idle.unmarked side j))
       ]
 
--- a colour for which a cell is neutral isn't refuted
+-- an inert colour isn't refuted
 pub neutral_open : (p : Nonogram) (cells : List Cell) (masks : ColourMasks) (y k : ℕ) (c : Cell) →
     ((j : ℕ) (c : Cell) → Has (mask_if (is_filled c) masks) j → IsNeutralCell p cells (y * p.width + j) c) → k / p.width ≡ y →
     Has (mask_of c masks) (k % p.width) → CanSettle cells k c → is_refuted (lines_of p) cells k c ≡ false

@@ -1,4 +1,4 @@
--- What is noted of a grid's colours, and what that says of its trials.
+-- The record of consistent colours: why it stays correct, and which cells need no trial by it.
 use Rattle.std.proofs.Math.Nat.{mod-add-div'}
 use Rattle.solve_core.proofs.Names.{◌≡◌, ℕ, ◌+◌, ◌*◌, ◌/◌, ◌%◌, ◌<◌, ◌≤◌, ◌⊎◌, ◌∙◌, inl, inr, false, List, length, set, get_or, Some, sym, ap, arith, cases_Bool, cases_eq, div-mul-add, mod-mul-add, get_or-set_same, get_or-set_other, get_or_default, Cell, Unknown, Extends, Has, has, IsMaskOf, IsUnknownCell, Nonogram, Rows, lines_of, round, is_refuted, TrailedGrid, cells_along, ColourMasks, mask_of, no_colours, AreBothNoted, AreOpenings, rules}
 use Rattle.place_sets.proofs.HasLemmas.{true_has}
@@ -6,16 +6,17 @@ use Rattle.solve_core.proofs.GridLineSteps.{get_or-along, length-along, passed}
 use Rattle.solve_core.proofs.TrialSteps.{met_open}
 use Rattle.solve_core.specs.steps.Trails.{CanSettle}
 
--- if what is noted more at a row isn't refuted, all that is noted is open
+-- the record stays correct if the colours added in a row aren't refuted
 more_open : (p : Nonogram) (rows : List ColourMasks) (row : ColourMasks) (y : ℕ) (cells : List Cell) → AreOpenings p rows cells →
     y < length rows → ((k : ℕ) (c : Cell) → CanSettle cells k c → k / p.width ≡ y → Has (mask_of c row) (k % p.width) →
     Has (mask_of c (get_or rows y no_colours)) (k % p.width) ⊎ (is_refuted (lines_of p) cells k c ≡ false)) →
     AreOpenings p (set rows y row) cells
 more_open p rows row y cells before ly more = search (rules, cases_eq, get_or-set_same, get_or-set_other)
 
--- with colours that aren't refuted
+-- the record stays correct if a set of colours that aren't refuted is added in a row
 pub opened : (p : Nonogram) (rows : List ColourMasks) (old row more : ColourMasks) (y : ℕ) (cells : List Cell) → AreOpenings p rows cells →
-    y < length rows → old ≡ get_or rows y old → ((c : Cell) (i : ℕ) → Has (mask_of c row) i → Has (mask_of c old) i ⊎ Has (mask_of c more) i) →
+    y < length rows → old ≡ get_or rows y old
+    → ((c : Cell) (i : ℕ) → Has (mask_of c row) i → Has (mask_of c old) i ⊎ Has (mask_of c more) i) →
     ((k : ℕ) (c : Cell) → k / p.width ≡ y → Has (mask_of c more) (k % p.width) → CanSettle cells k c →
     is_refuted (lines_of p) cells k c ≡ false) → AreOpenings p (set rows y row) cells
 opened p rows old row more y cells before ly is only free =
@@ -24,7 +25,7 @@ opened p rows old row more y cells before ly is only free =
       | inr new ↦ inr (free k c at new settle)
     ])
 
--- with the known cells of a row of a closed grid
+-- the record stays correct if the known cells of a row of a line-closed grid are added
 pub all_open : (p : Nonogram) (rows : List ColourMasks) (old row : ColourMasks) (line : List Cell) (g : TrailedGrid) (y : ℕ)
     (cells : List Cell) → 0 < p.width → AreOpenings p rows cells → y < length rows → old ≡ get_or rows y old → g.width ≡ p.width →
     round (lines_of p) g.cells ≡ Some g.cells → Extends cells g.cells → line ≡ cells_along g Rows y →
@@ -41,8 +42,8 @@ all_open p rows old row line g y cells some before ly is wide closed more along 
           (sym (get_or-along g.cells (y * w) 1 w (k % w) k (omega (arith, some)) place) ∙ rw is_row at new)))
     ])
 
--- the unknown cells up to a place of row y are tried if those before a column of the row are, and none from there
--- on up to the place is near and untried
+-- both colours are recorded at the unknown cells up to column `end` of row `y`, if they are up to `column`, and from
+-- there on `untried` has none of the row's cells
 pub tried_before : (rows : List ColourMasks) (cells : List Cell) (w y column end from near tried untried : ℕ) → end ≤ w →
     ((x : ℕ) → x < w → IsUnknownCell cells (y * w + x) → Has near x) → IsMaskOf (λ x. AreBothNoted rows x y) tried →
     IsMaskOf (λ x. Has near x × (has tried x ≡ false)) untried → ((x : ℕ) → column ≤ x → x < end → Has untried x → ⊥) →

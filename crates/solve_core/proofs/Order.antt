@@ -1,7 +1,7 @@
--- What grids know together, in the order of what is known.
+-- The order of grids by what they know, and joins in it.
 use Rattle.solve_core.proofs.Names.{◌≡◌, ℕ, zero, suc, List, [], ◌∷◌, length, get_or, set, Option, Some, None, refl, sym, arith, option_and_then, AllByRecursion, Cell, Unknown, CellExtends, Extends, join_cells, join, join_all, option_cons, AtMost, Extends-refl, length-Extends, AtMost-trans}
 
--- at one cell
+-- a cell is at most an outcome: the outcome extends it, or is `None`, the greatest
 abbrev pub CellAtMost : Cell → Option Cell → Type 0
 CellAtMost c None = Unit {0}
 CellAtMost c (Some d) = CellExtends c d
@@ -12,7 +12,7 @@ join_cells-left c d = grind arith
 join_cells-right : (c d : Cell) → CellAtMost d (join_cells c d)
 join_cells-right c d = grind (arith, Extends-refl)
 
--- a cell above two cells is above what they know together
+-- a cell that extends two cells extends their join
 join_cells-least : (c d z : Cell) → CellExtends c z → CellExtends d z → (j : Cell) × (join_cells c d ≡ Some j) × CellExtends j z
 join_cells-least c d z h k = grind arith
 
@@ -40,12 +40,12 @@ join-least (c ∷ a) (d ∷ b) (e ∷ z) h k =
 join-least (c ∷ a) [] (e ∷ z) h k = absurd k
 join-least _ _ _ h k = absurd h
 
--- a grid has `n` cells, or is dead
+-- the outcome is a grid of `n` cells, or dead
 abbrev pub HasLength : ℕ → Option (List Cell) → Type 0
 HasLength n None = Unit {0}
 HasLength n (Some g) = length g ≡ n
 
--- a grid that is above each of several is above what they know together
+-- a grid that extends `g` and each of `os` extends their join
 pub join_all-least : (g z : List Cell) (os : List (Option (List Cell))) → Extends g z → AllByRecursion (λ o. AtMost o (Some z)) os →
     AtMost (join_all g os) (Some z)
 join_all-least g z [] h k = h
@@ -58,7 +58,7 @@ dead_above : (os : List (Option (List Cell))) → AllByRecursion (λ o. AtMost o
 dead_above [] = tt
 dead_above (o ∷ os) = (tt, dead_above os)
 
--- what is joined is above a grid and each of several, if each of them is as long, or dead
+-- the join of a grid with others is above each of them, if all are equally long or dead
 pub join_all-above : (g : List Cell) (os : List (Option (List Cell))) → AllByRecursion (HasLength (length g)) os →
     AllByRecursion (λ o. AtMost o (join_all g os)) (Some g ∷ os)
 join_all-above g [] h = (Extends-refl g, tt)
@@ -74,18 +74,18 @@ join_all-above g (Some d ∷ os) h =
     ]
     (join-left g d (sym h.0)) (join-right g d (sym h.0))
 
--- what is below each grid that an outcome may be is below the outcome
+-- `x` is below the outcome `o` if it is below each grid that `o` can be
 pub below_each : (x o : Option (List Cell)) → ((w : List Cell) → o ≡ Some w → AtMost x (Some w)) → AtMost x o
 below_each x o h = grind arith
 
--- a grid with a cell that another one has is below that one
+-- a grid below `b` stays below it if it gets a cell that `b` has
 pub set_within : (a b : List Cell) (i : ℕ) (d : Cell) → Extends a b → CellExtends d (get_or b i Unknown) → Extends (set a i d) b
 set_within [] [] i d e f = tt
 set_within (x ∷ a) (y ∷ b) zero d e f = (f, e.1)
 set_within (x ∷ a) (y ∷ b) (suc i) d e f = (e.0, set_within a b i d e.1 f)
 set_within _ _ i d e f = absurd e
 
--- a grid with an unknown cell settled knows more
+-- a grid with an unknown cell assigned extends the old grid
 pub set_extends : (g : List Cell) (k : ℕ) (c : Cell) → get_or g k Unknown ≡ Unknown → Extends g (set g k c)
 set_extends [] k c e = tt
 set_extends (x ∷ g) zero c e = (rw e tt, Extends-refl g)

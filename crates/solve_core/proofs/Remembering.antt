@@ -1,4 +1,4 @@
--- Deductions as they are looked up and kept.
+-- The deduction cache stays correct when deductions are looked up and inserted.
 use Rattle.solve_core.proofs.Names.{◌≡◌, ℕ, ◌<◌, ◌∙◌, List, length, get_or, sym, inl, inr, Cell}
 use Rattle.std.specs.List.{All}
 use Rattle.std.proofs.lemmas.List.Elements.{All-contains, All-get_or, All-weaker}
@@ -8,7 +8,7 @@ use Rattle.grid_core.specs.declared.sides.Side.{Side}
 use Rattle.line_core.specs.Deduction.{deduced}
 use Rattle.solve_core.specs.steps.Deductions.{IsDeductionOf, IsKeptFrom, KnownLine}
 
--- what is remembered of a line is what is certain of it
+-- a cached deduction of a line with these cells is the deduced line
 pub remembered : (p : Nonogram) (kept : List KnownLine) (k : ℕ) (d e : KnownLine) (side : Side) (i : ℕ) (line : List Cell)
     → All (IsDeductionOf p) kept → k < length kept → d ≡ get_or kept k d → e ≡ get_or kept k e
     → (d.side ≡ side) × (d.number ≡ i) × (d.line ≡ line) → e.answer ≡ deduced line (line_on side p i).clue
@@ -17,7 +17,7 @@ remembered p kept k d e side i line right within at again of =
     let is : IsDeductionOf p d = rw at (All-get_or (IsDeductionOf p) kept k d within right) in
     rw (same, ← of.0, ← of.1, ← of.2) is
 
--- deductions stay right if one that is right is kept
+-- the cache stays correct if a correct deduction is inserted
 pub kept_right : (p : Nonogram) (old new : List KnownLine) (d : KnownLine) → All (IsDeductionOf p) old → IsDeductionOf p d
     → All (IsKeptFrom old d) new → All (IsDeductionOf p) new
 kept_right p old new d right is kept =

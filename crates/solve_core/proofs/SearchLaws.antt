@@ -1,11 +1,11 @@
--- What a search finds: every solution that extends the grid, nothing else, and none twice.
+-- A search finds each solution that extends its grid, once, and nothing else.
 use Rattle.solve_core.proofs.Names.{◌≡◌, ℕ, zero, suc, ◌+◌, ◌<◌, ◌≤◌, ◌⊎◌, inl, inr, Bool, true, false, List, [], ◌∷◌, ◌++◌, length, get_or, set, map, Option, Some, None, refl, sym, ap, ◌∙◌, arith, length-set, true≢false, add-one, take, cases_lt, lt-ltb, fails_before_first, position-Some, length-map, Cell, Unknown, Filled, Blank, CellExtends, Extends, colour, is_unknown, is_filled, GridLine, closure, Event, Guess, Solution, IsPick, first_unknown, guess_at, search_from, events_within, events, solutions_in, through_solution, Extends-refl, Extends-trans, length-Extends, Extends-antisym, unknown_count, Extends-at, Extends-from_places, get_or-map_colour, rules}
 use Rattle.solve_core.proofs.Order.{set_extends, set_within}
 use Rattle.solve_core.proofs.Closing.{unknown_count-le, fewer_unknown}
 use Rattle.solve_core.proofs.TrailSteps.{count-settled}
 use Rattle.solve_core.proofs.ClosureLaws.{MeetsLines, AreInRange, full-meets, closure-below, closure-IsLeastClosed}
 
--- a grid is one of several
+-- the grid is one of a list
 abbrev pub IsAmong : List Cell → List (List Cell) → Type 0
 IsAmong s [] = ⊥
 IsAmong s (x ∷ xs) = (x ≡ s) ⊎ IsAmong s xs
@@ -32,19 +32,19 @@ pub guess_solutions : (below : List Cell → List Event) (c : List Cell) (k : �
     solutions_in (guess_at below c (Some k)) ≡ solutions_in (below (set c k Filled)) ++ solutions_in (below (set c k Blank))
 guess_solutions below c k = solutions_in-append (Guess ∷ below (set c k Filled)) (Guess ∷ below (set c k Blank))
 
--- a cell of which nothing is known is `Unknown`
+-- a cell for which `is_unknown` holds is `Unknown`
 pub unknown_is : (c : Cell) → is_unknown c ≡ true → c ≡ Unknown
 unknown_is c h = search rules
 
--- a known cell of a grid is the same in each grid that knows more
+-- a cell that extends a known cell is equal to it
 pub same_known : (c d : Cell) → is_unknown c ≡ false → CellExtends c d → d ≡ c
 same_known c d h k = search rules
 
--- a grid that knows no less has no more unknown cells
+-- a grid that extends another one has at most as many unknown cells
 pub unknown_count-more : (g z : List Cell) → Extends g z → unknown_count z ≤ unknown_count g
 unknown_count-more g z h = elim (fewer_unknown g z h) [ inl e ↦ omega (arith, ap unknown_count e) | inr l ↦ omega arith ]
 
--- a grid with no unknown cell, as truth values
+-- a grid without unknown cells is the full grid of its colours
 full_is : (c : List Cell) → ((k : ℕ) → k < length c → is_unknown (get_or c k Unknown) ≡ false) → c ≡ map colour (map is_filled c)
 full_is [] h = refl
 full_is (Unknown ∷ c) h = absurd (true≢false (h 0 (omega arith)))
@@ -85,8 +85,8 @@ weaker : (lines : List GridLine) (g z s : List Cell) → Extends g z → IsSolut
 weaker lines g z s h r = record { full = r.full; is = r.is; meets = r.meets; extends = Extends-trans g z s h r.extends }
 
 module _ (pick : List Cell → Option ℕ) (lawful : IsPick pick) (lines : List GridLine) where
-  -- what holds of what is found, if it holds of nothing from a dead grid, of a full one's cells, and of what
-  -- is found below both guesses
+  -- induction over a search: `P` holds of the solutions found if it holds at depth 0, of a dead closure, of a full
+  -- closure, and of the solutions found after both guesses of a picked cell
   module _ (P : ℕ → List Cell → List (List Cell) → Type 0) (deep : (g : List Cell) → P 0 g [])
       (dead : (n : ℕ) (g : List Cell) → closure lines g ≡ None → P (suc n) g [])
       (leaf : (n : ℕ) (g c : List Cell) → closure lines g ≡ Some c → pick c ≡ None → P (suc n) g (c ∷ []))
@@ -111,7 +111,7 @@ module _ (pick : List Cell → Option ℕ) (lawful : IsPick pick) (lines : List 
         from None e below = dead n g e
         from (Some c) e below = at c e below (pick c) refl
 
-  -- the whole search from a grid finds every solution that extends it
+  -- the search from a grid finds each solution that extends the grid
   pub found : (full : List Bool) → MeetsLines lines full → (g : List Cell) → Extends g (map colour full) →
       IsAmong (map colour full) (solutions_in (events pick lines g))
   found full m g h =
@@ -131,7 +131,7 @@ module _ (pick : List Cell → Option ℕ) (lawful : IsPick pick) (lines : List 
       z : List Cell
       z = map colour full
 
-      -- a full grid is the only one that knows all that it knows
+      -- a full grid that `z` extends is `z`
       full_only : (c : List Cell) → Extends c z → pick c ≡ None → c ≡ z
       full_only c h e = Extends-antisym c z h (Extends-from_places z c (sym (length-Extends c z h)) (λ k l.
           rw (same_known (get_or c k Unknown) (get_or z k Unknown) (lawful.only_full c e k (omega (arith, length-Extends c z h)))
@@ -142,8 +142,7 @@ module _ (pick : List Cell → Option ℕ) (lawful : IsPick pick) (lines : List 
       both true k xs ys same f b = IsAmong-left z xs ys (f same)
       both false k xs ys same f b = IsAmong-right z xs ys (b same)
 
-  -- what a search of some depth finds are solutions that extend the grid, if the lines are in the grid, and
-  -- none is found twice
+  -- a search of any depth, with lines within the grid, finds only solutions that extend the grid, and none twice
   pub sound_within : (n : ℕ) (g : List Cell) → AreInRange (length g) lines →
       ((s : List Cell) → IsAmong s (solutions_in (events_within pick n lines g)) → IsSolutionAbove lines g s)
       × AreDistinct (solutions_in (events_within pick n lines g))
@@ -172,14 +171,14 @@ module _ (pick : List Cell → Option ℕ) (lawful : IsPick pick) (lines : List 
           let long : length full ≡ length g = length-map c is_filled ∙ sym (length-Extends g c above) in
           record { full = full; is = is; meets = full-meets lines full c (rw long r) (rw (← is) (law.closed c e)); extends = above }
 
-  -- a search asks what happens below a grid only of grids of its size that know more
+  -- a search depends on what follows a guess only for grids of the same size with fewer unknown cells
   search_from-agree : (p q : List Cell → List Event) (g : List Cell) →
       ((z : List Cell) → length z ≡ length g → unknown_count z < unknown_count g → p z ≡ q z) →
       search_from pick p (closure lines g) ≡ search_from pick q (closure lines g)
   search_from-agree p q g agree =
       search (rules, closure-IsLeastClosed, unknown_is, unknown_count-more, length-set, length-Extends, count-settled)
 
-  -- any depth above the number of unknown cells does
+  -- all depths greater than the number of unknown cells yield the same events
   events_within-enough : (n m : ℕ) (g : List Cell) → unknown_count g < n → unknown_count g < m →
       events_within pick n lines g ≡ events_within pick m lines g
   events_within-enough (suc n) (suc m) g h k =
@@ -187,7 +186,7 @@ module _ (pick : List Cell → Option ℕ) (lawful : IsPick pick) (lines : List 
       (λ z l u. events_within-enough n m z (omega arith) (omega arith))
   events_within-enough _ _ g h k = absurd (omega arith)
 
-  -- the whole search goes on below each guess as a whole search
+  -- a whole search goes on after each guess as a whole search
   pub events-unfold : (g : List Cell) → events pick lines g ≡ search_from pick (events pick lines) (closure lines g)
   events-unfold g = search (rules, add-one, search_from-agree, events_within-enough, unknown_count-le)
 
@@ -198,6 +197,6 @@ solutions_through (suc n) [] = refl
 solutions_through (suc n) (Guess ∷ es) = solutions_through (suc n) es
 solutions_through (suc n) (Solution s ∷ es) = λ i. s ∷ solutions_through n es i
 
--- the first unknown cell is a lawful pick
+-- the rule of the first unknown cell is lawful
 pub first_unknown-IsPick : IsPick first_unknown
 first_unknown-IsPick = search (rules, position-Some, fails_before_first, cases_lt, lt-ltb)

@@ -1,4 +1,4 @@
--- Lemmas that are laws as they stand.
+-- The lemmas whose statements are laws of the crate: `src/laws.rt` cites this ruleset in place of a proof for each.
 use Rattle.solve_core.proofs.AnswerLaws.{guesses-within}
 use Rattle.solve_core.proofs.ClosureLaws.{closure-IsLeastClosed}
 use Rattle.solve_core.proofs.PickLaws.{most_known-IsPick}

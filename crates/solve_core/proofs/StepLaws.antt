@@ -1,9 +1,9 @@
--- Deducing one line after the other stays below the closure, and ends in it.
+-- Deducing lines one at a time stays below the closure, and reaches it.
 use Rattle.solve_core.proofs.Names.{◌≡◌, ◌⊎◌, inl, inr, List, [], ◌∷◌, map, Option, Some, subst, AllByRecursion, Cell, Extends, GridLine, deduce_line, round, closure, AtMost, AtMost-trans, Extends-refl}
 use Rattle.solve_core.proofs.Order.{join_all-least, below_each}
 use Rattle.solve_core.proofs.ClosureLaws.{closure-IsLeastClosed, deduce_line-monotone, round-above, same_at_most, round-above_each}
 
--- a line is one of several
+-- the line is one of a list
 abbrev pub IsOneOf : GridLine → List GridLine → Type 0
 IsOneOf line [] = ⊥
 IsOneOf line (x ∷ lines) = (x ≡ line) ⊎ IsOneOf line lines
@@ -14,12 +14,12 @@ at_one P g [] line h m = absurd m
 at_one P g (x ∷ lines) line h (inl e) = subst (λ (l : GridLine). P (deduce_line g l)) e h.0
 at_one P g (x ∷ lines) line h (inr m) = at_one P g lines line h.1 m
 
--- a closed grid is closed under each of its lines
+-- a line-closed grid stays unchanged when one of its lines is deduced
 pub closed_line : (lines : List GridLine) (c : List Cell) (line : GridLine) → round lines c ≡ Some c → IsOneOf line lines →
     AtMost (deduce_line c line) (Some c)
 closed_line lines c line e m = at_one (λ o. AtMost o (Some c)) c lines line (rw e at (round-above_each lines c)) m
 
--- whichever line is deduced next, the grid stays below the closure of the first one
+-- whichever line is deduced next, the grid stays below the closure of the first grid
 pub step_within : (lines : List GridLine) (first g : List Cell) (line : GridLine) → IsOneOf line lines →
     AtMost (Some g) (closure lines first) → AtMost (deduce_line g line) (closure lines first)
 step_within lines first g line m h = below_each (deduce_line g line) (closure lines first) (λ c e.
@@ -31,7 +31,7 @@ each_same : (g : List Cell) (lines : List GridLine) → AllByRecursion (λ line.
 each_same g [] h = tt
 each_same g (line ∷ lines) h = (rw (h.0) (Extends-refl g), each_same g lines h.1)
 
--- if no line has more to give, the grid is the closure
+-- if no line of a grid between the first one and its closure deduces more, the grid is the closure
 pub done_within : (lines : List GridLine) (first g : List Cell) → Extends first g → AtMost (Some g) (closure lines first) →
     AllByRecursion (λ line. deduce_line g line ≡ Some g) lines → closure lines first ≡ Some g
 done_within lines first g h below each =

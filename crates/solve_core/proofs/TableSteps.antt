@@ -1,4 +1,4 @@
--- Tables of lines as they are made, forgotten and written.
+-- Lookahead tables of lines when they are created, cleared and written.
 use Rattle.solve_core.proofs.Names.{bit_at-zero, eqb-true, inl, inr, ◌≡◌, ◌≢◌, ℕ, zero, suc, refl, arith, ◌<◌, ◌≤◌, Bool, true, false, List, length, [], ◌∷◌, ◌++◌, None, get_or, get_or-set_other, get_or-set_same, set, Has, IsMarked, IsMaskOf, has}
 use Rattle.std.proofs.lemmas.Bool.{cases_eq, cases_lt}
 use Rattle.std.proofs.Math.ListN.{get_or-eq_default}
@@ -11,11 +11,11 @@ use Rattle.line_core.specs.Pairs.{IsTableOf, Table, neutral_if, no_table}
 use Rattle.solve_core.specs.steps.ColourMasks.{ColourMasks, mask_if, no_colours}
 use Rattle.solve_core.specs.steps.LinePairs.{AreEmpty, AreNeutralOf, AreTablesOf, LineTables, table_on}
 
--- no table has a line if there is none
+-- an empty list of tables has no table with a line
 pub none_empty : (xs : List Table) → xs ≡ [] → AreEmpty xs
 none_empty xs none = record { each = λ i. rw none refl }
 
--- a table without a line after others
+-- tables without lines, with another such table appended, have no line
 pub one_more_empty : (xs : List Table) (y : Table) → AreEmpty xs → y.line ≡ None → AreEmpty (xs ++ (y ∷ []))
 one_more_empty xs y empty none = record { each = λ i. at xs i empty.each }
   where
@@ -25,16 +25,16 @@ one_more_empty xs y empty none = record { each = λ i. at xs i empty.each }
     at (x ∷ xs) zero empty = empty 0
     at (x ∷ xs) (suc i) empty = at xs i (λ k. empty (suc k))
 
--- no table has a line if none of them does
+-- no table has a line if none of the first `n` has one, and there are at most `n`
 pub all_empty : (xs : List Table) (n : ℕ) → length xs ≤ n → ((k : ℕ) → k < n → (get_or xs k no_table).line ≡ None) → AreEmpty xs
 all_empty xs n long none = grind (arith, cases_lt, get_or-eq_default)
 
--- tables without a line are those of any puzzle
+-- tables without lines are tables of each puzzle
 pub empty_tables : (p : Nonogram) (rows columns : List Table) → AreEmpty rows → AreEmpty columns
     → AreTablesOf p (record { rows = rows; columns = columns })
 empty_tables p rows columns r c = grind (arith, table_on, empty_table)
 
--- the table of a line is made, and the others stay
+-- the tables stay those of the puzzle if that of one line is written and the others are unchanged
 pub line_written : (p : Nonogram) (side : Side) (i : ℕ) (old new : LineTables) → AreTablesOf p old
     → IsTableOf (line_on side p i).clue (table_on side i new)
     → ((s : Side) (k : ℕ) → (s ≡ side → k ≢ i) → table_on s k new ≡ table_on s k old) → AreTablesOf p new
@@ -48,31 +48,31 @@ line_written p side i old new tables table others = record {
     not_across Rows e = cc
     not_across Columns e = cc
 
--- the other tables stay if that of a row is made
+-- writing the table of a row leaves those of the other lines unchanged
 pub row_others : (i : ℕ) (old new columns : List Table) → ((k : ℕ) → k ≢ i → get_or new k no_table ≡ get_or old k no_table)
     → (s : Side) (k : ℕ) → (s ≡ Rows → k ≢ i)
     → table_on s k (record { rows = new; columns = columns }) ≡ table_on s k (record { rows = old; columns = columns })
 row_others i old new columns others Rows k n = others k (n refl)
 row_others i old new columns others Columns k n = refl
 
--- or that of a column
+-- writing the table of a column leaves those of the other lines unchanged
 pub column_others : (i : ℕ) (old new rows : List Table) → ((k : ℕ) → k ≢ i → get_or new k no_table ≡ get_or old k no_table)
     → (s : Side) (k : ℕ) → (s ≡ Columns → k ≢ i)
     → table_on s k (record { rows = rows; columns = new }) ≡ table_on s k (record { rows = rows; columns = old })
 column_others i old new rows others Rows k n = refl
 column_others i old new rows others Columns k n = others k (n refl)
 
--- sets beside tables without a line can be any
+-- for tables without lines, all sets are correct records of inert colours
 pub empty_sets : (width : ℕ) (tables : List Table) (sets : List ColourMasks) → AreEmpty tables → length sets ≤ width
     → AreNeutralOf width tables sets
 empty_sets width tables sets empty few = record { few = few; neutral = λ j k filled some has. absurd (some (empty.each k)) }
 
--- no place is for a colour if there is none
+-- `no_colours` has no index for either colour
 pub none_marked : (filled : Bool) (k : ℕ) → Has (mask_if filled no_colours) k → ⊥
 none_marked true k has = absurd (omega (arith, has, bit_at-zero k))
 none_marked false k has = absurd (omega (arith, has, bit_at-zero k))
 
--- a table that is written is marked at its neutral cells, and no other is
+-- after a table is written, the sets are correct if its inert cells are recorded in them at its line
 pub table_marked : (width i place : ℕ) (old : List Table) (written read d : Table) (before after : List ColourMasks)
     → AreNeutralOf width old before → place ≡ i → place < length old → read ≡ get_or (set old place written) place d
     → length after ≡ length before

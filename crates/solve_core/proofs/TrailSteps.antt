@@ -1,39 +1,39 @@
--- How a trail grows, and what taking its steps back leaves.
+-- How a trail grows, and what undoing its entries yields.
 use Rattle.solve_core.proofs.Names.{◌≡◌, drop, ℕ, zero, suc, ◌+◌, ◌<◌, true, List, [], ◌∷◌, ◌++◌, length, get_or, set, refl, sym, ap, ◌∙◌, arith, length-append, append_assoc, true≢false, AllByRecursion, Cell, Unknown, Filled, Blank, is_known, cells_at, TrailStep, TrailedGrid, unlearned, without, unknown_count, cleared, IsTrailed}
 use Rattle.solve_core.proofs.ClosureLaws.{length-with_cells}
 
--- taking two lists of steps back takes those of the second one back first
+-- undoing two lists of entries undoes those of the second list first
 pub cleared-append : (cells : List Cell) (steps more : List TrailStep) → cleared cells (steps ++ more) ≡ cleared (cleared cells more) steps
 cleared-append cells [] more = refl
 cleared-append cells (s ∷ steps) more = ap (λ (cs : List Cell). without cs s) (cleared-append cells steps more)
 
--- taking a step back leaves as many cells
+-- undoing an entry doesn't change the number of cells
 pub length-without : (cells : List Cell) (s : TrailStep) → length (without cells s) ≡ length cells
 length-without cells s = length-with_cells cells s.places (unlearned s.changes (cells_at Unknown cells s.places))
 
--- and so does taking several back
+-- undoing several entries doesn't change the number of cells
 pub length-cleared : (cells : List Cell) (steps : List TrailStep) → length (cleared cells steps) ≡ length cells
 length-cleared cells [] = refl
 length-cleared cells (s ∷ steps) = length-without (cleared cells steps) s ∙ length-cleared cells steps
 
--- what holds of all items of a list holds of each
+-- a property of all items of a list holds of the item at each index
 pub all_at : {X : Type 0} (P : X → Type 0) (xs : List X) (k : ℕ) (d : X) → AllByRecursion P xs → k < length xs → P (get_or xs k d)
 all_at P [] k d h l = absurd (omega arith)
 all_at P (x ∷ xs) zero d h l = h.0
 all_at P (x ∷ xs) (suc k) d h l = all_at P xs k d h.1 (omega arith)
 
--- and of all behind the first ones
+-- a property of all items of a list holds of those after the first `n`
 pub all_drop : {X : Type 0} (P : X → Type 0) (n : ℕ) (xs : List X) → AllByRecursion P xs → AllByRecursion P (drop n xs)
 all_drop P zero xs h = h
 all_drop P (suc n) [] h = tt
 all_drop P (suc n) (x ∷ xs) h = all_drop P n xs h.1
 
--- what holds of all items of two lists holds of all items of the joined list
+-- a property of all items of two lists holds of all items of the joined list
 pub all_append : {X : Type 0} (P : X → Type 0) (xs ys : List X) → AllByRecursion P xs → AllByRecursion P ys → AllByRecursion P (xs ++ ys)
 all_append P [] ys h k = k
 all_append P (x ∷ xs) ys h k = (h.0, all_append P xs ys h.1 k)
 
--- first something was learned, and then more
+-- if the trail of `b` extends that of `a`, and the trail of `c` that of `b`, then the trail of `c` extends that of `a`
 pub trailed_trans : (a b c : TrailedGrid) → IsTrailed a b → IsTrailed b c → IsTrailed a c
 trailed_trans a b c x y = record {
   added = x.added ++ y.added;
@@ -54,7 +54,7 @@ pub trailed-longer : (old new : TrailedGrid) → IsTrailed old new → unknown_c
     length old.trail < length new.trail
 trailed-longer old new t fewer = longer t.added old new t.kept t.undo fewer
 
--- settling an unknown cell leaves one unknown cell fewer
+-- assigning an unknown cell leaves one unknown cell fewer
 pub count-settled : (g : List Cell) (k : ℕ) (c : Cell) → k < length g → get_or g k Unknown ≡ Unknown → is_known c ≡ true →
     1 + unknown_count (set g k c) ≡ unknown_count g
 count-settled [] k c h e n = absurd (omega arith)

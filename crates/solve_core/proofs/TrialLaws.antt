@@ -1,20 +1,20 @@
--- Trials end in the least trial-closed grid, and lose no solution.
+-- Trials yield the least trial-closed grid above a grid, and solutions are trial-closed.
 use Rattle.solve_core.proofs.Names.{◌≡◌, ℕ, zero, suc, ◌+◌, ◌<◌, Bool, true, List, [], ◌∷◌, length, get_or, map, Option, Some, None, option_and_then, ◌∙◌, arith, slice_index_or, true≢false, add-zero, zero-add, range_with_len, length-map, Cell, Unknown, Filled, Blank, CellExtends, Extends, colour, GridLine, option_cons, round, closure, is_refuted, left_over, tried, all_present, trial_round, trials, AtMost, Extends-trans, length-Extends, Extends-at, get_or-map_colour, IsLeastClosed, rules}
 use Rattle.solve_core.proofs.SearchLaws.{same_known}
 use Rattle.solve_core.proofs.Order.{CellAtMost, cons_at_most, set_within, below_each}
 use Rattle.solve_core.proofs.Closing.{IsDeduction, repeat-fixed, and_then-above, and_then-below}
 use Rattle.solve_core.proofs.ClosureLaws.{closure-IsLeastClosed, repeat-IsLeastClosed, MeetsLines, same_at_most, set-monotone, round-above, round-below}
 
--- what trials say of each cell of a grid
+-- all cells of a grid, each after the trials of both colours
 abbrev pub tried_cells : List GridLine → List Cell → Option (List Cell)
 tried_cells lines grid = all_present (map (λ k. tried lines grid k (slice_index_or grid k Unknown)) (range_with_len 0 (length grid)))
 
--- an option of a cell below a cell
+-- an outcome of a cell is below a cell: it is a cell that the other one extends
 abbrev pub OptionBelow : Option Cell → Cell → Type 0
 OptionBelow None c = ⊥
 OptionBelow (Some d) c = CellExtends d c
 
--- the cells of a list whose first place is n
+-- outcomes that are above the cells of `g`, index by index, are above `g` as a grid
 all_above : (f : ℕ → Option Cell) (n : ℕ) (g : List Cell) → ((k : ℕ) → k < length g → CellAtMost (get_or g k Unknown) (f (n + k))) →
     AtMost (Some g) (all_present (map f (range_with_len n (length g))))
 all_above f n [] h = tt
@@ -22,7 +22,7 @@ all_above f n (c ∷ g) h =
     cons_at_most c g (f n) (all_present (map f (range_with_len (n + 1) (length g)))) (rw add-zero at (h 0 (omega arith)))
     (all_above f (n + 1) g (λ k l. let e : n + suc k ≡ n + 1 + k = omega arith in rw e at (h (suc k) (omega arith))))
 
--- what trials say of the cells of a grid only adds to what is known
+-- the trials of all cells only add known cells
 pub tried_cells-above : (lines : List GridLine) (g : List Cell) → AtMost (Some g) (tried_cells lines g)
 tried_cells-above lines g = search (rules, all_above, zero-add)
 
@@ -30,7 +30,7 @@ cons_below : (o : Option Cell) (os : Option (List Cell)) (c : Cell) (w : List Ce
     AtMost (option_cons o os) (Some (c ∷ w))
 cons_below o os c w h k = search rules
 
--- cells that are there and below those of a grid, place by place, are below the grid as a whole
+-- outcomes that are below the cells of `w`, index by index, are below `w` as a grid
 pub all_below : (f : ℕ → Option Cell) (n : ℕ) (w : List Cell) → ((k : ℕ) → k < length w → OptionBelow (f (n + k)) (get_or w k Unknown)) →
     AtMost (all_present (map f (range_with_len n (length w)))) (Some w)
 all_below f n [] h = tt
@@ -42,7 +42,7 @@ cons_parts : (o : Option Cell) (os : Option (List Cell)) (c : Cell) (w : List Ce
     OptionBelow o c × AtMost os (Some w)
 cons_parts o os c w h = search rules
 
--- what is below a grid as a whole is below it at each place
+-- outcomes that are below `w` as a grid are below its cells, index by index
 pub each_below : (f : ℕ → Option Cell) (n : ℕ) (w : List Cell) → AtMost (all_present (map f (range_with_len n (length w)))) (Some w) →
     (k : ℕ) → k < length w → OptionBelow (f (n + k)) (get_or w k Unknown)
 each_below f n [] h k l = absurd (omega arith)
@@ -61,7 +61,7 @@ left_blank_below b w h = search rules
 pub left_filled_below : (b : Bool) (w : Cell) → OptionBelow (left_over b true) w → CellExtends Filled w
 left_filled_below b w h = search rules
 
--- if filled is refuted, the settled cell is blank
+-- if filled is refuted, a cell above the outcome of the trials that isn't filled is blank
 left_blank : (lines : List GridLine) (z : List Cell) (k : ℕ) (c w : Cell) → CellExtends c w → OptionBelow (tried lines z k c) w →
     is_refuted lines z k Filled ≡ true → (CellExtends Filled w → ⊥) → w ≡ Blank
 left_blank lines z k c w h l m n = search (rules, same_known, left_blank_below)
@@ -70,14 +70,14 @@ left_filled : (lines : List GridLine) (z : List Cell) (k : ℕ) (c w : Cell) →
     is_refuted lines z k Blank ≡ true → (CellExtends Blank w → ⊥) → w ≡ Filled
 left_filled lines z k c w h l m n = search (rules, same_known, left_filled_below)
 
--- what trials settle in a grid is so in the closed result of trials on a grid that knows more
+-- the trials of one cell are monotone below a line-closed grid `w`
 pub tried-below : (lines : List GridLine) (g z w : List Cell) (k : ℕ) (c : Cell) → Extends g z → Extends z w → round lines w ≡ Some w →
     k < length w → CellExtends c (get_or w k Unknown) → OptionBelow (tried lines z k (get_or z k Unknown)) (get_or w k Unknown) →
     OptionBelow (tried lines g k c) (get_or w k Unknown)
 tried-below lines g z w k c h l m n o p =
     search (rules, left_blank, is_refuted-monotone, true≢false, closure-IsLeastClosed, set_within, left_filled)
 
--- the cells that trials settle, below a closed grid
+-- the trials of all cells are monotone below a line-closed grid `w`
 tried_cells-below : (lines : List GridLine) (g z w : List Cell) → Extends g z → Extends z w → round lines w ≡ Some w →
     AtMost (tried_cells lines z) (Some w) → AtMost (tried_cells lines g) (Some w)
 tried_cells-below lines g z w gz zw closed below =
@@ -92,7 +92,7 @@ tried_cells-below lines g z w gz zw closed below =
     (tried-below lines g z w k (get_or g k Unknown) gz zw closed l (Extends-at g w k (Extends-trans g z w gz zw))
     (rw (zero-add k) at (each_below at_z 0 w each k l)))))
 
--- what closing gives after trials is line-closed, and above what the trials say
+-- the closure after trials is line-closed, and above what the trials assign
 pub after_trials : (lines : List GridLine) (z w : List Cell) (o : Option (List Cell)) → option_and_then (closure lines) o ≡ Some w →
     AtMost o (Some w) × (round lines w ≡ Some w)
 after_trials lines z w o h = search (rules, closure-IsLeastClosed)
@@ -101,7 +101,7 @@ pub trial_round-deduction : (lines : List GridLine) → IsDeduction (trial_round
 trial_round-deduction lines =
     search (rules, and_then-above, tried_cells-above, below_each, after_trials, and_then-below, closure-IsLeastClosed, tried_cells-below)
 
--- the grid after trials is the least trial-closed grid that knows what the grid knows
+-- the grid after trials is the least trial-closed grid that extends the grid, or dead if there is none
 pub trials-IsLeastClosed : (lines : List GridLine) (g : List Cell) → IsLeastClosed (trial_round lines) g (trials lines g)
 trials-IsLeastClosed lines g = repeat-IsLeastClosed (trial_round lines) (trial_round-deduction lines) g
 

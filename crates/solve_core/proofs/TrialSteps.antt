@@ -1,4 +1,5 @@
--- What a trial's outcome says of a cell, and what settling the cell leaves of the trials' end.
+-- What the outcome of a trial shows of a cell, and why assigning the colour that is left is a step towards the grid
+-- after trials.
 use Rattle.solve_core.proofs.Names.{◌≡◌, ℕ, ◌+◌, ◌<◌, inl, inr, Bool, true, false, List, length, get_or, set, Some, None, ap, ◌∙◌, arith, zero-add, Cell, Unknown, Filled, Blank, CellExtends, Extends, is_known, GridLine, Changed, round, closure, is_refuted, left_over, tried, trial_round, trials, IsTried, Progresses, unknown_count, AtMost, Extends-refl, Extends-trans, length-Extends, rules}
 use Rattle.solve_core.proofs.Order.{set_extends, set_within, below_each}
 use Rattle.solve_core.proofs.Closing.{repeat-fixed, fewer_unknown}
@@ -7,7 +8,7 @@ use Rattle.solve_core.proofs.TrialLaws.{OptionBelow, tried_cells, tried_cells-ab
 use Rattle.solve_core.proofs.LineSteps.{least_between}
 use Rattle.solve_core.proofs.TrailSteps.{count-settled}
 
--- from a grid between one and its trials the trials end alike
+-- trials from a grid between `g` and the grid after trials of `g` yield the same grid
 pub trials_between : (lines : List GridLine) (g z : List Cell) → Extends g z → AtMost (Some z) (trials lines g) →
     trials lines z ≡ trials lines g
 trials_between lines g z h below = least_between (trial_round lines) g z (trials lines g) (trials lines z) (trials-IsLeastClosed lines g)
@@ -20,11 +21,11 @@ trial_closed-round lines z e = (after_trials lines z z (tried_cells lines z) e).
 pub closure_below : (lines : List GridLine) (g : List Cell) → AtMost (closure lines g) (trials lines g)
 closure_below lines g = search (rules, below_each, trials-IsLeastClosed, closure-IsLeastClosed, trial_closed-round)
 
--- trials from the closure of a grid end as they do from the grid
+-- trials from the closure of a grid yield the same as trials from the grid
 pub closure_trials : (lines : List GridLine) (g new : List Cell) → closure lines g ≡ Some new → trials lines new ≡ trials lines g
 closure_trials lines g new e = search (rules, trials_between, closure-IsLeastClosed, closure_below)
 
--- what trials say of one cell is below where they all end
+-- the outcome of the trials of one cell is below each trial-closed grid that extends the grid
 tried_at_end : (lines : List GridLine) (g w : List Cell) (k : ℕ) → trial_round lines w ≡ Some w → Extends g w → k < length w →
     OptionBelow (tried lines g k Unknown) (get_or w k Unknown)
 tried_at_end lines g w k closed gw l =
@@ -38,12 +39,12 @@ left_below : (lines : List GridLine) (g : List Cell) (k : ℕ) (colour : Cell) �
     ((w : Cell) → OptionBelow (tried lines g k Unknown) w → CellExtends colour w) → AtMost (Some (set g k colour)) (trials lines g)
 left_below lines g k colour l below = search (rules, below_each, trials-IsLeastClosed, set_within, tried_at_end, length-Extends)
 
--- if filled is refuted, the grid with the cell blank is below the trials' end
+-- if filled is refuted, the grid with the cell blank is below the grid after trials
 pub blank_below : (lines : List GridLine) (g : List Cell) (k : ℕ) → k < length g → is_refuted lines g k Filled ≡ true →
     AtMost (Some (set g k Blank)) (trials lines g)
 blank_below lines g k l r = left_below lines g k Blank l (λ w h. left_blank_below (is_refuted lines g k Blank) w (rw r at h))
 
--- if blank is refuted, the grid with the cell filled is below the trials' end
+-- if blank is refuted, the grid with the cell filled is below the grid after trials
 pub filled_below : (lines : List GridLine) (g : List Cell) (k : ℕ) → k < length g → is_refuted lines g k Blank ≡ true →
     AtMost (Some (set g k Filled)) (trials lines g)
 filled_below lines g k l r = left_below lines g k Filled l (λ w h. left_filled_below (is_refuted lines g k Filled) w (rw r at h))
@@ -62,24 +63,24 @@ closed-tried lines z e k l unknown =
     let here = tried_at_end lines z z k e (Extends-refl z) l in
     both_open (is_refuted lines z k Filled) (is_refuted lines z k Blank) (rw unknown at here)
 
--- if a line-closed grid has no unknown cell with a refuted colour, trials leave it as it is
+-- trials leave a line-closed grid unchanged if no unknown cell has a refuted colour
 pub tried_ends : (lines : List GridLine) (z : List Cell) → round lines z ≡ Some z → ((k : ℕ) → k < length z → IsTried lines z k) →
     trials lines z ≡ Some z
 tried_ends lines z e h = repeat-fixed (trial_round lines) (length z + 1) z (tried-closed lines z e h)
 
--- the colour of a cell of a line-closed grid isn't refuted in a grid that knows no more
+-- the colour of a cell in a line-closed grid isn't refuted in a grid that it extends
 pub met_open : (lines : List GridLine) (g z : List Cell) (k : ℕ) (d : Cell) → round lines z ≡ Some z → Extends g z →
     get_or z k Unknown ≡ d → is_refuted lines g k d ≡ false
 met_open lines g z k d closed h at = search (rules, set_within, closure-IsLeastClosed)
 
--- a grid that a cell was settled in and that was closed knows more
+-- the closure after an unknown cell is assigned extends the grid
 pub settled-extends : (lines : List GridLine) (g z : List Cell) (k : ℕ) (c : Cell) → get_or g k Unknown ≡ Unknown →
     closure lines (set g k c) ≡ Some z → Extends g z
 settled-extends lines g z k c unknown e =
     let above : Extends (set g k c) z = rw e at ((closure-IsLeastClosed lines (set g k c)).above) in
     Extends-trans g (set g k c) z (set_extends g k c unknown) above
 
--- settling a cell as trials do is progress
+-- assigning a cell as trials do is a step towards the grid after trials
 pub settle-changed : (lines : List GridLine) (g new : List Cell) (k : ℕ) (c : Cell) → k < length g → get_or g k Unknown ≡ Unknown →
     is_known c ≡ true → AtMost (Some (set g k c)) (trials lines g) → closure lines (set g k c) ≡ Some new
     → Progresses (trials lines) Changed g new
@@ -91,7 +92,7 @@ settle-changed lines g new k c l unknown n below e =
       elim (fewer_unknown z new above) [ inl s ↦ omega (arith, ap unknown_count s, fewer) | inr m ↦ omega (arith, m, fewer) ],
     )
 
--- if settling a cell as trials do leads to a dead closure, the trials end dead
+-- if assigning a cell as trials do leads to a dead closure, the trials end dead
 pub settle-dead : (lines : List GridLine) (g : List Cell) (k : ℕ) (c : Cell) → get_or g k Unknown ≡ Unknown →
     AtMost (Some (set g k c)) (trials lines g) → closure lines (set g k c) ≡ None → trials lines g ≡ None
 settle-dead lines g k c unknown below e = search (rules, trials_between, set_extends, closure_below)

@@ -1,7 +1,7 @@
--- The places of a set that are in one of its words.
+-- The indices of a set that are in one of its 64-bit words.
 use Rattle.solve_core.proofs.Names.{◌≢◌, ◌+◌, ◌-◌, ◌<◌, ℕ, false, inl, inr, sym, arith, subst, true≢false, Has, IsMarked, IsMaskOf, IsIn, rules}
 
--- the places of a set that are in the word from `from` on
+-- `word` has the indices of the set `places` from `from` on, counted from there
 abbrev WordFrom : ℕ → ℕ → ℕ → Type 0
 WordFrom places from word = IsMaskOf (λ x. (x < 64) × Has places (x + from)) word
 
@@ -11,6 +11,6 @@ in_word places from word k mask is = mask.from (k - from) (omega (arith, is), su
 pub of_word : (places from word x : ℕ) → WordFrom places from word → Has word x → IsIn places from (from + x)
 of_word places from word x mask has = search (rules)
 
--- what is left when a place was taken away is elsewhere
+-- the indices that are left after `k` was removed differ from `k`
 pub stays : (left next k : ℕ) → IsMaskOf (IsMarked (Has left) k false) next → (j : ℕ) → Has next j → Has left j × (j ≢ k)
 stays left next k marked j h = elim (marked.to j h) [ inl kept ↦ kept | inr gone ↦ absurd (true≢false (sym gone.1)) ]

@@ -1,4 +1,4 @@
--- The definitions that public contracts rest on; those that only private calls need are the steps.
+-- The definitions that public contracts use. Those that only private contracts use are in `steps`.
 pub mod Closure
 pub mod LeastClosed
 pub mod Trials

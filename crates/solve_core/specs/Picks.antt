@@ -1,4 +1,4 @@
--- The rules for the cell of the next guess.
+-- The rules that choose the cell of the next guess.
 use Rattle.std.specs.Prelude.{ℕ, zero, suc, ◌+◌, ◌-◌, ◌%◌, Bool, cond, nat_eq, nat_lt, nat_le, List, length, slice_index_or, Option, Some, None, ◌||◌}
 use Rattle.grid_core.specs.declared.cells.Cell.{Cell}
 use Rattle.grid_core.specs.declared.cells.Cell.TheVariants.{Unknown}
@@ -7,17 +7,20 @@ use Rattle.solve_core.specs.declared.picks.Pick.{Pick}
 use Rattle.solve_core.specs.declared.picks.Pick.TheVariants.{First, Most}
 use Rattle.solve_core.specs.Search.{first_unknown}
 
--- whether a neighbour is outside the grid, or else known
+-- whether a neighbour is outside the grid or known
 abbrev pub is_sure : Bool → Cell → Bool
 is_sure outside cell = outside || is_known cell
 
--- whether the neighbour to the left of cell `k`, in a grid of `width` columns, is known or outside the grid
+-- whether the left neighbour of cell `k`, in a grid of `width` columns, is known or outside the
+-- grid
 abbrev pub is_left_sure : ℕ → List Cell → ℕ → Bool
-is_left_sure width cells k = is_sure (nat_eq (k % width) 0) (slice_index_or cells (k - 1) Unknown)
+is_left_sure width cells k =
+    is_sure (nat_eq (k % width) 0) (slice_index_or cells (k - 1) Unknown)
 
--- whether the neighbour to the right of cell `k` is known or outside the grid
+-- whether the right neighbour of cell `k` is known or outside the grid
 abbrev pub is_right_sure : ℕ → List Cell → ℕ → Bool
-is_right_sure width cells k = is_sure (nat_eq (k % width + 1) width) (slice_index_or cells (k + 1) Unknown)
+is_right_sure width cells k =
+    is_sure (nat_eq (k % width + 1) width) (slice_index_or cells (k + 1) Unknown)
 
 -- whether the neighbour above cell `k` is known or outside the grid
 abbrev pub is_above_sure : ℕ → List Cell → ℕ → Bool
@@ -25,30 +28,39 @@ is_above_sure width cells k = is_sure (nat_lt k width) (slice_index_or cells (k 
 
 -- whether the neighbour below cell `k` is known or outside the grid
 abbrev pub is_below_sure : ℕ → List Cell → ℕ → Bool
-is_below_sure width cells k = is_sure (nat_le (length cells) (k + width)) (slice_index_or cells (k + width) Unknown)
+is_below_sure width cells k =
+    is_sure (nat_le (length cells) (k + width)) (slice_index_or cells (k + width) Unknown)
 
--- how many of a cell's four neighbours are known or outside the grid
+-- how many of the four neighbours of cell `k` are known or outside the grid
 abbrev pub sure_neighbours : ℕ → List Cell → ℕ → ℕ
 sure_neighbours width cells k =
-    cond (is_left_sure width cells k) 1 0 + cond (is_right_sure width cells k) 1 0 + cond (is_above_sure width cells k) 1 0 + cond
-    (is_below_sure width cells k) 1 0
+    cond (is_left_sure width cells k) 1 0
+    + cond (is_right_sure width cells k) 1 0
+    + cond (is_above_sure width cells k) 1 0
+    + cond (is_below_sure width cells k) 1 0
 
--- the earlier one of two places, unless more counts for the later one
+-- the better of two indices: the later one, `k`, if its score is higher, and otherwise the earlier
+-- one
 abbrev pub better : (ℕ → ℕ) → Option ℕ → ℕ → Option ℕ
 better score None k = Some k
 better score (Some j) k = cond (nat_lt (score j) (score k)) (Some k) (Some j)
 
--- of the first n places, the one that passes a test and for which the most counts, and of several the first
+-- of the indices below `n` that pass a test, the first one with the highest score; `None` if none
+-- passes
 abbrev pub first_most : (ℕ → ℕ) → (ℕ → Bool) → ℕ → Option ℕ
 first_most score passes zero = None
-first_most score passes (suc n) = cond (passes n) (better score (first_most score passes n) n) (first_most score passes n)
+first_most score passes (suc n) =
+    cond (passes n) (better score (first_most score passes n) n) (first_most score passes n)
 
--- the unknown cell of whose neighbours the most are known or outside the grid,
--- and of several the first in row order
+-- of the unknown cells, the first one in row order with the most known neighbours
 abbrev pub most_known : ℕ → List Cell → Option ℕ
-most_known width cells = first_most (sure_neighbours width cells) (λ k. is_unknown (slice_index_or cells k Unknown)) (length cells)
+most_known width cells =
+    first_most
+    (sure_neighbours width cells)
+    (λ k. is_unknown (slice_index_or cells k Unknown))
+    (length cells)
 
--- the cell of the next guess, by the rule, in a grid of `width` columns
+-- the cell that the rule picks for the next guess in a grid of `width` columns
 abbrev pub picked : Pick → ℕ → List Cell → Option ℕ
 picked First width cells = first_unknown cells
 picked Most width cells = most_known width cells

@@ -1,4 +1,4 @@
--- The definitions that only private calls need.
+-- The definitions that only the contracts of private functions use.
 pub mod Boards
 pub mod Branches
 pub mod Closers

@@ -1,4 +1,4 @@
-//! A grid as its rows and its columns, with the way back.
+//! The board of a search: a grid as rows and columns, with a trail by which assignments are undone.
 ghost use Rattle.std.specs.Prelude.{◌≡◌, ℕ, ◌+◌, ◌-◌, ◌*◌, ◌<◌, ◌≤◌, [], length, map, take, slice_index_or, slice_set, true, IfOk, IsTrue};
 ghost use Rattle.grid_core.specs.Cells.{is_known};
 ghost use Rattle.grid_core.specs.Nonogram.{lines_of};
@@ -23,7 +23,7 @@ use place_sets::PlaceSet;
 use std::alloc::Global;
 use std::marker::Model;
 
-/// Room for a board, whatever stands in it.
+/// The buffers of a board: its rows, its columns and its trail. Only their capacities matter.
 #[derive(Drop)]
 pub struct BoardRoom<W: LineSet> {
     rows: Vec<LineOf<W>>,
@@ -37,11 +37,16 @@ impl<W: LineSet> Model for BoardRoom<W> {
 
     ghost Value = { BoardSpace };
 
-    ghost view = { λ r. record { rows = vec_capacity r.rows; columns = vec_capacity r.columns; trail = vec_capacity r.trail } };
+    ghost view = { λ r. record {
+      rows = vec_capacity r.rows;
+      columns = vec_capacity r.columns;
+      trail = vec_capacity r.trail;
+    } };
 }
 
 impl<W: LineSet> BoardRoom<W> {
-    /// Room for a board of this size, of that of another one, if there is one.
+    /// Allocates the buffers of a board of `width` columns and `height` rows, reusing those of
+    /// `other` if given. Fails with `NoMemory` if an allocation fails.
     pub fn new(
         alloc: Global,
         other: Option<BoardRoom<W>>,
@@ -70,14 +75,15 @@ impl<W: LineSet> BoardRoom<W> {
     }
 }
 
-/// A grid as its rows and its columns. It keeps what lines learned, in the order in which they did, in room
-/// that is made once, and so leads back.
+/// A grid as rows and columns, with a trail by which assignments are undone in reverse order.
+/// `read` and `close` clear the trail. Its buffer is allocated once.
 pub struct Board<W: LineSet> {
     lines: GridLines<W>,
     trail: Vec<Step<W>>,
 }
 
-/// A call of its own, so that a proof takes it as one step.
+/// Written by hand so that callers' proofs see one call: a derived drop is expanded at each exit of
+/// each caller.
 impl<W: LineSet> Drop for Board<W> {
     fn drop(self) {
         let Board { lines: _, trail: _ } = self;
@@ -97,7 +103,8 @@ impl<W: LineSet> Model for Board<W> {
 }
 
 impl<W: LineSet> Board<W> {
-    /// A board of which nothing is known, in room that is made.
+    /// Returns a board whose cells are all unknown and whose trail is empty, in the buffers of
+    /// `room`.
     pub fn unknown(room: BoardRoom<W>, width: u16, height: u16) -> Board<W>
         requires size { IsSize width height }
         requires fits { (width ≤ W.WIDTH) × (height ≤ W.WIDTH) }
@@ -117,7 +124,7 @@ impl<W: LineSet> Board<W> {
         }
     }
 
-    /// Its room, for another board.
+    /// Returns the board's buffers, for another board.
     pub fn into_room(self) -> BoardRoom<W> {
         let Board { lines, trail } = self;
         let (rows, columns) = lines.into_lists();
@@ -128,7 +135,7 @@ impl<W: LineSet> Board<W> {
         }
     }
 
-    /// Its rows and its columns.
+    /// Returns the board's rows and columns.
     pub fn lines(&self) -> &GridLines<W>
         ensures lines { result.now ≡ grid_of_board self.now }
         ensures size { IsSize self.now.width self.now.height }
@@ -137,20 +144,23 @@ impl<W: LineSet> Board<W> {
         &self.lines
     }
 
-    /// What lines learned, first what was learned first.
+    /// Returns the entries of the trail, oldest first.
     pub fn trail(&self) -> &[Step<W>]
         ensures len { length result.now ≡ length self.now.trail }
-        ensures room { length self.now.trail + unknown_count self.now.cells ≤ length self.now.cells }
+        ensures room { length self.now.trail + unknown_count self.now.cells
+            ≤ length self.now.cells }
         ensures few { length self.now.cells ≤ 65536 }
     {
         &self.trail
     }
 
-    /// Settles the unknown cell in column x and row y.
+    /// Assigns the colour `cell` to the unknown cell in column `x` and row `y`, and appends an
+    /// entry to the trail.
     pub fn settle(&mut self, x: u16, y: u16, cell: Cell)
         requires column { x < self.old.width }
         requires row { y < self.old.height }
-        requires unknown { slice_index_or self.old.cells (y * self.old.width + x) Unknown ≡ Unknown }
+        requires unknown { slice_index_or self.old.cells (y * self.old.width + x) Unknown
+            ≡ Unknown }
         requires known { is_known cell ≡ true }
         ensures cells { self.new.cells ≡ slice_set self.old.cells (y * self.old.width + x) cell }
         ensures trail { IsTrailed self.old self.new }
@@ -160,7 +170,7 @@ impl<W: LineSet> Board<W> {
         self.learn(Side::Rows, y, &row, W::empty().marked(x, true));
     }
 
-    /// Takes the last step back.
+    /// Undoes the last entry of the trail and removes it.
     fn undo(&mut self)
         requires { 0 < length self.old.trail }
         ensures { self.new ≡ record self.old {
@@ -174,17 +184,20 @@ impl<W: LineSet> Board<W> {
         self.lines.unlearn(step.side, step.line, step.changes);
     }
 
-    /// Takes the steps back that were made since the trail had `mark` of them.
+    /// Undoes all assignments since the trail had `mark` entries, the last one first. Does nothing
+    /// if the trail isn't longer than that.
     pub fn go_back(&mut self, mark: usize)
-        ensures { self.new ≡ record self.old { cells = cells_before self.old.cells self.old.trail mark; trail = take mark self.old.trail } }
+        ensures { self.new ≡ record self.old {
+          cells = cells_before self.old.cells self.old.trail mark;
+          trail = take mark self.old.trail;
+        } }
     {
         while self.trail().len() > mark {
             self.undo();
         }
     }
 
-    /// The rows that are touched by the steps since the trail had `mark` of them: those that learned, and those
-    /// that a column crosses where it learned.
+    /// Returns the rows in which a cell was assigned since the trail had `mark` entries.
     pub fn rows_since(&self, mark: usize) -> W
         requires { mark ≤ length self.now.trail }
         ensures { (y : ℕ) → Has (W.number result) y → y < self.now.height }
@@ -196,20 +209,24 @@ impl<W: LineSet> Board<W> {
         rows
     }
 
-    /// Closes it by all lines, with nothing to go back to. Returns whether it is alive.
+    /// Propagates all lines until the board reaches its closure. Returns whether it is alive.
+    /// Clears the trail, so that this can't be undone.
     pub fn close(&mut self, closer: &mut Closer<W>, puzzle: &Puzzle) -> bool
         requires memory { IsMemoryOf puzzle.now closer.old }
         requires size { IsBoardOf puzzle.now self.old }
-        ensures closed { if_alive result self.new.cells ≡ closure (lines_of puzzle.now) self.old.cells }
+        ensures closed { if_alive result self.new.cells
+            ≡ closure (lines_of puzzle.now) self.old.cells }
         ensures rest { IsTrue result → IsAtRest puzzle.now closer.new self.new.cells }
         ensures size { IsBoardOf puzzle.now self.new }
         ensures idle { IsIdle puzzle.now closer.new }
     {
+        // The lines are changed directly: what can't be undone needs no trail, and to record one
+        // takes more time on large puzzles.
         self.trail.clear();
         closer.propagate_all(puzzle, &mut self.lines)
     }
 
-    /// Takes over a grid's cells, with nothing to go back to.
+    /// Loads the cells of `grid`, which has the board's size, and clears the trail.
     pub fn read(&mut self, grid: &Grid)
         requires width { grid.now.width ≡ self.old.width }
         requires height { grid.now.height ≡ self.old.height }
@@ -221,7 +238,7 @@ impl<W: LineSet> Board<W> {
     }
 }
 
-/// With the trail.
+/// Appends an entry to the trail for each line that is assigned to.
 impl<W: LineSet> Learner<W> for Board<W> {
     ghost board = { λ b. b };
 
@@ -235,6 +252,8 @@ impl<W: LineSet> Learner<W> for Board<W> {
 
     fn learn(&mut self, side: Side, i: u16, new: &LineOf<W>, changes: W) {
         self.lines.learn(side, i, new, changes);
+        // The capacity suffices: it is one entry for each cell, and each entry assigned at least
+        // one unknown cell.
         self.trail.push_reserved(Step {
             side,
             line: i,

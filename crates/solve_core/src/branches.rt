@@ -1,4 +1,4 @@
-//! Going back in a search.
+//! The branches of a search, and the next guess to make.
 ghost use Rattle.std.specs.Prelude.{◌≡◌, ◌≢◌, ◌<◌, ◌≤◌, ℕ, List, Option, None, true, IfSome, length, slice_index_or, vec_capacity};
 ghost use Rattle.grid_core.specs.declared.cells.Cell.{Cell as CellValue};
 ghost use Rattle.grid_core.specs.Cells.{is_known};
@@ -10,29 +10,35 @@ use crate::boards::Board;
 use grid_core::Cell;
 use line_core::LineSet;
 
-/// A filled guess whose cell is still to be guessed blank: its place, and how many steps the trail had.
+/// A filled guess whose cell is still to be guessed blank.
 #[derive(Clone, Copy, Debug)]
 pub struct Branch {
-    /// The place of the guessed cell.
+    /// The index of the guessed cell in row order.
     pub place: usize,
-    /// How many steps the trail had before the guess.
+    /// How many entries the trail had before the guess.
     pub mark: usize,
 }
 
-/// The next guess, a place and a colour, and the board made ready for it: the cell to guess is filled, or
-/// else the last branch's cell is blank in the board as it was. `None` if neither is left.
+/// Returns the cell index and the colour of the next guess, and prepares the board for it. If
+/// `next` is a cell, it is to be guessed filled, and a branch is pushed. Otherwise the last branch
+/// is popped, the board is undone to where it was, and its cell is to be guessed blank. `None` if
+/// no branch is left.
 pub(crate) fn take_guess<W: LineSet>(
     board: &mut Board<W>,
     branches: &mut Vec<Branch>,
     next: Option<usize>,
 ) -> Option<(usize, Cell)>
-    requires next { IfSome next (λ place. (place < length board.old.cells) × (slice_index_or board.old.cells place Unknown ≡ Unknown)) }
+    requires next { IfSome next (λ place.
+        (place < length board.old.cells)
+        × (slice_index_or board.old.cells place Unknown ≡ Unknown)) }
     requires older { next ≢ None → length branches.old.items ≤ length board.old.trail }
     requires room { length board.old.cells ≤ vec_capacity branches.old }
     ensures events { (pick : List CellValue → Option ℕ) (lines : List GridLine) →
         IsWork pick lines board.old.cells board.old.trail branches.old.items →
-        open_events pick lines board.old.cells next (pending pick lines board.old.cells board.old.trail branches.old.items)
-        ≡ ready_events pick lines board.new.cells result (pending pick lines board.new.cells board.new.trail branches.new.items) }
+        open_events pick lines board.old.cells next
+        (pending pick lines board.old.cells board.old.trail branches.old.items)
+        ≡ ready_events pick lines board.new.cells result
+        (pending pick lines board.new.cells board.new.trail branches.new.items) }
     ensures work { (pick : List CellValue → Option ℕ) (lines : List GridLine) →
         IsWork pick lines board.old.cells board.old.trail branches.old.items →
         AreOlder board.old.trail branches.old.items next → IsOpen pick lines board.old.cells next →
@@ -48,6 +54,8 @@ pub(crate) fn take_guess<W: LineSet>(
 {
     match next {
         Some(place) => {
+            // The capacity suffices: there are no more branches than trail entries, and fewer
+            // entries than cells, since the cell to guess is unknown.
             let mark = board.trail().len();
             branches.push_reserved(Branch { place, mark });
             Some((place, Cell::Filled))

@@ -1,4 +1,4 @@
-//! The closure of a grid, by a mark at each line that may have more to give.
+//! Propagation: the closure of a grid under line deduction, by a worklist of dirty lines.
 ghost use Rattle.std.specs.Prelude.{◌≡◌, ◌≢◌, ℕ, ◌+◌, ◌*◌, ◌<◌, ◌≤◌, ◌↔◌, true, false, List, None, length, slice_set, slice_index_or, IsTrue, IfOk};
 ghost use Rattle.grid_core.specs.Cells.{is_filled, is_known};
 ghost use Rattle.grid_core.specs.Nonogram.{Nonogram, crossing, line_on, lines_of};
@@ -32,32 +32,33 @@ use place_sets::PlaceSet;
 use std::alloc::Global;
 use std::marker::Model;
 
-/// What became of a grid by a step that adds to what is known.
+/// The outcome of a propagation step.
 #[derive(Clone, Copy)]
 pub enum Progress {
-    /// A contradiction was found.
+    /// The grid was found to be contradictory.
     Dead,
-    /// No cell was settled.
+    /// No cell was assigned.
     Same,
-    /// At least one cell was settled.
+    /// At least one cell was assigned.
     Changed,
 }
 
-/// What closing works with: tables, what is remembered of lines and of guesses that died, and a mark for each line
-/// that may have more to give.
+/// The state of propagation: the cached deductions with the lookahead tables, the worklist of dirty
+/// lines, the lines with a valid table, and the conflict lines of guesses.
 #[derive(Drop)]
 pub struct Closer<W: LineSet> {
     deductions: Deductions<W>,
+    /// The dirty lines, which may deduce more than their cells show.
     marks: Marks<W>,
-    /// The lines that have tables of their cells as they are.
+    /// The lines whose lookahead table was built for the cells that they have now.
     fresh: Marks<W>,
-    /// How many trials in succession were alive, at most 16.
+    /// How many trials in succession ended alive, counted up to `CALM`.
     calm: u8,
     dead_ends: DeadEnds<W>,
 }
 
-/// How many trials in succession are alive before tables are made: while colours are refuted, lines change too
-/// often.
+/// How many trials in succession have to end alive before lookahead tables are built. While colours
+/// are being refuted, lines change too often for tables to pay.
 const CALM: u8 = 16;
 
 impl<W: LineSet> Model for Closer<W> {
@@ -65,11 +66,18 @@ impl<W: LineSet> Model for Closer<W> {
 
     ghost Value = { Closing };
 
-    ghost view = { λ c. record { width = W.WIDTH; kept = c.deductions; marks = c.marks; fresh = c.fresh } };
+    ghost view = { λ c. record {
+      width = W.WIDTH;
+      kept = c.deductions;
+      marks = c.marks;
+      fresh = c.fresh;
+    } };
 }
 
-/// Those of the changes of line i of a side at which a line that crosses may have more to give. Lines that change
-/// aren't fresh any more; no line is if none may be.
+/// Returns the changed cells of line `i` whose crossing lines have to be propagated again: all but
+/// those at which the crossing line has a valid lookahead table, by which the new colour deduces
+/// nothing else. Invalidates the tables of the line and of the lines that its changes cross, or all
+/// tables if `may_be_fresh` is false.
 fn open_changes<W: LineSet>(
     deductions: &Deductions<W>,
     side: Side,
@@ -81,11 +89,13 @@ fn open_changes<W: LineSet>(
 ) -> W
     requires i { i < W.WIDTH }
     requires changes { (k : ℕ) → Has (W.number changes) k → k < length new.now }
-    requires fresh { (k : ℕ) → IsMarkedOn fresh.old (crossing side) k → (table_on (crossing side) k deductions.now.tables).line ≢ None }
+    requires fresh { (k : ℕ) → IsMarkedOn fresh.old (crossing side) k
+        → (table_on (crossing side) k deductions.now.tables).line ≢ None }
     ensures within { (k : ℕ) → Has (W.number result) k → Has (W.number changes) k }
     ensures others { (k : ℕ) → Has (W.number changes) k → (Has (W.number result) k → ⊥) →
         IsMarkedOn fresh.old (crossing side) k
-        × IsNeutralAt deductions.now.tables (crossing side) k i (is_filled (slice_index_or new.now k Unknown)) }
+        × IsNeutralAt deductions.now.tables (crossing side) k i
+        (is_filled (slice_index_or new.now k Unknown)) }
     ensures fresh { StayFresh side i (Has (W.number changes)) fresh.old fresh.new }
 {
     if !may_be_fresh || fresh.is_empty() {
@@ -96,8 +106,9 @@ fn open_changes<W: LineSet>(
     pairs.open_changes(side, i, new.filled(), changes, fresh)
 }
 
-/// Writes what is certain of line i of a side, and marks the lines that cross it at the cells that it learned, if
-/// they may have more to give.
+/// Deduces line `i` of an axis and writes the deduced cells. Makes the lines dirty that cross it at
+/// a changed cell, except those that deduce nothing else from it by a valid lookahead table. If the
+/// line is dead, records it as the last dead line.
 #[inline(always)]
 fn learn_line<W: LineSet, B: Learner<W>>(
     deductions: &mut Deductions<W>,
@@ -113,8 +124,10 @@ fn learn_line<W: LineSet, B: Learner<W>>(
     requires board { IsBoardOf puzzle.now (B.board board.old) }
     requires memory { AreRight W.WIDTH puzzle.now deductions.old }
     requires fresh { AreFresh puzzle.now fresh.old deductions.old.tables (B.board board.old).cells }
-    ensures learned { IsLearned result (line_on side puzzle.now i) (B.board board.old).cells (B.board board.new).cells }
-    ensures marks { MarksChanges puzzle.now side i (B.board board.old).cells (B.board board.new).cells marks.old marks.new }
+    ensures learned { IsLearned result (line_on side puzzle.now i)
+        (B.board board.old).cells (B.board board.new).cells }
+    ensures marks { MarksChanges puzzle.now side i
+        (B.board board.old).cells (B.board board.new).cells marks.old marks.new }
     ensures same { result ≡ Same → marks.new ≡ marks.old }
     ensures trail { B.KEEPS ≡ true → IsTrailed (B.board board.old) (B.board board.new) }
     ensures size { IsBoardOf puzzle.now (B.board board.new) }
@@ -138,7 +151,8 @@ fn learn_line<W: LineSet, B: Learner<W>>(
 }
 
 impl<W: LineSet> Closer<W> {
-    /// Closes grids by these deductions of their lines. No line is marked.
+    /// Returns the state for lines that `deductions` deduces. No line is dirty, and no table is
+    /// valid.
     pub fn new(deductions: Deductions<W>, dead_ends: DeadEnds<W>) -> Closer<W>
         ensures { (p : Nonogram) → AreRight W.WIDTH p deductions → IsIdle p result }
     {
@@ -151,7 +165,8 @@ impl<W: LineSet> Closer<W> {
         }
     }
 
-    /// Makes the room for closing grids of a puzzle, of that of another one, if there is one.
+    /// Allocates the buffers that propagation needs for `puzzle`, reusing those of `other` if
+    /// given. Fails with `NoMemory` if an allocation fails.
     pub fn for_puzzle(
         alloc: Global,
         other: Option<Closer<W>>,
@@ -179,7 +194,7 @@ impl<W: LineSet> Closer<W> {
         ))
     }
 
-    /// Deduces line i of a side.
+    /// Removes line `i` of an axis from the worklist, and deduces it.
     #[inline(always)]
     fn deduce_line<B: Learner<W>>(
         &mut self,
@@ -191,10 +206,13 @@ impl<W: LineSet> Closer<W> {
         requires i { i < count_on side puzzle.now.width puzzle.now.height }
         requires work { HasWork puzzle.now self.old (B.board board.old).cells }
         requires size { IsBoardOf puzzle.now (B.board board.old) }
-        ensures progress { Progresses (closure (lines_of puzzle.now)) result (B.board board.old).cells (B.board board.new).cells }
+        ensures progress { Progresses (closure (lines_of puzzle.now)) result
+            (B.board board.old).cells (B.board board.new).cells }
         ensures work { LeavesWork result puzzle.now self.new (B.board board.new).cells }
-        ensures own { IsMaskOf (IsMarked (Has (marks_on side self.old.marks)) i false) (marks_on side self.new.marks) }
-        ensures same { result ≡ Same → marks_on (crossing side) self.new.marks ≡ marks_on (crossing side) self.old.marks }
+        ensures own { IsMaskOf (IsMarked (Has (marks_on side self.old.marks)) i false)
+            (marks_on side self.new.marks) }
+        ensures same { result ≡ Same
+            → marks_on (crossing side) self.new.marks ≡ marks_on (crossing side) self.old.marks }
         ensures trail { B.KEEPS ≡ true → IsTrailed (B.board board.old) (B.board board.new) }
         ensures size { IsBoardOf puzzle.now (B.board board.new) }
         ensures tables { self.new.kept.tables ≡ self.old.kept.tables }
@@ -212,8 +230,9 @@ impl<W: LineSet> Closer<W> {
         )
     }
 
-    /// Deduces the marked ones of some lines of a side.
-    // Inlined for each side with all that it calls, it asks nowhere which one it is.
+    /// Deduces those of `lines` of an axis that are dirty, each once. Stops at the first dead line.
+    // Inlined for each axis together with all that it calls, so that no branch on the axis is left:
+    // without this pictures and searches take more time.
     #[inline(always)]
     fn deduce_side<B: Learner<W>>(
         &mut self,
@@ -224,10 +243,13 @@ impl<W: LineSet> Closer<W> {
     ) -> Progress
         requires work { HasWork puzzle.now self.old (B.board board.old).cells }
         requires size { IsBoardOf puzzle.now (B.board board.old) }
-        ensures progress { Progresses (closure (lines_of puzzle.now)) result (B.board board.old).cells (B.board board.new).cells }
+        ensures progress { Progresses (closure (lines_of puzzle.now)) result
+            (B.board board.old).cells (B.board board.new).cells }
         ensures work { LeavesWork result puzzle.now self.new (B.board board.new).cells }
-        ensures unmarked { result ≢ Dead → (i : ℕ) → Has (W.number lines) i → IsMarkedOn self.new.marks side i → ⊥ }
-        ensures same { result ≡ Same → marks_on (crossing side) self.new.marks ≡ marks_on (crossing side) self.old.marks }
+        ensures unmarked { result ≢ Dead → (i : ℕ) → Has (W.number lines) i
+            → IsMarkedOn self.new.marks side i → ⊥ }
+        ensures same { result ≡ Same
+            → marks_on (crossing side) self.new.marks ≡ marks_on (crossing side) self.old.marks }
         ensures trail { B.KEEPS ≡ true → IsTrailed (B.board board.old) (B.board board.new) }
         ensures size { IsBoardOf puzzle.now (B.board board.new) }
         ensures tables { self.new.kept.tables ≡ self.old.kept.tables }
@@ -246,8 +268,8 @@ impl<W: LineSet> Closer<W> {
         progress
     }
 
-    /// Deduces the marked ones of some lines until none of them is marked: the rows in turn, then the columns, and
-    /// again. Returns whether the grid is alive.
+    /// Deduces the dirty ones of `lines` until none of them is dirty, rows and columns in
+    /// alternation. Returns whether the grid is alive.
     fn deduce_marked<B: Learner<W>>(
         &mut self,
         puzzle: &Puzzle,
@@ -256,15 +278,18 @@ impl<W: LineSet> Closer<W> {
     ) -> bool
         requires work { HasWork puzzle.now self.old (B.board board.old).cells }
         requires size { IsBoardOf puzzle.now (B.board board.old) }
-        ensures dead { result ≡ false → closure (lines_of puzzle.now) (B.board board.old).cells ≡ None }
+        ensures dead { result ≡ false
+            → closure (lines_of puzzle.now) (B.board board.old).cells ≡ None }
         ensures alive { IsTrue result → closure (lines_of puzzle.now) (B.board board.new).cells
             ≡ closure (lines_of puzzle.now) (B.board board.old).cells }
-        ensures marks { IsTrue result → HasMarks puzzle.now self.new.marks (B.board board.new).cells }
+        ensures marks { IsTrue result
+            → HasMarks puzzle.now self.new.marks (B.board board.new).cells }
         ensures unmarked { IsTrue result → (side : SideValue) (i : ℕ) →
             IsMarkedOn lines.now side i → IsMarkedOn self.new.marks side i → ⊥ }
         ensures trail { B.KEEPS ≡ true → IsTrailed (B.board board.old) (B.board board.new) }
         ensures size { IsBoardOf puzzle.now (B.board board.new) }
-        ensures fresh { AreFresh puzzle.now self.new.fresh self.new.kept.tables (B.board board.new).cells }
+        ensures fresh { AreFresh puzzle.now self.new.fresh self.new.kept.tables
+            (B.board board.new).cells }
         ensures tables { self.new.kept.tables ≡ self.old.kept.tables }
         ensures memory { IsMemoryOf puzzle.now self.new }
     {
@@ -277,6 +302,7 @@ impl<W: LineSet> Closer<W> {
             ) {
                 return false;
             }
+            // If no column changes, no row has become dirty since the rows were deduced.
             match self.deduce_side(puzzle, Side::Columns, lines.on(Side::Columns), board) {
                 Progress::Dead => return false,
                 Progress::Same => return true,
@@ -285,16 +311,19 @@ impl<W: LineSet> Closer<W> {
         }
     }
 
-    /// Closes a board by the marked lines. Returns whether it is alive. No line is marked then.
+    /// Deduces dirty lines until none is left, so that the board reaches its closure. Returns
+    /// whether it is alive. Afterwards no line is dirty, even if it is dead.
     fn propagate<B: Learner<W>>(&mut self, puzzle: &Puzzle, board: &mut B) -> bool
         requires work { HasWork puzzle.now self.old (B.board board.old).cells }
         requires size { IsBoardOf puzzle.now (B.board board.old) }
-        ensures closed { if_alive result (B.board board.new).cells ≡ closure (lines_of puzzle.now) (B.board board.old).cells }
+        ensures closed { if_alive result (B.board board.new).cells
+            ≡ closure (lines_of puzzle.now) (B.board board.old).cells }
         ensures idle { IsIdle puzzle.now self.new }
         ensures rest { IsTrue result → IsAtRest puzzle.now self.new (B.board board.new).cells }
         ensures trail { B.KEEPS ≡ true → IsTrailed (B.board board.old) (B.board board.new) }
         ensures size { IsBoardOf puzzle.now (B.board board.new) }
-        ensures fresh { AreFresh puzzle.now self.new.fresh self.new.kept.tables (B.board board.new).cells }
+        ensures fresh { AreFresh puzzle.now self.new.fresh self.new.kept.tables
+            (B.board board.new).cells }
         ensures tables { self.new.kept.tables ≡ self.old.kept.tables }
     {
         let alive = self.deduce_marked(puzzle, board, &Marks::all());
@@ -304,11 +333,13 @@ impl<W: LineSet> Closer<W> {
         alive
     }
 
-    /// Closes a grid by all lines, whatever was marked. Returns whether it is alive. No line is marked then.
+    /// Propagates all lines, whatever the worklist was, until `lines` reach their closure. Returns
+    /// whether they are alive. Afterwards no line is dirty.
     pub fn propagate_all(&mut self, puzzle: &Puzzle, lines: &mut GridLines<W>) -> bool
         requires memory { IsMemoryOf puzzle.now self.old }
         requires size { IsBoardOf puzzle.now (fresh_board lines.old) }
-        ensures closed { if_alive result lines.new.cells ≡ closure (lines_of puzzle.now) lines.old.cells }
+        ensures closed { if_alive result lines.new.cells
+            ≡ closure (lines_of puzzle.now) lines.old.cells }
         ensures rest { IsTrue result → IsAtRest puzzle.now self.new lines.new.cells }
         ensures size { IsBoardOf puzzle.now (fresh_board lines.new) }
         ensures idle { IsIdle puzzle.now self.new }
@@ -318,7 +349,7 @@ impl<W: LineSet> Closer<W> {
         self.propagate(puzzle, lines)
     }
 
-    /// Makes line i of a side fresh, if there is room for its table.
+    /// Ensures that line `i` of an axis has a valid lookahead table, if there is a buffer for one.
     fn prepare_line(&mut self, puzzle: &Puzzle, side: Side, i: u16, board: &Board<W>)
         requires i { i < count_on side puzzle.now.width puzzle.now.height }
         requires rest { IsAtRest puzzle.now self.old board.now.cells }
@@ -336,7 +367,8 @@ impl<W: LineSet> Closer<W> {
         }
     }
 
-    /// Takes away the tables of lines.
+    /// Clears all lookahead tables. `forget_fresh` has to be called before lines are propagated
+    /// again other than by `propagate_all`, since lines still count as having valid tables.
     pub fn forget_tables(&mut self)
         ensures memory { (p : Nonogram) → IsMemoryOf p self.old → IsMemoryOf p self.new }
         ensures marks { self.new.marks ≡ self.old.marks }
@@ -344,15 +376,18 @@ impl<W: LineSet> Closer<W> {
         self.deductions.forget_tables();
     }
 
-    /// Takes no line as fresh any more.
+    /// Invalidates all lookahead tables, without clearing them.
     pub fn forget_fresh(&mut self)
-        ensures rest { (p : Nonogram) (cells : List CellValue) → IsAtRest p self.old cells → IsAtRest p self.new cells }
-        ensures fresh { (p : Nonogram) (cells : List CellValue) → AreFresh p self.new.fresh self.new.kept.tables cells }
+        ensures rest { (p : Nonogram) (cells : List CellValue) → IsAtRest p self.old cells
+            → IsAtRest p self.new cells }
+        ensures fresh { (p : Nonogram) (cells : List CellValue)
+            → AreFresh p self.new.fresh self.new.kept.tables cells }
     {
         self.fresh = Marks::none();
     }
 
-    /// Gives an unknown cell of a board at rest a colour, and marks its row and its column.
+    /// Assigns `colour` to an unknown cell of a board at its fixpoint, makes the cell's row and
+    /// column dirty, and invalidates their lookahead tables.
     fn settle(&mut self, puzzle: &Puzzle, board: &mut Board<W>, place: usize, colour: Cell)
         requires rest { IsAtRest puzzle.now self.old board.old.cells }
         requires fresh { AreFresh puzzle.now self.old.fresh self.old.kept.tables board.old.cells }
@@ -373,9 +408,10 @@ impl<W: LineSet> Closer<W> {
         board.settle(x, y, colour);
     }
 
-    /// Gives an unknown cell of a board at rest a colour, and closes the board by what that says of the
-    /// cell's row and its column. Returns whether it is alive; dead cells are open. No line is marked then,
-    /// and the board leads back to where it was.
+    /// Assigns `colour` to an unknown cell of a board at its fixpoint, and propagates from there
+    /// until the board reaches its closure. Returns whether it is alive; if not, its cells are
+    /// unspecified. Afterwards no line is dirty, and all assignments are on the trail, so that they
+    /// can be undone.
     #[tactic(auto, using(crate::proofs::TrailSteps::trailed_trans))]
     pub fn assign(
         &mut self,
@@ -388,7 +424,8 @@ impl<W: LineSet> Closer<W> {
         requires fresh { AreFresh puzzle.now self.old.fresh self.old.kept.tables board.old.cells }
         requires size { IsBoardOf puzzle.now board.old }
         requires cell { CanSettle board.old.cells place colour }
-        ensures closed { if_alive result board.new.cells ≡ closure (lines_of puzzle.now) (slice_set board.old.cells place colour) }
+        ensures closed { if_alive result board.new.cells
+            ≡ closure (lines_of puzzle.now) (slice_set board.old.cells place colour) }
         ensures idle { IsIdle puzzle.now self.new }
         ensures rest { IsTrue result → IsAtRest puzzle.now self.new board.new.cells }
         ensures fresh { AreFresh puzzle.now self.new.fresh self.new.kept.tables board.new.cells }
@@ -400,7 +437,8 @@ impl<W: LineSet> Closer<W> {
         self.propagate(puzzle, board)
     }
 
-    /// As `assign`, but the lines by which the same guess died before come first.
+    /// As `assign`, for a guess of the search: the lines by which the same guess became dead before
+    /// are propagated first, and if it is dead again, its conflict lines are recorded.
     pub fn guess(
         &mut self,
         puzzle: &Puzzle,
@@ -412,7 +450,8 @@ impl<W: LineSet> Closer<W> {
         requires fresh { AreFresh puzzle.now self.old.fresh self.old.kept.tables board.old.cells }
         requires size { IsBoardOf puzzle.now board.old }
         requires cell { CanSettle board.old.cells place colour }
-        ensures closed { if_alive result board.new.cells ≡ closure (lines_of puzzle.now) (slice_set board.old.cells place colour) }
+        ensures closed { if_alive result board.new.cells
+            ≡ closure (lines_of puzzle.now) (slice_set board.old.cells place colour) }
         ensures idle { IsIdle puzzle.now self.new }
         ensures rest { IsTrue result → IsAtRest puzzle.now self.new board.new.cells }
         ensures fresh { AreFresh puzzle.now self.new.fresh self.new.kept.tables board.new.cells }
@@ -425,6 +464,7 @@ impl<W: LineSet> Closer<W> {
         let hints = self.dead_ends.hints(place, colour);
         let alive = self.deduce_marked(puzzle, board, &hints) && self.propagate(puzzle, board);
         if !alive {
+            // Dirty lines are left if the conflict lines alone found the contradiction.
             self.marks = Marks::none();
             self.dead_ends
                 .remember(place, colour, &board.trail()[mark..]);
@@ -432,8 +472,9 @@ impl<W: LineSet> Closer<W> {
         alive
     }
 
-    /// As `assign`, on trial: the board goes back after it, so lines are fresh as they were before, and what is
-    /// deduced is remembered from the first trial on.
+    /// As `assign`, for a trial, which the caller has to undo before the next call: the tables that
+    /// were valid stay so, since they are for the cells before the trial. Enables the deduction
+    /// cache, and counts the trials in succession that end alive.
     pub fn assign_on_trial(
         &mut self,
         puzzle: &Puzzle,
@@ -445,7 +486,8 @@ impl<W: LineSet> Closer<W> {
         requires fresh { AreFresh puzzle.now self.old.fresh self.old.kept.tables board.old.cells }
         requires size { IsBoardOf puzzle.now board.old }
         requires cell { CanSettle board.old.cells place colour }
-        ensures closed { if_alive result board.new.cells ≡ closure (lines_of puzzle.now) (slice_set board.old.cells place colour) }
+        ensures closed { if_alive result board.new.cells
+            ≡ closure (lines_of puzzle.now) (slice_set board.old.cells place colour) }
         ensures rest { IsAtRest puzzle.now self.new board.old.cells }
         ensures fresh { AreFresh puzzle.now self.new.fresh self.new.kept.tables board.old.cells }
         ensures trail { IsTrailed board.old board.new }
@@ -463,8 +505,9 @@ impl<W: LineSet> Closer<W> {
         alive
     }
 
-    /// The cells of row y of a board at rest with which nothing else is certain, as tables show, for each colour.
-    /// Once 16 trials in succession were alive, the tables of row y and of column x are made.
+    /// Returns, for each colour, the cells of row `y` at which that colour deduces nothing else in
+    /// the grid, as far as valid lookahead tables show. Builds the tables of row `y` and column `x`
+    /// if they are missing. Returns no cells until 16 trials in succession have ended alive.
     pub fn neutral_in_row(
         &mut self,
         puzzle: &Puzzle,

@@ -1,4 +1,4 @@
-//! Places of a line, by colour.
+//! Sets of indices along a line, one for each colour.
 
 ghost use Rattle.std.specs.Prelude.{◌≡◌, ◌<◌, ◌≤◌, ◌⊎◌, Bool, ℕ, length, replicate, slice_index_or, vec_capacity, IfOk};
 ghost use Rattle.grid_core.specs.declared.cells.Cell.{Cell as CellValue};
@@ -13,7 +13,7 @@ use place_sets::PlaceSet;
 use std::alloc::Global;
 use std::marker::Model;
 
-/// A set of places for filled, and one for blank.
+/// A set of indices for filled, and one for blank.
 #[derive(Drop)]
 pub struct ColourSets<W: PlaceSet> {
     pub filled: W,
@@ -29,7 +29,7 @@ impl<W: PlaceSet> Model for ColourSets<W> {
 }
 
 impl<W: PlaceSet> ColourSets<W> {
-    /// No place for either colour.
+    /// Returns two empty sets.
     pub fn none() -> ColourSets<W>
         ensures { result ≡ no_colours }
     {
@@ -39,7 +39,7 @@ impl<W: PlaceSet> ColourSets<W> {
         }
     }
 
-    /// Whether a place is there for a colour.
+    /// Reports whether the set of `colour` has the index `place`; false if `colour` is unknown.
     pub fn contains(&self, place: u16, colour: Cell) -> bool
         requires { place < W.WIDTH }
         ensures { result ≡ has (mask_of colour self.now) place }
@@ -51,23 +51,26 @@ impl<W: PlaceSet> ColourSets<W> {
         }
     }
 
-    /// The places that are there for both colours.
+    /// Returns the indices that are in both sets.
     pub fn in_both(&self) -> W
         ensures { IsMaskOf (λ i. Has self.now.filled i × Has self.now.blank i) (W.number result) }
     {
         self.filled.intersection(self.blank)
     }
 
-    /// The places that are there for their own colour: filled for some, and blank for all others.
+    /// Returns the indices that are in the set of their own colour, which is filled for those in
+    /// `filled`, and blank for all others.
     pub fn coloured(&self, filled: W) -> W
-        ensures { IsMaskOf (λ k. Has (mask_if (has (W.number filled) k) self.now) k) (W.number result) }
+        ensures { IsMaskOf (λ k. Has (mask_if (has (W.number filled) k) self.now) k)
+            (W.number result) }
     {
         self.filled
             .intersection(filled)
             .union(self.blank.difference(filled))
     }
 
-    /// Puts a place into the set of each colour for which it is wanted, and takes it out of the others.
+    /// Adds the index `place` to the filled set if `filled`, and otherwise removes it from there;
+    /// and the same for the blank set and `blank`.
     pub fn mark(&mut self, place: u16, filled: bool, blank: bool)
         requires { place < W.WIDTH }
         ensures filled { IsMaskOf (IsMarked (Has self.old.filled) place filled) self.new.filled }
@@ -77,15 +80,16 @@ impl<W: PlaceSet> ColourSets<W> {
         self.blank = self.blank.marked(place, blank);
     }
 
-    /// Adds other places, each for its colours.
+    /// Adds the indices of `others`, colour by colour.
     pub fn add(&mut self, others: &ColourSets<W>)
-        ensures only { (c : CellValue) (i : ℕ) → Has (mask_of c self.new) i → Has (mask_of c self.old) i ⊎ Has (mask_of c others.now) i }
+        ensures only { (c : CellValue) (i : ℕ) → Has (mask_of c self.new) i
+            → Has (mask_of c self.old) i ⊎ Has (mask_of c others.now) i }
     {
         self.filled = self.filled.union(others.filled);
         self.blank = self.blank.union(others.blank);
     }
 
-    /// Adds the known cells of a line, each for its colour.
+    /// Adds the known cells of `line`, each to the set of its colour.
     pub fn add_line(&mut self, line: &LineOf<W>)
         ensures only { (c : CellValue) (i : ℕ) → i < length line.now → Has (mask_of c self.new) i →
             Has (mask_of c self.old) i ⊎ (slice_index_or line.now i Unknown ≡ c) }
@@ -95,7 +99,8 @@ impl<W: PlaceSet> ColourSets<W> {
     }
 }
 
-/// Makes a list of so many empty sets, in room that is made.
+/// Replaces the contents of `sets` by `count` pairs of empty sets. Allocates nothing: the capacity
+/// has to be at least `count`.
 pub fn fill_with_none<W: PlaceSet>(sets: &mut Vec<ColourSets<W>>, count: usize)
     requires { count ≤ vec_capacity sets.old }
     ensures { sets.new.items ≡ replicate count no_colours }
@@ -106,7 +111,8 @@ pub fn fill_with_none<W: PlaceSet>(sets: &mut Vec<ColourSets<W>>, count: usize)
     }
 }
 
-/// So many empty sets, in room that there is if it is enough.
+/// Returns a list of `count` pairs of empty sets, reusing the buffer of `sets` if its capacity
+/// suffices. Fails with `NoMemory` if an allocation fails.
 pub fn with_sets<W: PlaceSet>(
     alloc: Global,
     sets: Vec<ColourSets<W>>,

@@ -1,4 +1,4 @@
-//! Dead ends of a search, which say what lines to deduce first.
+//! The conflict lines of a search's guesses, which are propagated first when a guess is made again.
 ghost use Rattle.std.specs.Prelude.{◌<◌};
 
 use crate::marks::Marks;
@@ -8,29 +8,33 @@ use grid_core::{Cell, NoMemory, Side};
 use line_core::LineSet;
 use std::alloc::Global;
 
-/// The most places that sets have in which dead ends are remembered.
+/// The greatest set width for which conflict lines are recorded.
 const MOST_PLACES: u16 = 128;
 
-/// The lines by which the two guesses of a cell died when they last did.
+/// For one cell and each colour, the lines by which that guess became dead when it last did.
 #[derive(Drop)]
 struct DeadEnd<W: LineSet> {
     filled: Marks<W>,
     blank: Marks<W>,
 }
 
-/// The dead ends of a search, in room that is made once. They are hints for the order in which lines are deduced:
-/// whatever they say, the closure is the same.
+/// The conflict lines of a search's guesses, in a buffer that is allocated once. They are hints for
+/// the order in which lines are deduced: the closure doesn't depend on them.
 #[derive(Drop)]
 pub struct DeadEnds<W: LineSet> {
-    /// The line that was dead last.
+    /// The axis of the line that was found dead last.
     side: Side,
+    /// The number of that line along its axis.
     line: u16,
+    /// The conflict lines by cell index, as far as guesses have become dead.
     ends: Vec<DeadEnd<W>>,
     ghost inside: { line < W.WIDTH },
 }
 
 impl<W: LineSet> DeadEnds<W> {
-    /// Makes the room for a puzzle of so many cells, of that of others, if there are any.
+    /// Allocates the buffer for a puzzle of `cells` cells, reusing that of `others` if given; none
+    /// is needed if the sets are wider than `MOST_PLACES`. Fails with `NoMemory` if an allocation
+    /// fails.
     pub fn new(
         alloc: Global,
         others: Option<DeadEnds<W>>,
@@ -54,7 +58,8 @@ impl<W: LineSet> DeadEnds<W> {
         })
     }
 
-    /// The lines by which a guess died when it last did.
+    /// Returns the lines by which guessing `colour` at the cell with index `place` became dead when
+    /// it last did; no lines if none are recorded.
     pub fn hints(&self, place: usize, colour: Cell) -> Marks<W> {
         match self.ends.get(place) {
             None => Marks::none(),
@@ -68,7 +73,7 @@ impl<W: LineSet> DeadEnds<W> {
         }
     }
 
-    /// Notes that line i of a side is dead.
+    /// Records that line `i` of an axis was found dead.
     pub fn note(&mut self, side: Side, i: u16)
         requires { i < W.WIDTH }
     {
@@ -76,7 +81,9 @@ impl<W: LineSet> DeadEnds<W> {
         self.line = i;
     }
 
-    /// The line that was dead last, and back from there each line that learned where one of these crosses it.
+    /// Returns the lines that led to the last contradiction: the dead line, and, going backwards
+    /// along the trail entries `steps`, each line that assigned a cell on one of the lines found so
+    /// far.
     fn reasons(&self, steps: &[Step<W>]) -> Marks<W> {
         let mut reasons = Marks::none();
         reasons.set(self.side, self.line, true);
@@ -89,8 +96,11 @@ impl<W: LineSet> DeadEnds<W> {
         reasons
     }
 
-    /// Remembers by which lines a guess died, by the steps since.
+    /// Records the conflict lines of guessing `colour` at the cell with index `place`, which became
+    /// dead. `steps` are the trail entries since before the guess.
     pub fn remember(&mut self, place: usize, colour: Cell, steps: &[Step<W>]) {
+        // The list grows up to the cell only now, so that a puzzle without dead guesses never
+        // touches it.
         while self.ends.len() <= place && self.ends.len() < self.ends.capacity() {
             self.ends.push_reserved(DeadEnd {
                 filled: Marks::none(),

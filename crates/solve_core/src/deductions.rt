@@ -1,4 +1,4 @@
-//! Deductions of a puzzle's lines, remembered.
+//! A cache of deduced lines of a puzzle.
 ghost use Rattle.std.specs.Prelude.{[], ℕ, Some, ◌≡◌, ◌≢◌, ◌+◌, ◌*◌, ◌<◌, ◌≤◌, ◌↔◌, length, vec_capacity, IsTrue, IfOk, IfSome, All};
 ghost use Rattle.line_core.specs.Deduction.{deduced};
 ghost use Rattle.line_core.specs.Told.{told_by};
@@ -17,19 +17,20 @@ use line_core::{Colours, LineOf, LineSet, Tables};
 use std::alloc::Global;
 use std::marker::Model;
 
-/// How many deductions are remembered at most, in sets of 64 places.
+/// How many deductions are cached at most, in sets of 64 indices; fewer in wider ones.
 pub const MOST_REMEMBERED: usize = 16384;
 
-/// How many deductions are remembered for each cell of a puzzle, as long as they aren't too many.
+/// How many deductions are cached for each cell of a puzzle, up to the most for the set width.
 const REMEMBERED_PER_CELL: usize = 16;
 
-/// How many slots are made at once.
+/// How many slots a group has. Slots are created by groups.
 const GROUP: usize = 64;
 
-/// What stands in a slot that no deduction has taken: the index of none.
+/// The content of an empty slot, which is no deduction's index.
 const NO_DEDUCTION: u16 = u16::MAX;
 
-/// A line of a puzzle, by its side, its number and its cells, and what is certain of it.
+/// A line of a puzzle, by its axis, its number and its cells, and its deduced line; `None` if it is
+/// dead.
 #[derive(Drop)]
 pub struct Deduction<W: LineSet> {
     side: Side,
@@ -38,7 +39,7 @@ pub struct Deduction<W: LineSet> {
     answer: Option<LineOf<W>>,
 }
 
-/// The same answer, once more.
+/// Returns a copy of `answer`.
 fn copy_answer<W: LineSet>(answer: &Option<LineOf<W>>) -> Option<LineOf<W>>
     ensures { result ≡ answer.now }
 {
@@ -53,27 +54,33 @@ impl<W: LineSet> Model for Deduction<W> {
 
     ghost Value = { KnownLine };
 
-    ghost view = { λ d. record { side = d.side; number = d.number; line = d.line; answer = d.answer } };
+    ghost view = { λ d. record {
+      side = d.side;
+      number = d.number;
+      line = d.line;
+      answer = d.answer;
+    } };
 }
 
 impl<W: LineSet> Deduction<W> {
-    /// Whether it is that of line i of a side with these cells.
+    /// Reports whether this is the deduction of line `i` of an axis with the cells of `line`.
     fn is_of(&self, side: Side, i: u16, line: &LineOf<W>) -> bool
-        ensures { IsTrue result → (self.now.side ≡ side) × (self.now.number ≡ i) × (self.now.line ≡ line.now) }
+        ensures { IsTrue result
+            → (self.now.side ≡ side) × (self.now.number ≡ i) × (self.now.line ≡ line.now) }
     {
         self.side == side && self.number == i && self.line.is_same(line)
     }
 }
 
-/// How many deductions are remembered at most in sets of a width: the wider they are the fewer, so that they
-/// take the same room.
+/// Returns how many deductions are cached at most in sets of width `W::WIDTH`: the wider the sets,
+/// the fewer, so that the cache takes about the same memory.
 fn most_remembered<W: LineSet>() -> usize
     ensures { (1 ≤ result) × (result ≤ MOST_REMEMBERED) }
 {
     (MOST_REMEMBERED * 64 / usize::from(W::WIDTH)).min(MOST_REMEMBERED)
 }
 
-/// How many deductions are remembered for a puzzle of this number of `cells`: a power of two.
+/// Returns how many deductions are cached for a puzzle of `cells` cells: a power of two.
 fn room_for<W: LineSet>(cells: usize) -> usize
     requires { cells ≤ 65536 }
     ensures { (1 ≤ result) × (result ≤ MOST_REMEMBERED) }
@@ -83,7 +90,7 @@ fn room_for<W: LineSet>(cells: usize) -> usize
         .min(most_remembered::<W>())
 }
 
-/// A number for each line, by which it is told from others.
+/// Returns a number that differs for each line of a puzzle.
 fn key_of(side: Side, i: u16) -> u64 {
     match side {
         Side::Rows => u64::from(i),
@@ -91,8 +98,8 @@ fn key_of(side: Side, i: u16) -> u64 {
     }
 }
 
-/// Which of `slots` slots, a power of two, is that of a line, by its group and its place there. `None` if
-/// there is no slot yet, else all are there.
+/// Returns the slot of a line among `slots` slots, a power of two, as a group and an index in that
+/// group. `None` if there are no slots yet; they are all created at once.
 fn slot_of<W: LineSet>(
     groups: &[[u16; GROUP]],
     slots: usize,
@@ -110,11 +117,13 @@ fn slot_of<W: LineSet>(
     let mixed = line
         .hash()
         .wrapping_add(key_of(side, number).wrapping_mul(0x8cb9_2ba7_2f3d_8dd7));
+    // The upper 14 bits are mixed best, and suffice for `MOST_REMEMBERED` slots.
     let slot = (mixed >> 50) as usize & (slots - 1);
     Some((slot / GROUP, slot % GROUP))
 }
 
-/// Adds groups of slots that no deduction has taken, in room that is made, until there are `count` groups.
+/// Appends groups of empty slots until there are `count` groups. Allocates nothing: the capacity of
+/// `groups` has to be at least `count`.
 fn fill_up(groups: &mut Vec<[u16; GROUP]>, count: usize)
     requires { count ≤ vec_capacity groups.old }
     ensures count { count ≤ length groups.new.items }
@@ -125,8 +134,8 @@ fn fill_up(groups: &mut Vec<[u16; GROUP]>, count: usize)
     }
 }
 
-/// Keeps a deduction in the place of the one that has the index, or else as one more, and writes its index,
-/// if there is room.
+/// Replaces the deduction with number `index` by `deduction`. If there is none, appends `deduction`
+/// and writes its number to `index`, unless there are `room` deductions already.
 fn keep<W: LineSet>(
     kept: &mut Vec<Deduction<W>>,
     index: &mut u16,
@@ -148,8 +157,9 @@ fn keep<W: LineSet>(
     }
 }
 
-/// What deduces the lines of a puzzle. Once it is open it remembers what it deduced: each line has one slot,
-/// and a line that takes a slot takes it from the one before.
+/// Deduces the lines of a puzzle and, once enabled, caches the results. A line with its cells
+/// hashes to one slot, and a new result replaces the one in its slot. Holds the lookahead tables
+/// too.
 pub struct Deductions<W: LineSet> {
     tables: Tables,
     room: usize,
@@ -158,7 +168,8 @@ pub struct Deductions<W: LineSet> {
     pairs: LinePairs<W>,
 }
 
-/// A call of its own, so that a proof takes it as one step.
+/// Written by hand so that callers' proofs see one call: a derived drop is expanded at each exit of
+/// each caller.
 impl<W: LineSet> Drop for Deductions<W> {
     fn drop(self) {
         let Deductions {
@@ -181,11 +192,14 @@ impl<W: LineSet> Model for Deductions<W> {
 
     ghost view = { λ d. record { kept = d.kept.items; tables = d.pairs } };
 
-    ghost invariant = { λ d. HasRoom d.room (vec_capacity d.slots) (vec_capacity d.kept) × AreAllOrNone d.room (length d.slots.items) };
+    ghost invariant = { λ d.
+        HasRoom d.room (vec_capacity d.slots) (vec_capacity d.kept)
+        × AreAllOrNone d.room (length d.slots.items) };
 }
 
 impl<W: LineSet> Deductions<W> {
-    /// Its tables, its slots, what it keeps and its pairs.
+    /// Returns the tables of line deduction, the slots, the cached deductions and the lookahead
+    /// tables.
     fn into_parts(self) -> (Tables, Vec<[u16; GROUP]>, Vec<Deduction<W>>, LinePairs<W>) {
         let Deductions {
             tables,
@@ -197,8 +211,9 @@ impl<W: LineSet> Deductions<W> {
         (tables, slots, kept, pairs)
     }
 
-    /// Makes all the room that it takes, in proportion to the puzzle, of that of others, if there are any.
-    /// Nothing is remembered before it is opened.
+    /// Allocates all buffers, in proportion to the size of `puzzle`, reusing those of `others` if
+    /// given. Nothing is cached before `open` is called. Fails with `NoMemory` if an allocation
+    /// fails.
     pub fn new(
         alloc: Global,
         others: Option<Deductions<W>>,
@@ -212,8 +227,9 @@ impl<W: LineSet> Deductions<W> {
         Deductions::with_room(alloc, others, room, width, height)
     }
 
-    /// Makes the room for `room` deductions, 1 to 16,384, and for tables of `width` columns and `height` rows,
-    /// of that of others, if there are any.
+    /// Allocates buffers for `room` cached deductions, 1 to 16,384, and for the lookahead tables of
+    /// `width` columns and `height` rows, reusing those of `others` if given. Fails with `NoMemory`
+    /// if an allocation fails.
     pub fn with_room(
         alloc: Global,
         others: Option<Deductions<W>>,
@@ -223,7 +239,8 @@ impl<W: LineSet> Deductions<W> {
     ) -> Result<Deductions<W>, NoMemory>
         requires { (1 ≤ room) × (room ≤ MOST_REMEMBERED) }
         ensures kept { IfOk result (λ deductions. deductions.kept ≡ []) }
-        ensures pairs { IfOk result (λ deductions. (p : Nonogram) → AreTablesOf p deductions.tables) }
+        ensures pairs { IfOk result (λ deductions.
+            (p : Nonogram) → AreTablesOf p deductions.tables) }
     {
         let (tables, slots, kept, pairs) = match others {
             Some(others) => {
@@ -248,36 +265,40 @@ impl<W: LineSet> Deductions<W> {
         })
     }
 
-    /// Makes the table of line i of a side of the puzzle with these cells, if it isn't made and there is room for
-    /// it. Returns whether there is.
+    /// Builds the lookahead table of line `i` of an axis of `puzzle` for the cells of `line`,
+    /// unless it is there already or has no buffer. Returns whether it is there now.
     pub fn prepare(&mut self, puzzle: &Puzzle, side: Side, i: u16, line: &LineOf<W>) -> bool
         requires i { i < count_on side puzzle.now.width puzzle.now.height }
         requires memory { AreRight W.WIDTH puzzle.now self.old }
         ensures memory { AreRight W.WIDTH puzzle.now self.new }
         ensures line { IsTrue result ↔ ((table_on side i self.new.tables).line ≡ Some line.now) }
-        ensures others { (s : SideValue) (k : ℕ) → (s ≡ side → k ≢ i) → table_on s k self.new.tables ≡ table_on s k self.old.tables }
+        ensures others { (s : SideValue) (k : ℕ) → (s ≡ side → k ≢ i)
+            → table_on s k self.new.tables ≡ table_on s k self.old.tables }
     {
         self.pairs.write(&mut self.tables, puzzle, side, i, line)
     }
 
-    /// Its tables of lines.
+    /// Returns the lookahead tables.
     pub fn pairs(&self) -> &LinePairs<W>
         ensures { result.now ≡ self.now.tables }
     {
         &self.pairs
     }
 
-    /// Takes away the tables of lines.
+    /// Clears all lookahead tables.
     pub fn forget_tables(&mut self)
-        ensures { (width : ℕ) (p : Nonogram) → AreRight width p self.old → AreRight width p self.new }
+        ensures { (width : ℕ) (p : Nonogram) → AreRight width p self.old
+            → AreRight width p self.new }
     {
         self.pairs.forget();
     }
 
-    /// What can be on line i of a side with these cells, if they are those of its table with one cell more.
+    /// Returns the support of line `i` of an axis with the cells of `line`, if its lookahead table
+    /// was built for these cells with just one of the known ones unknown.
     fn colours_of(&self, side: Side, i: u16, line: &LineOf<W>) -> Option<&Colours<W>>
         ensures { IfSome result (λ colours. (width : ℕ) (p : Nonogram) → AreRight width p self.now
-            → told_by (length line.now) colours.now.fillable colours.now.blankable ≡ deduced line.now (line_on side p i).clue) }
+            → told_by (length line.now) colours.now.fillable colours.now.blankable
+            ≡ deduced line.now (line_on side p i).clue) }
     {
         if !self.pairs.is_written() {
             return None;
@@ -285,16 +306,17 @@ impl<W: LineSet> Deductions<W> {
         self.pairs.colours_of(side, i, line)
     }
 
-    /// Remembers from here on. It takes no memory, and does nothing to what is open.
+    /// Enables the cache, and has no effect if it is enabled. Allocates nothing.
     pub fn open(&mut self)
         ensures { self.new ≡ self.old }
     {
         fill_up(&mut self.slots, self.room.div_ceil(GROUP));
     }
 
-    /// What is certain of line i of a side of the puzzle with these cells: what all placings of its clue
-    /// share, or none if there is no placing.
-    // Called, it would copy its answer.
+    /// Returns the deduced line for line `i` of an axis of `puzzle` with the cells of `line`: what
+    /// all placings of its clue share, or `None` if there is no placing. Looks in the lookahead
+    /// tables first, then in the cache.
+    // Inlined, since a call would copy its result.
     #[inline(always)]
     pub fn deduce(
         &mut self,
@@ -313,6 +335,7 @@ impl<W: LineSet> Deductions<W> {
             return colours.certain(line.len());
         }
         let Some((group, place)) = slot_of(&self.slots, self.room, side, i, line) else {
+            // The cache isn't enabled before the first trial.
             let clue = clue_of_line(puzzle, side, i);
             return W::deduce(&mut self.tables, line, clue);
         };

@@ -1,4 +1,4 @@
-//! A grid as its rows and its columns.
+//! A grid as rows and columns.
 ghost use Rattle.std.specs.Prelude.{◌≡◌, ◌+◌, ◌-◌, ◌*◌, ◌<◌, ◌≤◌, ℕ, nat_eq, [], count_by, false, length, replicate, slice_index_or, slice_set, true, vec_capacity, IfOk, IfSome};
 ghost use Rattle.grid_core.specs.Cells.{Extends, is_known};
 ghost use Rattle.grid_core.specs.Nonogram.{cells_at, crossing, places_on};
@@ -26,14 +26,15 @@ use line_core::{LineOf, LineSet};
 use place_sets::{PlaceSet, first_from, first_places};
 use std::marker::Model;
 
-/// A grid, each row and each column of it as a line, so that none has to be gathered cell by cell. A cell is
-/// read from its row.
+/// A grid that stores each row and each column as a line, so that no line has to be gathered cell
+/// by cell. Each cell stands in its row and in its column.
 pub struct GridLines<W: LineSet> {
     rows: Vec<LineOf<W>>,
     columns: Vec<LineOf<W>>,
 }
 
-/// A call of its own, so that a proof takes it as one step.
+/// Written by hand so that callers' proofs see one call: a derived drop is expanded at each exit of
+/// each caller.
 impl<W: LineSet> Drop for GridLines<W> {
     fn drop(self) {
         let GridLines {
@@ -51,12 +52,17 @@ impl<W: LineSet> Model for GridLines<W> {
 
     ghost Value = { PartialGrid };
 
-    ghost view = { λ g. record { width = length g.columns.items; height = length g.rows.items; cells = cells_of_rows g.rows.items } };
+    ghost view = { λ g. record {
+      width = length g.columns.items;
+      height = length g.rows.items;
+      cells = cells_of_rows g.rows.items;
+    } };
 
     ghost invariant = { λ g. AreLinesOf (cells_of_rows g.rows.items) g.rows.items g.columns.items };
 }
 
-/// `count` lines of `len` cells each, of which nothing is known, in a list that has room for them.
+/// Returns `count` unknown lines of `len` cells each, in the buffer of `list`. Allocates nothing:
+/// its capacity has to be at least `count`.
 fn unknown_lines<W: LineSet>(list: Vec<LineOf<W>>, len: u16, count: u16) -> Vec<LineOf<W>>
     requires len { (1 ≤ len) × (len ≤ W.WIDTH) }
     requires room { count ≤ vec_capacity list }
@@ -70,12 +76,14 @@ fn unknown_lines<W: LineSet>(list: Vec<LineOf<W>>, len: u16, count: u16) -> Vec<
     lines
 }
 
-/// Takes over the rows of a grid, each as a whole.
+/// Loads the rows of `grid`, a whole row at a time.
 fn read_rows<W: LineSet>(rows: &mut [LineOf<W>], grid: &Grid)
     requires few { length rows.old ≤ 256 }
     requires count { length rows.old ≡ grid.now.height }
-    requires lengths { (y : ℕ) → y < length rows.old → length (slice_index_or rows.old y []) ≡ grid.now.width }
-    ensures rows { (y : ℕ) → y < length rows.old → slice_index_or rows.new y [] ≡ row_of grid.now y }
+    requires lengths { (y : ℕ) → y < length rows.old
+        → length (slice_index_or rows.old y []) ≡ grid.now.width }
+    ensures rows { (y : ℕ) → y < length rows.old
+        → slice_index_or rows.new y [] ≡ row_of grid.now y }
     ensures len { length rows.new ≡ length rows.old }
     ensures count { 0 < length rows.old → length grid.now.cells ≡ grid.now.width * grid.now.height }
 {
@@ -84,11 +92,12 @@ fn read_rows<W: LineSet>(rows: &mut [LineOf<W>], grid: &Grid)
     }
 }
 
-/// Writes the cells of row `y` into the columns.
+/// Writes the cells of `row`, which is row `y`, into the columns.
 fn write_across<W: LineSet>(columns: &mut [LineOf<W>], y: usize, row: &LineOf<W>)
     requires few { (length columns.old ≤ 256) × (y < 256) }
     requires count { length columns.old ≡ length row.now }
-    requires lengths { (x : ℕ) → x < length columns.old → y < length (slice_index_or columns.old x []) }
+    requires lengths { (x : ℕ) → x < length columns.old
+        → y < length (slice_index_or columns.old x []) }
     ensures cells { (x : ℕ) → x < length columns.old → slice_index_or columns.new x []
         ≡ slice_set (slice_index_or columns.old x []) y (slice_index_or row.now x Unknown) }
     ensures len { length columns.new ≡ length columns.old }
@@ -98,14 +107,18 @@ fn write_across<W: LineSet>(columns: &mut [LineOf<W>], y: usize, row: &LineOf<W>
     }
 }
 
-/// Writes the cells of rows into the columns.
+/// Writes the cells of all `rows` into the columns.
 fn read_columns<W: LineSet>(columns: &mut [LineOf<W>], rows: &[LineOf<W>])
     requires few { (length columns.old ≤ 256) × (length rows.now ≤ 256) }
-    requires rows { (y : ℕ) → y < length rows.now → length (slice_index_or rows.now y []) ≡ length columns.old }
-    requires columns { (x : ℕ) → x < length columns.old → length (slice_index_or columns.old x []) ≡ length rows.now }
-    ensures cells { (x y : ℕ) → x < length columns.old → y < length rows.now → slice_index_or (slice_index_or columns.new x []) y Unknown
+    requires rows { (y : ℕ) → y < length rows.now
+        → length (slice_index_or rows.now y []) ≡ length columns.old }
+    requires columns { (x : ℕ) → x < length columns.old
+        → length (slice_index_or columns.old x []) ≡ length rows.now }
+    ensures cells { (x y : ℕ) → x < length columns.old → y < length rows.now
+        → slice_index_or (slice_index_or columns.new x []) y Unknown
         ≡ slice_index_or (slice_index_or rows.now y []) x Unknown }
-    ensures lengths { (x : ℕ) → x < length columns.old → length (slice_index_or columns.new x []) ≡ length rows.now }
+    ensures lengths { (x : ℕ) → x < length columns.old
+        → length (slice_index_or columns.new x []) ≡ length rows.now }
     ensures len { length columns.new ≡ length columns.old }
 {
     for y in 0..rows.len() {
@@ -113,7 +126,7 @@ fn read_columns<W: LineSet>(columns: &mut [LineOf<W>], rows: &[LineOf<W>])
     }
 }
 
-/// Takes over the cells of a grid into its rows and its columns.
+/// Loads the cells of `grid` into `rows` and `columns`.
 fn read_lines<W: LineSet>(rows: &mut [LineOf<W>], columns: &mut [LineOf<W>], grid: &Grid)
     requires lines { AreLinesOf (cells_of_rows rows.old) rows.old columns.old }
     requires width { grid.now.width ≡ length columns.old }
@@ -126,11 +139,13 @@ fn read_lines<W: LineSet>(rows: &mut [LineOf<W>], columns: &mut [LineOf<W>], gri
     read_columns(columns, rows);
 }
 
-/// The places of which the cell of the row above row y is known, or all if there is no row above.
+/// Returns the columns in which the cell above row `y` is known; all columns if there is no row
+/// above.
 fn sure_above<W: LineSet>(rows: &[LineOf<W>], y: usize) -> W
     requires { y < length rows.now }
     ensures { (x : ℕ) → x < length (slice_index_or rows.now y []) →
-        has (W.number result) x ≡ is_sure (nat_eq y 0) (slice_index_or (slice_index_or rows.now (y - 1) []) x Unknown) }
+        has (W.number result) x
+        ≡ is_sure (nat_eq y 0) (slice_index_or (slice_index_or rows.now (y - 1) []) x Unknown) }
 {
     if y == 0 {
         first_places(rows[y].len())
@@ -139,11 +154,14 @@ fn sure_above<W: LineSet>(rows: &[LineOf<W>], y: usize) -> W
     }
 }
 
-/// The places of which the cell of the row below row y is known, or all if there is no row below.
+/// Returns the columns in which the cell below row `y` is known; all columns if there is no row
+/// below.
 fn sure_below<W: LineSet>(rows: &[LineOf<W>], y: usize) -> W
     requires { y < length rows.now }
-    ensures { (x : ℕ) → x < length (slice_index_or rows.now y []) → has (W.number result) x ≡
-        is_sure (nat_eq (y + 1) (length rows.now)) (slice_index_or (slice_index_or rows.now (y + 1) []) x Unknown) }
+    ensures { (x : ℕ) → x < length (slice_index_or rows.now y []) →
+        has (W.number result) x
+        ≡ is_sure (nat_eq (y + 1) (length rows.now))
+        (slice_index_or (slice_index_or rows.now (y + 1) []) x Unknown) }
 {
     if y + 1 == rows.len() {
         first_places(rows[y].len())
@@ -152,7 +170,7 @@ fn sure_below<W: LineSet>(rows: &[LineOf<W>], y: usize) -> W
     }
 }
 
-/// How many cells of a line are known.
+/// Returns how many cells of `line` are known.
 fn known_in<W: LineSet>(line: &LineOf<W>) -> u32
     ensures { result ≡ count_by is_known line.now }
 {
@@ -167,13 +185,14 @@ fn known_in<W: LineSet>(line: &LineOf<W>) -> u32
 }
 
 impl<W: LineSet> GridLines<W> {
-    /// Its rows and its columns.
+    /// Returns the rows and the columns.
     pub fn into_lists(self) -> (Vec<LineOf<W>>, Vec<LineOf<W>>) {
         let GridLines { rows, columns } = self;
         (rows, columns)
     }
 
-    /// A grid of this size of which nothing is known, in lists that have room for its rows and its columns.
+    /// Returns an unknown grid of `width` columns and `height` rows, in the buffers of `rows` and
+    /// `columns`. Allocates nothing: their capacities have to be at least `height` and `width`.
     pub fn unknown(
         rows: Vec<LineOf<W>>,
         columns: Vec<LineOf<W>>,
@@ -184,7 +203,11 @@ impl<W: LineSet> GridLines<W> {
         requires fits { (width ≤ W.WIDTH) × (height ≤ W.WIDTH) }
         requires rows { height ≤ vec_capacity rows }
         requires columns { width ≤ vec_capacity columns }
-        ensures { result ≡ record { width = width; height = height; cells = replicate (width * height) Unknown } }
+        ensures { result ≡ record {
+          width = width;
+          height = height;
+          cells = replicate (width * height) Unknown;
+        } }
     {
         GridLines {
             rows: unknown_lines(rows, width, height),
@@ -192,7 +215,7 @@ impl<W: LineSet> GridLines<W> {
         }
     }
 
-    /// How many cells a row has.
+    /// Returns how many cells a row has.
     pub fn width(&self) -> usize
         ensures width { result ≡ self.now.width }
         ensures size { IsSize self.now.width self.now.height }
@@ -201,14 +224,14 @@ impl<W: LineSet> GridLines<W> {
         self.columns.len()
     }
 
-    /// How many cells a column has.
+    /// Returns how many cells a column has.
     pub fn height(&self) -> usize
         ensures { result ≡ self.now.height }
     {
         self.rows.len()
     }
 
-    /// How many cells there are.
+    /// Returns how many cells the grid has, at most 65,536.
     pub fn count(&self) -> usize
         ensures count { result ≡ length self.now.cells }
         ensures product { length self.now.cells ≡ self.now.width * self.now.height }
@@ -217,7 +240,7 @@ impl<W: LineSet> GridLines<W> {
         self.rows.len() * self.columns.len()
     }
 
-    /// How many cells are known.
+    /// Returns how many cells of the grid are known.
     #[tactic(auto, using(crate::proofs::GridLineSteps::known_by_rows, crate::proofs::GridLineSteps::few_known))]
     pub fn known(&self) -> u32
         ensures { result ≡ count_by is_known self.now.cells }
@@ -225,14 +248,15 @@ impl<W: LineSet> GridLines<W> {
         self.rows.iter().map(|row| known_in(row)).sum()
     }
 
-    /// The unknown cells of row y of whose neighbours at least `least`, 0 to 4, are known or outside the
-    /// grid.
+    /// Returns the unknown cells of row `y` that have at least `least`, 0 to 4, neighbours that are
+    /// known or outside the grid.
     pub fn near_cells(&self, y: usize, least: usize) -> W
         requires row { y < self.now.height }
         requires least { least ≤ 4 }
-        ensures unknown { (x : ℕ) → Has (W.number result) x → (x < self.now.width) × IsUnknownCell self.now.cells (y * self.now.width + x) }
-        ensures each { least ≡ 0 → (x : ℕ) → x < self.now.width → IsUnknownCell self.now.cells (y * self.now.width + x) →
-            Has (W.number result) x }
+        ensures unknown { (x : ℕ) → Has (W.number result) x
+            → (x < self.now.width) × IsUnknownCell self.now.cells (y * self.now.width + x) }
+        ensures each { least ≡ 0 → (x : ℕ) → x < self.now.width →
+            IsUnknownCell self.now.cells (y * self.now.width + x) → Has (W.number result) x }
         ensures fits { self.now.width ≤ W.WIDTH }
     {
         let row = &self.rows[y];
@@ -247,7 +271,8 @@ impl<W: LineSet> GridLines<W> {
         )
     }
 
-    /// The place of the first unknown cell from a place on in row order, if there is one.
+    /// Returns the index of the first unknown cell in row order from index `from` on, if there is
+    /// one.
     pub fn first_unknown(&self, from: usize) -> Option<usize>
         requires { from ≤ length self.now.cells }
         ensures { IsUnknownFrom self.now.cells from result }
@@ -263,8 +288,8 @@ impl<W: LineSet> GridLines<W> {
         None
     }
 
-    /// The place of the unknown cell of whose neighbours the most are known or outside the grid, and of
-    /// several the first in row order, if there is one.
+    /// Returns the index of the unknown cell that has the most neighbours that are known or outside
+    /// the grid, and of several the first in row order; `None` if the grid is full.
     pub fn most_known(&self) -> Option<usize>
         ensures { result ≡ most_known self.now.width self.now.cells }
     {
@@ -276,19 +301,22 @@ impl<W: LineSet> GridLines<W> {
             let below = sure_below(&self.rows, y);
             if let Some((count, x)) = most_in_row(&self.rows[y], above, below, least) {
                 best = Some(y * width + usize::from(x));
+                // Later cells need a greater count, so that of equal ones the first stays.
                 least = count + 1;
             }
         }
         best
     }
 
-    /// Makes the cells of line i of a side unknown that changed when it learned.
+    /// Makes the cells in `changes` of line `i` of an axis unknown.
     pub fn unlearn(&mut self, side: Side, i: u16, changes: W)
         requires i { i < count_on side self.old.width self.old.height }
-        requires within { (k : ℕ) → Has (W.number changes) k → k < count_on (crossing side) self.old.width self.old.height }
+        requires within { (k : ℕ) → Has (W.number changes) k
+            → k < count_on (crossing side) self.old.width self.old.height }
         ensures { self.new ≡ record self.old {
           cells = without self.old.cells
-              (step_on self.old.width self.old.height (record { side = side; line = i; changes = W.number changes }));
+              (step_on self.old.width self.old.height
+              (record { side = side; line = i; changes = W.number changes }));
         } }
     {
         let place = usize::from(i);
@@ -305,7 +333,7 @@ impl<W: LineSet> GridLines<W> {
         }
     }
 
-    /// Takes over the cells of a grid of its size.
+    /// Loads the cells of `grid`, which has the same size.
     #[tactic(auto, using(crate::proofs::GridLineSteps::lines_cells, crate::proofs::Names::with_items_is))]
     pub fn read(&mut self, grid: &Grid)
         requires width { grid.now.width ≡ self.old.width }
@@ -316,7 +344,7 @@ impl<W: LineSet> GridLines<W> {
         read_lines(&mut self.rows, &mut self.columns, grid);
     }
 
-    /// Writes its cells into a grid of its size.
+    /// Writes the cells into `grid`, which has the same size.
     pub fn write(&self, grid: &mut Grid)
         requires width { grid.old.width ≡ self.now.width }
         requires height { grid.old.height ≡ self.now.height }
@@ -326,7 +354,7 @@ impl<W: LineSet> GridLines<W> {
     }
 }
 
-/// Without a trail.
+/// Keeps no trail: assignments can't be undone.
 impl<W: LineSet> Learner<W> for GridLines<W> {
     ghost board = { fresh_board };
 
@@ -341,7 +369,8 @@ impl<W: LineSet> Learner<W> for GridLines<W> {
         }
     }
 
-    // Called, it has the new line in memory, whose fields the processor would wait for.
+    // Inlined, since a call would pass the new line in memory, and the processor would wait for its
+    // fields.
     #[inline(always)]
     fn learn(&mut self, side: Side, i: u16, new: &LineOf<W>, changes: W) {
         let place = usize::from(i);

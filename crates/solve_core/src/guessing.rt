@@ -1,4 +1,4 @@
-//! The cell of the next guess in a grid.
+//! The choice of the cell to guess next in a grid.
 
 ghost use Rattle.std.specs.Prelude.{◌≡◌, ◌<◌, ◌%◌, ◌/◌, false, length, option_map, slice_index_or};
 ghost use Rattle.grid_core.specs.declared.cells.Cell.TheVariants.{Unknown};
@@ -8,7 +8,8 @@ ghost use Rattle.solve_core.specs.Picks.{most_known, picked, sure_neighbours};
 use crate::picks::Pick;
 use grid_core::Grid;
 
-/// Whether a neighbour is outside the grid, or else the cell at that place is known.
+/// Reports whether a neighbour is known or outside the grid. Its index is `place`, if it isn't
+/// `outside`.
 fn is_sure(grid: &Grid, outside: bool, place: usize) -> bool
     requires { outside ≡ false → place < length grid.now.cells }
     ensures { result ≡ is_sure outside (slice_index_or grid.now.cells place Unknown) }
@@ -16,7 +17,7 @@ fn is_sure(grid: &Grid, outside: bool, place: usize) -> bool
     outside || grid.at(place).is_known()
 }
 
-/// How many of a cell's neighbours are known or outside the grid.
+/// Returns how many neighbours of the cell with index `place` are known or outside the grid.
 fn sure_neighbours(grid: &Grid, place: usize) -> usize
     requires { place < length grid.now.cells }
     ensures { result ≡ sure_neighbours grid.now.width grid.now.cells place }
@@ -24,6 +25,8 @@ fn sure_neighbours(grid: &Grid, place: usize) -> usize
     let width = usize::from(grid.width());
     let count = width * usize::from(grid.height());
     let column = place % width;
+    // The index of a neighbour outside the grid isn't used: saturating only keeps the subtraction
+    // from underflowing.
     let left = is_sure(grid, column == 0, place.saturating_sub(1));
     let right = is_sure(grid, column + 1 == width, place + 1);
     let above = is_sure(grid, place < width, place.saturating_sub(width));
@@ -31,8 +34,8 @@ fn sure_neighbours(grid: &Grid, place: usize) -> usize
     usize::from(left) + usize::from(right) + usize::from(above) + usize::from(below)
 }
 
-/// The place of the unknown cell of whose neighbours the most are known or outside the grid, and of several
-/// the first.
+/// Returns the index of the unknown cell that has the most neighbours that are known or outside the
+/// grid, and of several the first in row order; `None` if the grid is full.
 fn most_known(grid: &Grid) -> Option<usize>
     ensures { result ≡ most_known grid.now.width grid.now.cells }
 {
@@ -51,10 +54,11 @@ fn most_known(grid: &Grid) -> Option<usize>
     best
 }
 
-/// The column and the row of the cell that is guessed next in a grid, by the rule. It takes no memory; `None`
-/// exactly if the grid is full.
+/// Returns the column and the row, from 0, of the cell of `grid` that is to be guessed next by the
+/// rule `pick`; `None` exactly if the grid is full. Allocates nothing.
 pub fn next_guess(grid: &Grid, pick: Pick) -> Option<(u16, u16)>
-    ensures { result ≡ option_map (λ k. (k % grid.now.width, k / grid.now.width)) (picked pick grid.now.width grid.now.cells) }
+    ensures { result ≡ option_map (λ k. (k % grid.now.width, k / grid.now.width))
+        (picked pick grid.now.width grid.now.cells) }
 {
     match pick {
         Pick::First => grid.first_unknown(),

@@ -1,4 +1,4 @@
-//! Grids whose lines learn.
+//! Grids to whose lines colours can be assigned.
 ghost use Rattle.std.specs.Prelude.{◌≡◌, ◌≢◌, ◌<◌, ◌≤◌, Bool, true, length};
 ghost use Rattle.grid_core.specs.Cells.{Extends};
 ghost use Rattle.grid_core.specs.Lines.{IsChanged};
@@ -12,29 +12,32 @@ ghost use Rattle.solve_core.specs.steps.Trails.{IsTrailed, TrailedGrid};
 use grid_core::Side;
 use line_core::{LineOf, LineSet};
 
-/// A grid whose lines learn. It may keep a trail, which leads back.
+/// A grid to whose lines colours can be assigned. It may keep a trail by which assignments are
+/// undone.
 pub trait Learner<W: LineSet> {
-    /// The grid with its trail, or with none.
+    /// The grid with its trail, which is empty if it keeps none.
     ghost board: { Self → TrailedGrid };
 
-    /// Whether it keeps a trail.
+    /// The value of the constant `KEEPS` in contracts.
     ghost KEEPS: { Bool };
 
-    /// Whether it keeps a trail.
+    /// Whether the grid keeps a trail.
     const KEEPS: bool;
 
-    /// The cells of line i of a side.
+    /// Returns line `i` of an axis.
     fn line(&self, side: Side, i: u16) -> &LineOf<W>
         requires { i < count_on side (board self.now).width (board self.now).height }
         ensures cells { result.now ≡ cells_along (board self.now) side i }
         ensures whole { IsWhole (board self.now) };
 
-    /// Writes the cells of line i of a side, some of which change from unknown ones.
+    /// Replaces line `i` of an axis by `new`, in which the cells in `changes`, at least one and all
+    /// unknown before, have a colour. Writes them into the crossing lines too.
     fn learn(&mut self, side: Side, i: u16, new: &LineOf<W>, changes: W)
         requires i { i < count_on side (board self.old).width (board self.old).height }
         requires fits { length new.now ≤ W.WIDTH }
         requires more { Extends (cells_along (board self.old) side i) new.now }
-        requires changes { IsMaskOf (IsChanged (cells_along (board self.old) side i) new.now) (W.number changes) }
+        requires changes { IsMaskOf (IsChanged (cells_along (board self.old) side i) new.now)
+            (W.number changes) }
         requires some { new.now ≢ cells_along (board self.old) side i }
         ensures cells { (board self.new).cells ≡ with_cells (board self.old).cells
             (places_on side (board self.old).width (board self.old).height i) new.now }

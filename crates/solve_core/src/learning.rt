@@ -1,5 +1,5 @@
-//! What a line learned, or forgets, written into the lines that cross it: by words of 64 places, and in one
-//! colour after the other, so that no cell is asked for its colour.
+//! Changes of a line, written into the lines that cross it: by words of 64 indices, and one colour
+//! after the other, so that no cell's colour has to be looked up.
 ghost use Rattle.std.specs.Prelude.{◌≡◌, ℕ, ◌<◌, ◌≤◌, [], length, slice_index_or, slice_set, true};
 ghost use Rattle.grid_core.specs.declared.cells.Cell.TheVariants.{Unknown};
 ghost use Rattle.grid_core.specs.Cells.{is_known};
@@ -11,7 +11,8 @@ use grid_core::Cell;
 use line_core::{LineOf, LineSet};
 use place_sets::PlaceSet;
 
-/// Gives an unknown cell of a line a colour, or makes a cell unknown.
+/// Assigns `colour` to cell `i` of `line`, which is unknown, or makes the cell unknown if `colour`
+/// is.
 fn write_cell<W: LineSet>(line: &mut LineOf<W>, i: u16, colour: Cell)
     requires i { i < length line.old }
     requires unknown { is_known colour ≡ true → slice_index_or line.old i Unknown ≡ Unknown }
@@ -24,14 +25,15 @@ fn write_cell<W: LineSet>(line: &mut LineOf<W>, i: u16, colour: Cell)
     }
 }
 
-/// Writes a colour, or that nothing is known, into cell `i` of each line at those of the places that are among
-/// the 64 from `from` on.
+/// Writes `colour`, which may be unknown, into cell `i` of each line whose number is in `places`
+/// and among the 64 from `from` on.
 fn write_word<W: LineSet>(lines: &mut [LineOf<W>], i: u16, places: W, from: u16, colour: Cell)
     requires from { from < W.WIDTH }
     requires cells { (k : ℕ) → IsIn (W.number places) from k → CanWriteIn lines.old i colour k }
     ensures changed { (k : ℕ) → IsIn (W.number places) from k →
         slice_index_or lines.new k [] ≡ slice_set (slice_index_or lines.old k []) i colour }
-    ensures others { (k : ℕ) → (IsIn (W.number places) from k → ⊥) → slice_index_or lines.new k [] ≡ slice_index_or lines.old k [] }
+    ensures others { (k : ℕ) → (IsIn (W.number places) from k → ⊥)
+        → slice_index_or lines.new k [] ≡ slice_index_or lines.old k [] }
     ensures len { length lines.new ≡ length lines.old }
 {
     let mut left = word_from(places, from);
@@ -42,13 +44,14 @@ fn write_word<W: LineSet>(lines: &mut [LineOf<W>], i: u16, places: W, from: u16,
     }
 }
 
-/// Writes a colour, or that nothing is known, into cell `i` of each line at some places.
+/// Writes `colour`, which may be unknown, into cell `i` of each line whose number is in `places`.
 pub fn write_each<W: LineSet>(lines: &mut [LineOf<W>], i: u16, places: W, colour: Cell)
     requires within { (k : ℕ) → Has (W.number places) k → k < W.WIDTH }
     requires cells { (k : ℕ) → Has (W.number places) k → CanWriteIn lines.old i colour k }
     ensures changed { (k : ℕ) → Has (W.number places) k →
         slice_index_or lines.new k [] ≡ slice_set (slice_index_or lines.old k []) i colour }
-    ensures others { (k : ℕ) → (Has (W.number places) k → ⊥) → slice_index_or lines.new k [] ≡ slice_index_or lines.old k [] }
+    ensures others { (k : ℕ) → (Has (W.number places) k → ⊥)
+        → slice_index_or lines.new k [] ≡ slice_index_or lines.old k [] }
     ensures len { length lines.new ≡ length lines.old }
 {
     let mut from = 0;
@@ -58,15 +61,18 @@ pub fn write_each<W: LineSet>(lines: &mut [LineOf<W>], i: u16, places: W, colour
     }
 }
 
-/// Settles cell `i` of each line at a change as `new` has the change.
+/// Assigns to cell `i` of each line whose number is in `changes` the colour that `new` has at that
+/// number.
 pub fn settle_across<W: LineSet>(lines: &mut [LineOf<W>], i: u16, new: &LineOf<W>, changes: W)
     requires fits { length new.now ≤ W.WIDTH }
     requires changes { (k : ℕ) → Has (W.number changes) k → CanLearn lines.old i new.now k }
     ensures changed { (k : ℕ) → Has (W.number changes) k → slice_index_or lines.new k []
         ≡ slice_set (slice_index_or lines.old k []) i (slice_index_or new.now k Unknown) }
-    ensures others { (k : ℕ) → (Has (W.number changes) k → ⊥) → slice_index_or lines.new k [] ≡ slice_index_or lines.old k [] }
+    ensures others { (k : ℕ) → (Has (W.number changes) k → ⊥)
+        → slice_index_or lines.new k [] ≡ slice_index_or lines.old k [] }
     ensures len { length lines.new ≡ length lines.old }
 {
+    // Two passes over sets, each with one colour, are faster than one that looks up each colour.
     let filled = changes.intersection(new.filled());
     let blank = changes.difference(filled);
     write_each(lines, i, filled, Cell::Filled);

@@ -1,4 +1,5 @@
-//! Closure, trials, search and report of nonograms.
+//! The solver: the closure of grids under line deduction and under trials, the search for
+//! solutions, and the report on a puzzle.
 #![tactic(auto)]
 
 mod boards;

@@ -1,4 +1,4 @@
-//! The grid of a puzzle as far as line logic gets.
+//! The unknown grid of a puzzle, closed under line deduction.
 ghost use Rattle.std.specs.Prelude.{◌≡◌, IfOk};
 ghost use Rattle.solve_core.specs.steps.Closers.{IsMemoryOf};
 ghost use Rattle.solve_core.specs.Report.{grid_of, line_grid, unknown_grid};
@@ -15,8 +15,8 @@ use line_core::{LineSet, Width};
 use place_sets::Wide;
 use std::alloc::Global;
 
-/// Closes lines of which nothing is known, and writes them to a grid of which nothing is known. Returns the
-/// grid, or none if it is dead.
+/// Closes the unknown grid `lines` under line deduction and writes it to `grid`, which is unknown
+/// too. Returns `grid`, or `None` if it is dead.
 fn closed_grid<W: LineSet>(
     closer: &mut Closer<W>,
     puzzle: &Puzzle,
@@ -37,8 +37,8 @@ fn closed_grid<W: LineSet>(
     }
 }
 
-/// The closed grid, by sets of a width that has room for the puzzle's lines and the numbers of its clues. No
-/// deduction is remembered, since there are no trials.
+/// Returns what `line_grid` does, in sets whose width fits the puzzle's lines and the numbers of
+/// its clues. Fails with `NoMemory` if an allocation fails.
 fn line_grid_within<W: LineSet>(alloc: Global, puzzle: &Puzzle) -> Result<Option<Grid>, NoMemory>
     requires { FitsIn W.WIDTH puzzle.now }
     ensures { IfOk result (λ grid. grid ≡ line_grid puzzle.now) }
@@ -48,14 +48,15 @@ fn line_grid_within<W: LineSet>(alloc: Global, puzzle: &Puzzle) -> Result<Option
     let grid = Grid::unknown(alloc, width, height)?;
     let rows = emptied(alloc, Vec::new(alloc), usize::from(height))?;
     let columns = emptied(alloc, Vec::new(alloc), usize::from(width))?;
+    // The least capacity, and no lookahead tables: both serve trials only.
     let deductions = Deductions::with_room(alloc, None, 1, 0, 0)?;
     let mut closer = Closer::<W>::new(deductions, DeadEnds::new(alloc, None, 0)?);
     let mut lines = GridLines::unknown(rows, columns, width, height);
     Ok(closed_grid(&mut closer, puzzle, &mut lines, grid))
 }
 
-/// The grid of a puzzle of which nothing was known, closed under line deduction; none if it is dead. All of
-/// its room is made before the first line is deduced; `NoMemory` if that is refused.
+/// Returns the unknown grid of `puzzle` closed under line deduction; `None` if it is dead.
+/// Allocates everything before the first line is deduced; `NoMemory` if an allocation fails.
 pub fn line_grid(alloc: Global, puzzle: &Puzzle) -> Result<Option<Grid>, NoMemory>
     ensures { IfOk result (λ grid. grid ≡ line_grid puzzle.now) }
 {

@@ -1,4 +1,4 @@
-//! Tables of what is certain of a puzzle's lines once one more cell is known.
+//! The lookahead tables of a puzzle's lines.
 
 ghost use Rattle.std.specs.Prelude.{◌≡◌, ◌↔◌, ◌≢◌, ◌<◌, ◌≤◌, ℕ, Bool, None, length, slice_index_or, IfOk, IfSome, IsTrue};
 ghost use Rattle.grid_core.specs.Nonogram.{Nonogram, crossing, line_on};
@@ -24,10 +24,11 @@ use place_sets::PlaceSet;
 use std::alloc::Global;
 use std::marker::Model;
 
-/// How many places the widest sets have of whose lines there are tables.
+/// The greatest set width for which there are lookahead tables: wider ones would take too much
+/// memory.
 const WIDEST: u16 = 128;
 
-/// How many of `count` lines have a table: none if the sets are too wide.
+/// Returns how many of `count` lines have a table: none if the sets are wider than `WIDEST`.
 fn tables_for<W: LineSet>(count: u16) -> usize
     ensures { result ≤ W.WIDTH }
 {
@@ -38,7 +39,8 @@ fn tables_for<W: LineSet>(count: u16) -> usize
     }
 }
 
-/// Room for clues of `most_runs` runs, that which there is if it is enough.
+/// Returns lookahead buffers for clues of `most_runs` runs: `room` if it suffices, and otherwise
+/// new ones. Fails with `NoMemory` if an allocation fails.
 fn with_room<W: LineSet>(
     alloc: Global,
     room: PairRoom<W>,
@@ -52,16 +54,17 @@ fn with_room<W: LineSet>(
     PairRoom::new(alloc, most_runs)
 }
 
-/// A table for each row and each column of a puzzle, in room that is made once.
+/// A lookahead table for each row and each column of a puzzle, in buffers that are allocated once.
 pub struct LinePairs<W: LineSet> {
     room: PairRoom<W>,
     rows: SideTables<W>,
     columns: SideTables<W>,
-    /// Whether one of them may have a line.
+    /// Whether any table may have been built for a line.
     written: bool,
 }
 
-/// A call of its own, so that a proof takes it as one step.
+/// Written by hand so that callers' proofs see one call: a derived drop is expanded at each exit of
+/// each caller.
 impl<W: LineSet> Drop for LinePairs<W> {
     fn drop(self) {
         let LinePairs {
@@ -80,11 +83,12 @@ impl<W: LineSet> Model for LinePairs<W> {
 
     ghost view = { λ t. record { rows = t.rows; columns = t.columns } };
 
-    ghost invariant = { λ t. AreForgotten t.written (record { rows = t.rows; columns = t.columns }) };
+    ghost invariant = { λ t.
+        AreForgotten t.written (record { rows = t.rows; columns = t.columns }) };
 }
 
 impl<W: LineSet> LinePairs<W> {
-    /// Without a table.
+    /// Returns an instance without tables. Fails with `NoMemory` if an allocation fails.
     fn none(alloc: Global) -> Result<LinePairs<W>, NoMemory> {
         Ok(LinePairs {
             room: PairRoom::new(alloc, 0)?,
@@ -94,7 +98,8 @@ impl<W: LineSet> LinePairs<W> {
         })
     }
 
-    /// Its room, and the tables of its rows and of its columns.
+    /// Returns the buffers in which tables are built, the tables of the rows, and those of the
+    /// columns.
     fn into_parts(self) -> (PairRoom<W>, SideTables<W>, SideTables<W>)
         ensures rows { result.1 ≡ self.rows }
         ensures columns { result.2 ≡ self.columns }
@@ -108,12 +113,12 @@ impl<W: LineSet> LinePairs<W> {
         (room, rows, columns)
     }
 
-    /// Whether a table may have a line.
+    /// Reports whether any table may have been built for a line.
     pub fn is_written(&self) -> bool {
         self.written
     }
 
-    /// Takes the lines of all tables away.
+    /// Clears all tables.
     pub fn forget(&mut self)
         ensures rows { AreEmpty self.new.rows }
         ensures columns { AreEmpty self.new.columns }
@@ -125,7 +130,9 @@ impl<W: LineSet> LinePairs<W> {
         }
     }
 
-    /// Makes the tables of a puzzle of this size, of those of others, if there are any. None has a line.
+    /// Allocates the tables of a puzzle of `width` columns and `height` rows, reusing those of
+    /// `others` if given. None of them is built for a line yet. Fails with `NoMemory` if an
+    /// allocation fails.
     #[tactic(auto, using(crate::proofs::TableSteps::empty_tables))]
     pub fn new(
         alloc: Global,
@@ -142,6 +149,7 @@ impl<W: LineSet> LinePairs<W> {
         pairs.forget();
         let (room, rows, columns) = pairs.into_parts();
         let (across, down) = (tables_for::<W>(width), tables_for::<W>(height));
+        // A line of `n` cells has at most `n / 2` runs, rounded up.
         let most_runs = across.max(down).div_ceil(2);
         Ok(LinePairs {
             room: with_room(alloc, room, most_runs.min(MOST_RUNS))?,
@@ -151,8 +159,8 @@ impl<W: LineSet> LinePairs<W> {
         })
     }
 
-    /// Makes the table of line i of a side of the puzzle with these cells, if it isn't made and there is room for
-    /// it. Returns whether there is.
+    /// Builds the table of line `i` of an axis of `puzzle` for the cells of `line`, unless it is
+    /// there already or has no buffer. Returns whether it is there now.
     pub fn write(
         &mut self,
         lines: &mut Tables,
@@ -166,7 +174,8 @@ impl<W: LineSet> LinePairs<W> {
         requires tables { AreTablesOf puzzle.now self.old }
         ensures tables { AreTablesOf puzzle.now self.new }
         ensures line { IsTrue result ↔ ((table_on side i self.new).line ≡ Some line.now) }
-        ensures others { (s : SideValue) (k : ℕ) → (s ≡ side → k ≢ i) → table_on s k self.new ≡ table_on s k self.old }
+        ensures others { (s : SideValue) (k : ℕ) → (s ≡ side → k ≢ i)
+            → table_on s k self.new ≡ table_on s k self.old }
     {
         self.written = true;
         let clue = clue_of_line(puzzle, side, i);
@@ -176,15 +185,17 @@ impl<W: LineSet> LinePairs<W> {
         }
     }
 
-    /// What can be on line i of a side with these cells, if they are those of its table with one cell more.
+    /// Returns the support of line `i` of an axis with the cells of `line`, if its table was built
+    /// for these cells with just one of the known ones unknown.
     pub fn colours_of(&self, side: Side, i: u16, line: &LineOf<W>) -> Option<&Colours<W>>
         ensures { IfSome result (λ colours. (p : Nonogram) → AreTablesOf p self.now
-            → told_by (length line.now) colours.now.fillable colours.now.blankable ≡ deduced line.now (line_on side p i).clue) }
+            → told_by (length line.now) colours.now.fillable colours.now.blankable
+            ≡ deduced line.now (line_on side p i).clue) }
     {
         self.on(side).table(i)?.colours_of(line)
     }
 
-    /// The tables of the lines of a side.
+    /// Returns the tables of the lines of an axis.
     fn on(&self, side: Side) -> &SideTables<W>
         ensures { (i : ℕ) → slice_index_or result.now i no_table ≡ table_on side i self.now }
     {
@@ -194,12 +205,15 @@ impl<W: LineSet> LinePairs<W> {
         }
     }
 
-    /// The cells of row y that are neutral at its table and at those of their columns, of these columns, for each
-    /// colour.
+    /// Returns, for each colour, the cells of row `y` in one of `columns` at which the colour is
+    /// inert both on the row and on the column, by their tables. Each of `columns` has to have a
+    /// table built for a line.
     pub fn neutral_in_row(&self, y: u16, columns: W) -> ColourSets<W>
         requires { (k : ℕ) → Has (W.number columns) k → (table_on Columns k self.now).line ≢ None }
         ensures { (k : ℕ) (filled : Bool) → Has (mask_if filled result) k →
-            Has (W.number columns) k × IsNeutralAt self.now Rows y k filled × IsNeutralAt self.now Columns k y filled }
+            Has (W.number columns) k
+            × IsNeutralAt self.now Rows y k filled
+            × IsNeutralAt self.now Columns k y filled }
     {
         let Some(table) = self.rows.table(y) else {
             return ColourSets::none();
@@ -219,16 +233,19 @@ impl<W: LineSet> LinePairs<W> {
         }
     }
 
-    /// Those of the changes of line i of a side, some of them `filled`, at which a line that crosses may have more
-    /// to give: not those at a fresh line whose table has the cell among its neutral ones. Lines that change aren't
-    /// fresh any more.
+    /// Returns the cells in `changes` of line `i` of an axis whose crossing lines have to be
+    /// propagated again: all but those at which the crossing line has a valid table by which the
+    /// new colour is inert. `filled` are the filled cells of the line. Invalidates the tables of
+    /// the line and of the lines that its changes cross.
     #[inline(always)]
     pub fn open_changes(&self, side: Side, i: u16, filled: W, changes: W, fresh: &mut Marks<W>) -> W
         requires i { i < W.WIDTH }
-        requires fresh { (k : ℕ) → IsMarkedOn fresh.old (crossing side) k → (table_on (crossing side) k self.now).line ≢ None }
+        requires fresh { (k : ℕ) → IsMarkedOn fresh.old (crossing side) k
+            → (table_on (crossing side) k self.now).line ≢ None }
         ensures within { (k : ℕ) → Has (W.number result) k → Has (W.number changes) k }
         ensures others { (k : ℕ) → Has (W.number changes) k → (Has (W.number result) k → ⊥) →
-            IsMarkedOn fresh.old (crossing side) k × IsNeutralAt self.now (crossing side) k i (has (W.number filled) k) }
+            IsMarkedOn fresh.old (crossing side) k
+            × IsNeutralAt self.now (crossing side) k i (has (W.number filled) k) }
         ensures fresh { StayFresh side i (Has (W.number changes)) fresh.old fresh.new }
     {
         let across = fresh.on(side.crossing());

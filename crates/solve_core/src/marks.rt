@@ -1,4 +1,4 @@
-//! Marks of lines.
+//! Sets of a grid's lines.
 ghost use Rattle.std.specs.Prelude.{◌≡◌, ◌<◌, ◌≤◌, ◌↔◌, ◌⊎◌, ℕ, IsTrue, false};
 ghost use Rattle.grid_core.specs.declared.sides.Side.{Side as SideValue};
 ghost use Rattle.grid_core.specs.Nonogram.{crossing};
@@ -11,7 +11,7 @@ use line_core::LineSet;
 use place_sets::first_places;
 use std::marker::Model;
 
-/// A mark for each line of a grid: those of the rows in one set, and those of the columns in another.
+/// A set of a grid's lines: one bit set for the rows, and one for the columns.
 #[derive(Drop)]
 pub struct Marks<W: LineSet> {
     rows: W,
@@ -27,7 +27,7 @@ impl<W: LineSet> Model for Marks<W> {
 }
 
 impl<W: LineSet> Marks<W> {
-    /// No mark at any line.
+    /// Returns the empty set.
     pub fn none() -> Marks<W>
         ensures { AreUnmarked result }
     {
@@ -37,7 +37,7 @@ impl<W: LineSet> Marks<W> {
         }
     }
 
-    /// A mark at each line.
+    /// Returns the set of all rows and columns that the bit sets can hold.
     pub fn all() -> Marks<W>
         ensures { (side : SideValue) (i : ℕ) → i < W.WIDTH → IsMarkedOn result side i }
     {
@@ -47,20 +47,22 @@ impl<W: LineSet> Marks<W> {
         }
     }
 
-    /// Marks all lines of a grid of this size, and no other.
+    /// Becomes the set of all lines of a grid of `width` columns and `height` rows.
     pub fn mark_all(&mut self, width: u16, height: u16)
         requires width { (1 ≤ width) × (width ≤ W.WIDTH) }
         requires height { (1 ≤ height) × (height ≤ W.WIDTH) }
-        ensures { (side : SideValue) (i : ℕ) → IsMarkedOn self.new side i ↔ (i < count_on side width height) }
+        ensures { (side : SideValue) (i : ℕ)
+            → IsMarkedOn self.new side i ↔ (i < count_on side width height) }
     {
         self.rows = first_places(height);
         self.columns = first_places(width);
     }
 
-    /// Marks line i of a side if that is wanted, and else takes its mark back.
+    /// Adds line `i` of an axis if `wanted`, and otherwise removes it.
     pub fn set(&mut self, side: Side, i: u16, wanted: bool)
         requires { i < W.WIDTH }
-        ensures own { IsMaskOf (IsMarked (Has (marks_on side self.old)) i wanted) (marks_on side self.new) }
+        ensures own { IsMaskOf (IsMarked (Has (marks_on side self.old)) i wanted)
+            (marks_on side self.new) }
         ensures other { marks_on (crossing side) self.new ≡ marks_on (crossing side) self.old }
     {
         match side {
@@ -69,9 +71,10 @@ impl<W: LineSet> Marks<W> {
         }
     }
 
-    /// Marks these lines of a side too.
+    /// Adds `lines` of an axis.
     pub fn add(&mut self, side: Side, lines: W)
-        ensures own { IsMaskOf (λ i. Has (marks_on side self.old) i ⊎ Has (W.number lines) i) (marks_on side self.new) }
+        ensures own { IsMaskOf (λ i. Has (marks_on side self.old) i ⊎ Has (W.number lines) i)
+            (marks_on side self.new) }
         ensures other { marks_on (crossing side) self.new ≡ marks_on (crossing side) self.old }
     {
         match side {
@@ -80,9 +83,11 @@ impl<W: LineSet> Marks<W> {
         }
     }
 
-    /// Takes the marks of these lines of a side back.
+    /// Removes `lines` of an axis.
     pub fn take(&mut self, side: Side, lines: W)
-        ensures own { IsMaskOf (λ i. Has (marks_on side self.old) i × (has (W.number lines) i ≡ false)) (marks_on side self.new) }
+        ensures own { IsMaskOf
+            (λ i. Has (marks_on side self.old) i × (has (W.number lines) i ≡ false))
+            (marks_on side self.new) }
         ensures other { marks_on (crossing side) self.new ≡ marks_on (crossing side) self.old }
     {
         match side {
@@ -91,7 +96,7 @@ impl<W: LineSet> Marks<W> {
         }
     }
 
-    /// The same marks, once more.
+    /// Returns a copy.
     pub fn copy(&self) -> Marks<W>
         ensures { result ≡ self.now }
     {
@@ -101,14 +106,14 @@ impl<W: LineSet> Marks<W> {
         }
     }
 
-    /// Whether no line is marked.
+    /// Reports whether the set is empty.
     pub fn is_empty(&self) -> bool
         ensures { IsTrue result → AreUnmarked self.now }
     {
         self.rows.union(self.columns).is_empty()
     }
 
-    /// The marked lines of a side.
+    /// Returns those lines of an axis that are in the set.
     pub fn on(&self, side: Side) -> W
         ensures { W.number result ≡ marks_on side self.now }
     {

@@ -1,4 +1,4 @@
-//! Openings: colours of a grid's cells that are known to be open, which means that they aren't refuted.
+//! Consistent colours of a grid's cells: those that are known not to be refuted, and need no trial.
 ghost use Rattle.std.specs.Prelude.{◌≡◌, ◌+◌, ◌*◌, ◌/◌, ◌%◌, ◌<◌, ◌≤◌, ◌↔◌, ℕ, List, Some, false, length, replicate, vec_capacity, IsTrue, IfOk, IfSome};
 ghost use Rattle.grid_core.specs.declared.cells.Cell.{Cell as CellValue};
 ghost use Rattle.grid_core.specs.Cells.{Extends};
@@ -20,8 +20,8 @@ use place_sets::first_from;
 use std::alloc::Global;
 use std::marker::Model;
 
-/// For each row of a grid the cells at which filled is noted as open, and those at which blank is, in room that is
-/// made once.
+/// For each row of a grid, the cells at which filled is recorded as consistent, and those at which
+/// blank is, in a buffer that is allocated once.
 #[derive(Drop)]
 pub struct Openings<W: LineSet> {
     rows: Vec<ColourSets<W>>,
@@ -37,7 +37,8 @@ impl<W: LineSet> Model for Openings<W> {
 }
 
 impl<W: LineSet> Openings<W> {
-    /// Makes the room, a pair of sets for each row of the puzzle, of that of others, if there are any.
+    /// Allocates a pair of empty sets for each row of `puzzle`, reusing the buffer of `others` if
+    /// given. Fails with `NoMemory` if an allocation fails.
     pub fn new(
         alloc: Global,
         others: Option<Openings<W>>,
@@ -54,7 +55,7 @@ impl<W: LineSet> Openings<W> {
         })
     }
 
-    /// Forgets all, so that what is noted is open in any grid.
+    /// Clears the record, which is then correct for any grid.
     pub fn forget(&mut self)
         ensures openings { (p : Nonogram) (cells : List CellValue) → AreOpenings p self.new cells }
         ensures rows { length self.new ≡ length self.old }
@@ -63,7 +64,7 @@ impl<W: LineSet> Openings<W> {
         fill_with_none(&mut self.rows, count);
     }
 
-    /// Whether a colour is noted at column x of row y.
+    /// Reports whether `colour` is recorded as consistent at column `x` of row `y`.
     pub fn is_open(&self, x: u16, y: usize, colour: Cell) -> bool
         requires column { x < W.WIDTH }
         requires row { y < length self.now }
@@ -72,7 +73,7 @@ impl<W: LineSet> Openings<W> {
         self.rows[y].contains(x, colour)
     }
 
-    /// The columns of row y at which both colours are noted.
+    /// Returns the columns at which both colours are recorded as consistent in row `y`.
     pub fn tried(&self, y: usize) -> W
         requires { y < length self.now }
         ensures { IsMaskOf (λ x. AreBothNoted self.now x y) (W.number result) }
@@ -80,24 +81,28 @@ impl<W: LineSet> Openings<W> {
         self.rows[y].in_both()
     }
 
-    /// Notes colours of unknown cells of row y that aren't refuted there.
+    /// Records `colours` as consistent in row `y`. At unknown cells they must not be refuted; at
+    /// known cells they don't matter.
     pub fn open_row(&mut self, y: usize, colours: &ColourSets<W>)
         requires row { y < length self.old }
         ensures openings { (p : Nonogram) (cells : List CellValue) → AreOpenings p self.old cells →
-            ((k : ℕ) (colour : CellValue) → k / p.width ≡ y → Has (mask_of colour colours.now) (k % p.width) →
-            CanSettle cells k colour → is_refuted (lines_of p) cells k colour ≡ false) → AreOpenings p self.new cells }
+            ((k : ℕ) (colour : CellValue) → k / p.width ≡ y
+            → Has (mask_of colour colours.now) (k % p.width) → CanSettle cells k colour
+            → is_refuted (lines_of p) cells k colour ≡ false)
+            → AreOpenings p self.new cells }
         ensures rows { length self.new ≡ length self.old }
     {
         self.rows[y].add(colours);
     }
 
-    /// Notes the known cells of some rows of a closed grid that is alive. In a grid that knows no more their colours
-    /// aren't refuted.
+    /// Records the colours of the known cells of `rows` as consistent. `lines` has to be closed and
+    /// alive: then none of its colours is refuted in any grid that knows no more than it does.
     pub fn add(&mut self, lines: &GridLines<W>, rows: W)
         requires rows { (y : ℕ) → Has (W.number rows) y → y < lines.now.height }
         requires height { lines.now.height ≡ length self.old }
         ensures openings { (p : Nonogram) (cells : List CellValue) → lines.now.width ≡ p.width →
-            round (lines_of p) lines.now.cells ≡ Some lines.now.cells → Extends cells lines.now.cells →
+            round (lines_of p) lines.now.cells ≡ Some lines.now.cells →
+            Extends cells lines.now.cells →
             AreOpenings p self.old cells → AreOpenings p self.new cells }
         ensures rows { length self.new ≡ length self.old }
     {
@@ -109,14 +114,17 @@ impl<W: LineSet> Openings<W> {
         }
     }
 
-    /// The place of the first unknown cell from a place on in row order of which not both colours are noted, and of
-    /// whose neighbours at least `least`, 0 to 4, are known or outside the grid, if there is one.
+    /// Returns the index of the first unknown cell in row order from index `from` on at which not
+    /// both colours are recorded as consistent, and that has at least `least`, 0 to 4, neighbours
+    /// that are known or outside the grid. `None` if there is none.
     pub fn first_untried(&self, lines: &GridLines<W>, from: usize, least: usize) -> Option<usize>
         requires height { lines.now.height ≡ length self.now }
         requires from { from ≤ length lines.now.cells }
         requires least { least ≤ 4 }
-        ensures found { IfSome result (λ place. (from ≤ place) × IsUnknownCell lines.now.cells place) }
-        ensures passed { least ≡ 0 → AreTriedFrom self.now lines.now.width lines.now.cells from result }
+        ensures found { IfSome result (λ place.
+            (from ≤ place) × IsUnknownCell lines.now.cells place) }
+        ensures passed { least ≡ 0
+            → AreTriedFrom self.now lines.now.width lines.now.cells from result }
     {
         let width = lines.width();
         let mut column = from % width;

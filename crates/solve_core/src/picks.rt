@@ -1,4 +1,4 @@
-//! The rules for the cell of the next guess.
+//! The rules by which the cell of the next guess is chosen.
 
 ghost use Rattle.std.specs.Prelude.{◌≡◌, ◌+◌, ◌<◌, ◌≤◌, ℕ, length, IfNone, IfSome};
 ghost use Rattle.place_sets.specs.Masks.{Has, has, IsMaskOf};
@@ -8,17 +8,17 @@ ghost use Rattle.solve_core.specs.steps.Counts.{AreCounts, IsKnownCell, IsMostIn
 use line_core::LineOf;
 use place_sets::{PlaceSet, complement_within};
 
-/// Which unknown cell is guessed next.
+/// The rule by which the unknown cell to guess next is chosen.
 #[derive(Clone, Copy, Debug, PartialEq, Eq)]
 pub enum Pick {
-    /// The first one in row order.
+    /// The first unknown cell in row order.
     First,
-    /// The one of whose four neighbours the most are known or outside the grid, and of several the first in
-    /// row order.
+    /// The unknown cell that has the most neighbours, of four, that are known or outside the grid,
+    /// and of several the first in row order.
     Most,
 }
 
-/// The places that are in one of two sets at least, and those in both.
+/// Two sets of indices, as the indices that are in either of them, and those that are in both.
 #[derive(Drop)]
 pub struct Two<W: PlaceSet> {
     either: W,
@@ -26,9 +26,10 @@ pub struct Two<W: PlaceSet> {
 }
 
 impl<W: PlaceSet> Two<W> {
-    /// Those of two sets.
+    /// Returns the two sets `set` and `other`.
     pub fn of(set: W, other: W) -> Two<W>
-        ensures { AreCounts (λ i. two_of (has (W.number set) i) (has (W.number other) i)) (W.number result.either) (W.number result.both) }
+        ensures { AreCounts (λ i. two_of (has (W.number set) i) (has (W.number other) i))
+            (W.number result.either) (W.number result.both) }
     {
         Two {
             either: set.union(other),
@@ -37,13 +38,15 @@ impl<W: PlaceSet> Two<W> {
     }
 }
 
-/// Those of some places that are in at least `count` of four sets; `count` is 0 to 4.
+/// Returns those of `places` that are in at least `count`, 0 to 4, of four sets, the two of `first`
+/// and the two of `second`.
 fn in_so_many<W: PlaceSet>(places: W, first: &Two<W>, second: &Two<W>, count: usize) -> W
     ghost counts: { (ℕ → ℕ) × (ℕ → ℕ) }
     requires first { AreCounts counts.0 (W.number first.now.either) (W.number first.now.both) }
     requires second { AreCounts counts.1 (W.number second.now.either) (W.number second.now.both) }
     requires count { count ≤ 4 }
-    ensures { IsMaskOf (λ i. Has (W.number places) i × (count ≤ counts.0 i + counts.1 i)) (W.number result) }
+    ensures { IsMaskOf (λ i. Has (W.number places) i × (count ≤ counts.0 i + counts.1 i))
+        (W.number result) }
 {
     match count {
         0 => places,
@@ -64,8 +67,9 @@ fn in_so_many<W: PlaceSet>(places: W, first: &Two<W>, second: &Two<W>, count: us
     }
 }
 
-/// The first of those places that are in the most of four sets, and in how many it is, if that is `least` or
-/// more.
+/// Counts for each of `places` in how many of four sets it is, the two of `first` and the two of
+/// `second`. Returns the greatest count and the first of `places` that has it; `None` if no count
+/// is at least `least`.
 pub fn first_in_most<W: PlaceSet>(
     places: W,
     first: &Two<W>,
@@ -75,11 +79,16 @@ pub fn first_in_most<W: PlaceSet>(
     ghost counts: { (ℕ → ℕ) × (ℕ → ℕ) }
     requires first { AreCounts counts.0 (W.number first.now.either) (W.number first.now.both) }
     requires second { AreCounts counts.1 (W.number second.now.either) (W.number second.now.both) }
-    ensures none { IfNone result ((i : ℕ) → Has (W.number places) i → counts.0 i + counts.1 i < least) }
-    ensures found { IfSome result (λ found. Has (W.number places) found.1 × (found.0 ≡ counts.0 found.1 + counts.1 found.1) ×
-        (least ≤ found.0)) }
-    ensures most { IfSome result (λ found. (i : ℕ) → Has (W.number places) i → counts.0 i + counts.1 i ≤ found.0) }
-    ensures earliest { IfSome result (λ found. (i : ℕ) → Has (W.number places) i → i < found.1 → counts.0 i + counts.1 i < found.0) }
+    ensures none { IfNone result
+        ((i : ℕ) → Has (W.number places) i → counts.0 i + counts.1 i < least) }
+    ensures found { IfSome result (λ found.
+        Has (W.number places) found.1
+        × (found.0 ≡ counts.0 found.1 + counts.1 found.1)
+        × (least ≤ found.0)) }
+    ensures most { IfSome result (λ found.
+        (i : ℕ) → Has (W.number places) i → counts.0 i + counts.1 i ≤ found.0) }
+    ensures earliest { IfSome result (λ found.
+        (i : ℕ) → Has (W.number places) i → i < found.1 → counts.0 i + counts.1 i < found.0) }
 {
     let mut count = 5;
     while count > least {
@@ -92,19 +101,22 @@ pub fn first_in_most<W: PlaceSet>(
     None
 }
 
-/// The known cells of a line.
+/// Returns the known cells of `line`.
 pub fn known_cells<W: PlaceSet>(line: &LineOf<W>) -> W
     ensures { IsMaskOf (IsKnownCell line.now) (W.number result) }
 {
     complement_within(line.unknown_cells(), line.len())
 }
 
-/// The places of a row of which one neighbour in the row at least is known or outside the grid, and those of
-/// which both are.
+/// Returns the cells of `row` with at least one neighbour in the row that is known or outside the
+/// grid, and those with two.
 fn known_beside<W: PlaceSet>(row: &LineOf<W>) -> Two<W>
-    ensures counts { AreCounts (told_by (W.number result.either) (W.number result.both)) (W.number result.either) (W.number result.both) }
-    ensures beside { (x : ℕ) → x < length row.now → told_by (W.number result.either) (W.number result.both) x ≡ beside_score row.now x }
+    ensures counts { AreCounts (told_by (W.number result.either) (W.number result.both))
+        (W.number result.either) (W.number result.both) }
+    ensures beside { (x : ℕ) → x < length row.now
+        → told_by (W.number result.either) (W.number result.both) x ≡ beside_score row.now x }
 {
+    // The sets may also have the index after the last cell; callers look only at the row's cells.
     let known = known_cells(row);
     let left = known.shifted_up(1).union(W::first());
     let right = known
@@ -113,8 +125,10 @@ fn known_beside<W: PlaceSet>(row: &LineOf<W>) -> Two<W>
     Two::of(left, right)
 }
 
-/// The first of a row's unknown cells of whose neighbours the most are known or outside the grid, and of how
-/// many, if these are `least` or more. Above and below are the cells of which the neighbour there is.
+/// Returns the greatest number of neighbours that are known or outside the grid among the unknown
+/// cells of `row`, and the first cell that has as many; `None` if none has at least `least`.
+/// `above` and `below` are the cells whose neighbour in that direction is known or outside the
+/// grid.
 pub fn most_in_row<W: PlaceSet>(
     row: &LineOf<W>,
     above: W,
@@ -128,8 +142,9 @@ pub fn most_in_row<W: PlaceSet>(
     first_in_most(row.unknown_cells(), &beside, &across, least)
 }
 
-/// Those of a row's unknown cells of whose neighbours at least `least`, 0 to 4, are known or outside the grid.
-/// Above and below are the cells of which the neighbour there is.
+/// Returns the unknown cells of `row` that have at least `least`, 0 to 4, neighbours that are known
+/// or outside the grid. `above` and `below` are the cells whose neighbour in that direction is
+/// known or outside the grid.
 pub fn near_known<W: PlaceSet>(row: &LineOf<W>, above: W, below: W, least: usize) -> W
     requires { least ≤ 4 }
     ensures unknown { (x : ℕ) → Has (W.number result) x → IsUnknownCell row.now x }

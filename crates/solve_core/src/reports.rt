@@ -29,7 +29,7 @@ use line_core::{LineSet, Width};
 use place_sets::Wide;
 use std::alloc::Global;
 
-/// Whether each cell is known, if `known` cells are.
+/// Reports whether the board is full, given that `known` of its cells are known.
 fn are_known<W: LineSet>(board: &Board<W>, known: u32) -> bool
     requires { known ≡ count_by is_known board.now.cells }
     ensures { result ≡ list_all is_known board.now.cells }
@@ -37,8 +37,8 @@ fn are_known<W: LineSet>(board: &Board<W>, known: u32) -> bool
     known as usize == board.lines().count()
 }
 
-/// Closes a board at rest under trials, of which nothing is left to do if it is full. Returns whether it is
-/// alive.
+/// Closes a board at its fixpoint under trials, which has no effect if it is `full`. Returns
+/// whether it is alive.
 fn try_unless_full<W: LineSet>(
     trials: &mut Trials<W>,
     puzzle: &Puzzle,
@@ -49,7 +49,8 @@ fn try_unless_full<W: LineSet>(
     requires room { HasRoomFor puzzle.now trials.old }
     requires size { IsBoardOf puzzle.now board.old }
     requires full { full ≡ list_all is_known board.old.cells }
-    ensures tried { if_alive result board.new.cells ≡ trials_of (lines_of puzzle.now) board.old.cells }
+    ensures tried { if_alive result board.new.cells
+        ≡ trials_of (lines_of puzzle.now) board.old.cells }
     ensures rest { IsTrue result → IsAtRest puzzle.now trials.new.closer board.new.cells }
     ensures size { IsBoardOf puzzle.now board.new }
     ensures same { IsTrue full → board.new.cells ≡ board.old.cells }
@@ -57,6 +58,7 @@ fn try_unless_full<W: LineSet>(
     full || trials.try_at_rest(puzzle, board)
 }
 
+/// Returns the grade of a puzzle, by whether line deduction sufficed, and whether trials did.
 fn grade(by_lines: bool, by_trials: bool) -> Grade
     ensures { result ≡ grade_by by_lines by_trials }
 {
@@ -69,7 +71,8 @@ fn grade(by_lines: bool, by_trials: bool) -> Grade
     }
 }
 
-/// The report, by a board of which nothing is known and in room that is made.
+/// Returns the report on `puzzle`, by a `board` whose cells are all unknown. Allocates nothing: the
+/// capacity of `branches`, which is empty, has to be at least the number of cells.
 fn findings<W: LineSet>(
     trials: &mut Trials<W>,
     puzzle: &Puzzle,
@@ -108,6 +111,7 @@ fn findings<W: LineSet>(
             spent: 0,
         };
     }
+    // If the board was full there were no trials, and the cells needn't be counted again.
     let trial_known = if by_lines {
         line_known
     } else {
@@ -133,7 +137,7 @@ fn findings<W: LineSet>(
     }
 }
 
-/// What a report works in.
+/// The buffers of a report, in sets of one width.
 #[derive(Drop)]
 struct Room<W: LineSet> {
     trials: Trials<W>,
@@ -141,8 +145,9 @@ struct Room<W: LineSet> {
     branches: Vec<Branch>,
 }
 
-/// The report on a puzzle, by sets of a width that has room for its lines and the numbers of its clues, in what
-/// is kept, which it leaves for the next puzzle.
+/// Returns the report on `puzzle`, in sets whose width fits its lines and the numbers of its clues.
+/// Reuses the buffers in `kept`, if any, and leaves its own there for the next puzzle. Fails with
+/// `NoMemory` if an allocation fails; then `kept` is `None`.
 fn report_within<W: LineSet>(
     kept: &mut Option<Room<W>>,
     alloc: Global,
@@ -151,8 +156,10 @@ fn report_within<W: LineSet>(
     pick: Pick,
 ) -> Result<Findings, NoMemory>
     requires { FitsIn W.WIDTH puzzle.now }
-    ensures findings { IfOk result (λ findings. findings ≡ report_of (picked pick puzzle.now.width) puzzle.now guesses) }
-    ensures holds { IfOk result (λ findings. Holds (picked pick puzzle.now.width) puzzle.now guesses findings.verdict) }
+    ensures findings { IfOk result (λ findings.
+        findings ≡ report_of (picked pick puzzle.now.width) puzzle.now guesses) }
+    ensures holds { IfOk result (λ findings.
+        Holds (picked pick puzzle.now.width) puzzle.now guesses findings.verdict) }
     ensures spent { IfOk result (λ findings. findings.spent ≤ guesses) }
 {
     let (trials, board, branches) = match kept.take() {
@@ -188,7 +195,8 @@ fn report_within<W: LineSet>(
     Ok(findings)
 }
 
-/// What reports on puzzles, one after another, in room that it keeps.
+/// A reporter on one puzzle after another. It keeps its buffers for reuse, separate ones for each
+/// set width.
 #[derive(Drop)]
 pub struct Reporter {
     narrow: Option<Room<u64>>,
@@ -197,7 +205,7 @@ pub struct Reporter {
 }
 
 impl Reporter {
-    /// It has no room yet.
+    /// Returns a reporter without buffers. Allocates nothing.
     pub fn new() -> Reporter {
         Reporter {
             narrow: None,
@@ -206,7 +214,8 @@ impl Reporter {
         }
     }
 
-    /// The report on a puzzle, as `report` gives it. The room that it takes is kept for the next one.
+    /// Returns the report on `puzzle`, as the function `report` does. Keeps the buffers for the
+    /// next report. Fails with `NoMemory` if an allocation fails; the reporter can be used again.
     pub fn report(
         &mut self,
         alloc: Global,
@@ -214,8 +223,10 @@ impl Reporter {
         guesses: u32,
         pick: Pick,
     ) -> Result<Findings, NoMemory>
-        ensures findings { IfOk result (λ findings. findings ≡ report_of (picked pick puzzle.now.width) puzzle.now guesses) }
-        ensures holds { IfOk result (λ findings. Holds (picked pick puzzle.now.width) puzzle.now guesses findings.verdict) }
+        ensures findings { IfOk result (λ findings.
+            findings ≡ report_of (picked pick puzzle.now.width) puzzle.now guesses) }
+        ensures holds { IfOk result (λ findings.
+            Holds (picked pick puzzle.now.width) puzzle.now guesses findings.verdict) }
         ensures spent { IfOk result (λ findings. findings.spent ≤ guesses) }
     {
         match width_for(puzzle) {
@@ -226,16 +237,19 @@ impl Reporter {
     }
 }
 
-/// The report on a puzzle: what lines and trials settle, and then a search with at most `guesses` guesses.
-/// All of its room is made before the first line is deduced; `NoMemory` if that is refused.
+/// Returns the report on `puzzle`: what line deduction and trials make known, and the verdict of a
+/// search of at most `guesses` guesses at cells that `pick` chooses. Allocates everything before
+/// the first line is deduced; `NoMemory` if an allocation fails.
 pub fn report(
     alloc: Global,
     puzzle: &Puzzle,
     guesses: u32,
     pick: Pick,
 ) -> Result<Findings, NoMemory>
-    ensures findings { IfOk result (λ findings. findings ≡ report_of (picked pick puzzle.now.width) puzzle.now guesses) }
-    ensures holds { IfOk result (λ findings. Holds (picked pick puzzle.now.width) puzzle.now guesses findings.verdict) }
+    ensures findings { IfOk result (λ findings.
+        findings ≡ report_of (picked pick puzzle.now.width) puzzle.now guesses) }
+    ensures holds { IfOk result (λ findings.
+        Holds (picked pick puzzle.now.width) puzzle.now guesses findings.verdict) }
     ensures spent { IfOk result (λ findings. findings.spent ≤ guesses) }
 {
     Reporter::new().report(alloc, puzzle, guesses, pick)

@@ -1,12 +1,13 @@
-//! Room that is kept from one puzzle to the next.
+//! Buffers that are kept from one puzzle to the next.
 
 ghost use Rattle.std.specs.Prelude.{◌≡◌, ◌≤◌, [], vec_capacity, IfOk};
 
 use grid_core::NoMemory;
 use std::alloc::Global;
 
-/// An empty list with room for `count` elements: a kept one, or else a new one, since to grow a list copies
-/// what nobody reads.
+/// Returns an empty list with a capacity of at least `count`: `kept`, cleared, if its capacity
+/// suffices, and otherwise a new one, since growing `kept` would copy elements that are no longer
+/// needed. Fails with `NoMemory` if an allocation fails.
 pub fn emptied<T: Drop>(alloc: Global, kept: Vec<T>, count: usize) -> Result<Vec<T>, NoMemory>
     ensures empty { IfOk result (λ list. list.items ≡ []) }
     ensures room { IfOk result (λ list. count ≤ vec_capacity list) }

@@ -1,4 +1,4 @@
-//! The search for solutions, in one grid.
+//! The search for solutions, on a single board.
 ghost use Rattle.std.specs.Prelude.{◌≡◌, ℕ, ◌*◌, ◌<◌, ◌≤◌, ◌++◌, [], List, length, slice_set, vec_capacity, true};
 ghost use Rattle.grid_core.specs.Cells.{is_known};
 ghost use Rattle.grid_core.specs.Nonogram.{Nonogram, lines_of};
@@ -22,14 +22,15 @@ use crate::solutions::Solutions;
 use grid_core::{Cell, Puzzle};
 use line_core::LineSet;
 
-/// How a search ended: whether the limit on guesses cut it short, and how many it spent.
+/// How a search ended: whether the limit on guesses cut it short, and how many guesses it spent.
 #[derive(Clone, Copy, Debug)]
 pub struct SearchEnd {
     pub cut: bool,
     pub spent: u32,
 }
 
-/// The place of the next guess, by the rule. By the first unknown cell no cell before `start` is unknown.
+/// Returns the index of the cell to guess next by the rule `pick`; `None` if the board is full.
+/// With `Pick::First` no cell before `start` may be unknown.
 #[tactic(auto, using(crate::proofs::SearchSteps::first_from))]
 fn next_place<W: LineSet>(board: &Board<W>, start: usize, pick: Pick) -> Option<usize>
     requires start { start ≤ length board.now.cells }
@@ -42,8 +43,8 @@ fn next_place<W: LineSet>(board: &Board<W>, start: usize, pick: Pick) -> Option<
     }
 }
 
-/// Looks at a closed board: the place of the next guess, or none, and then it is a solution, which is kept.
-/// By the first unknown cell no cell before `start` is unknown.
+/// Returns the index of the cell to guess next on a closed board. If there is none, the board is a
+/// solution, and is added to `solutions`. With `Pick::First` no cell before `start` may be unknown.
 fn look_at<W: LineSet>(
     board: &Board<W>,
     start: usize,
@@ -55,9 +56,12 @@ fn look_at<W: LineSet>(
     requires width { board.now.width ≡ solutions.old.width }
     requires height { board.now.height ≡ solutions.old.height }
     requires room { length solutions.old.grids < 2 }
-    ensures ending { (p : Nonogram) → IsSizeOf p solutions.old.width solutions.old.height → (spent left : ℕ) (rest : List Event) →
-        ending p solutions.new.grids spent left (open_events (picked pick board.now.width) (lines_of p) board.now.cells result rest)
-        ≡ ending p solutions.old.grids spent left (guess_at (events (picked pick board.now.width) (lines_of p)) board.now.cells
+    ensures ending { (p : Nonogram) → IsSizeOf p solutions.old.width solutions.old.height →
+        (spent left : ℕ) (rest : List Event) →
+        ending p solutions.new.grids spent left
+        (open_events (picked pick board.now.width) (lines_of p) board.now.cells result rest)
+        ≡ ending p solutions.old.grids spent left
+        (guess_at (events (picked pick board.now.width) (lines_of p)) board.now.cells
         (picked pick board.now.width board.now.cells) ++ rest) }
     ensures fewer { (p : Nonogram) (rest : List Event) →
         length (open_events (picked pick board.now.width) (lines_of p) board.now.cells result rest)
@@ -78,7 +82,8 @@ fn look_at<W: LineSet>(
     }
 }
 
-/// Makes a guess and looks at what comes of it.
+/// Guesses `colour` at the cell with index `place`, and propagates. Returns the index of the cell
+/// to guess next; `None` if the board is dead, or a solution, which is added to `solutions`.
 fn explore<W: LineSet>(
     closer: &mut Closer<W>,
     puzzle: &Puzzle,
@@ -91,28 +96,34 @@ fn explore<W: LineSet>(
     requires size { IsSizeOf puzzle.now solutions.old.width solutions.old.height }
     requires board { IsBoardOf puzzle.now board.old }
     requires rest { IsAtRest puzzle.now closer.old board.old.cells }
-    requires next { IsNext (picked pick puzzle.now.width) (lines_of puzzle.now) board.old.cells place }
+    requires next { IsNext (picked pick puzzle.now.width) (lines_of puzzle.now)
+        board.old.cells place }
     requires colour { is_known colour ≡ true }
     requires found { length solutions.old.grids < 2 }
     ensures goes_on { (branches : List BranchValue) →
-        IsWork (picked pick puzzle.now.width) (lines_of puzzle.now) board.old.cells board.old.trail branches →
+        IsWork (picked pick puzzle.now.width) (lines_of puzzle.now)
+        board.old.cells board.old.trail branches →
         GoesOn (picked pick puzzle.now.width) puzzle.now
-        (events (picked pick puzzle.now.width) (lines_of puzzle.now) (slice_set board.old.cells place colour)) branches
-        board.old solutions.old.grids board.new solutions.new.grids result }
+        (events (picked pick puzzle.now.width) (lines_of puzzle.now)
+        (slice_set board.old.cells place colour))
+        branches board.old solutions.old.grids board.new solutions.new.grids result }
     ensures idle { IsIdle puzzle.now closer.new }
     ensures board { IsBoardOf puzzle.now board.new }
     ensures found { length solutions.new.grids ≤ 2 }
     ensures size { IsSizeOf puzzle.now solutions.new.width solutions.new.height }
 {
+    // The board may have been undone since, so no lookahead table is known to be valid.
     closer.forget_fresh();
     if !closer.guess(puzzle, board, place, colour) {
         return None;
     }
+    // With `Pick::First` all cells before the guessed one are known.
     look_at(board, place, pick, solutions)
 }
 
-/// Searches from a board at rest, in place: it remembers what is settled, and each filled guess stands on the
-/// branches until its cell is guessed blank.
+/// Searches for solutions from a board at its fixpoint, until two are found, no guess is left, or a
+/// guess is left but `guesses` of them are spent. Works on the board itself, which is undone by its
+/// trail; each filled guess stays on `branches` until its cell is guessed blank.
 pub fn search<W: LineSet>(
     closer: &mut Closer<W>,
     puzzle: &Puzzle,
@@ -135,6 +146,7 @@ pub fn search<W: LineSet>(
     let mut spent: u32 = 0;
     let mut next = look_at(board, 0, pick, solutions);
     while solutions.len() < 2 {
+        // The limit is checked after this, since it cuts the search short only if a guess is left.
         let Some((place, colour)) = take_guess(board, branches, next) else {
             return SearchEnd { cut: false, spent };
         };

@@ -1,4 +1,4 @@
-//! The tables of the lines of one side of a puzzle.
+//! The lookahead tables of the lines of one axis of a puzzle.
 
 ghost use Rattle.std.specs.Prelude.{◌≡◌, ◌↔◌, ◌≢◌, ◌<◌, ◌≤◌, ℕ, Bool, None, length, replicate, slice_index_or, All, IfOk, IfSome, IsTrue};
 ghost use Rattle.place_sets.specs.Masks.{Has, has, IsMarked, IsMaskOf};
@@ -13,7 +13,8 @@ use place_sets::PlaceSet;
 use std::alloc::Global;
 use std::marker::Model;
 
-/// At least `count` tables, of those that there are and others.
+/// Appends empty tables to `tables` until there are at least `count`. Fails with `NoMemory` if an
+/// allocation fails.
 #[tactic(auto, using(crate::proofs::TableSteps::one_more_empty))]
 fn with_tables<W: LineSet>(
     alloc: Global,
@@ -30,7 +31,7 @@ fn with_tables<W: LineSet>(
     Ok(tables)
 }
 
-/// Takes the lines of tables away.
+/// Clears each of `tables`.
 fn forget_all<W: LineSet>(tables: &mut [PairTable<W>])
     ensures { AreEmpty tables.new }
 {
@@ -39,13 +40,14 @@ fn forget_all<W: LineSet>(tables: &mut [PairTable<W>])
     }
 }
 
-/// Marks line k at each line that crosses it, in the colours in which its table has the cell there among its neutral
-/// ones.
+/// Adds line `k` to the sets of each line that crosses it, for the colours that are inert at the
+/// crossing by `table`, the table of line `k`; removes it from the sets of the other colours.
 fn mark_neutral<W: LineSet>(neutral: &mut [ColourSets<W>], k: u16, table: &PairTable<W>)
     requires k { k < W.WIDTH }
     requires few { length neutral.old ≤ W.WIDTH }
     ensures { (j : ℕ) (filled : Bool) → j < length neutral.old →
-        IsMaskOf (IsMarked (Has (mask_if filled (slice_index_or neutral.old j no_colours))) k (has (neutral_if filled table.now) j))
+        IsMaskOf (IsMarked (Has (mask_if filled (slice_index_or neutral.old j no_colours))) k
+        (has (neutral_if filled table.now) j))
         (mask_if filled (slice_index_or neutral.new j no_colours)) }
 {
     let (filled, blank) = (table.neutral_cells(true), table.neutral_cells(false));
@@ -55,11 +57,12 @@ fn mark_neutral<W: LineSet>(neutral: &mut [ColourSets<W>], k: u16, table: &PairT
     }
 }
 
-/// A table for each line of a side.
+/// A lookahead table for each line of an axis.
 #[derive(Drop)]
 pub struct SideTables<W: LineSet> {
     tables: Vec<PairTable<W>>,
-    /// For each line that crosses them, those that have its cell among their neutral ones.
+    /// For each line that crosses them and each colour, the lines on which the colour is inert at
+    /// the crossing. Lines whose table is empty may be among them.
     neutral: Vec<ColourSets<W>>,
 }
 
@@ -76,7 +79,7 @@ impl<W: LineSet> Model for SideTables<W> {
 }
 
 impl<W: LineSet> SideTables<W> {
-    /// Without a table.
+    /// Returns an instance without tables.
     #[tactic(auto, using(crate::proofs::TableSteps::none_empty, crate::proofs::TableSteps::empty_sets))]
     pub fn none(alloc: Global) -> SideTables<W>
         ensures { AreEmpty result }
@@ -87,7 +90,8 @@ impl<W: LineSet> SideTables<W> {
         }
     }
 
-    /// At least `count` tables, for lines that `across` lines cross: those that there are, and others.
+    /// Returns at least `count` empty tables, for lines that `across` lines cross: those of `self`,
+    /// and new ones as needed. Fails with `NoMemory` if an allocation fails.
     #[tactic(auto, using(crate::proofs::TableSteps::empty_sets))]
     pub fn with_room(
         self,
@@ -106,29 +110,34 @@ impl<W: LineSet> SideTables<W> {
         })
     }
 
-    /// Takes the lines of all tables away.
+    /// Clears all tables.
     pub fn forget(&mut self)
         ensures { AreEmpty self.new }
     {
         forget_all(&mut self.tables);
     }
 
-    /// The table of line i, if there is one.
+    /// Returns the table of line `i`, if there is one.
     pub fn table(&self, i: u16) -> Option<&PairTable<W>>
         ensures { IfSome result (λ table. table.now ≡ slice_index_or self.now i no_table) }
     {
         self.tables.get(usize::from(i))
     }
 
-    /// The lines whose tables have the cell of a line that crosses them among their neutral ones, for each colour.
+    /// Returns, for each colour, the lines on which it is inert at their crossing with line `i` of
+    /// the other axis, by their tables; `None` if there are no sets for that line. Lines whose
+    /// table is empty may be among them.
     pub fn neutral_at(&self, i: u16) -> Option<&ColourSets<W>>
-        ensures { IfSome result (λ sets. (k : ℕ) (filled : Bool) → (slice_index_or self.now k no_table).line ≢ None
-            → Has (mask_if filled sets.now) k → Has (neutral_if filled (slice_index_or self.now k no_table)) i) }
+        ensures { IfSome result (λ sets.
+            (k : ℕ) (filled : Bool) → (slice_index_or self.now k no_table).line ≢ None
+            → Has (mask_if filled sets.now) k
+            → Has (neutral_if filled (slice_index_or self.now k no_table)) i) }
     {
         self.neutral.get(usize::from(i))
     }
 
-    /// Makes the table of line i, given its clue, if there is room for one. Returns whether there is.
+    /// Builds the table of line `i` with the clue `clue` for the cells of `line`, unless it is
+    /// there already or has no buffer. Returns whether it is there now.
     pub fn write(
         &mut self,
         i: u16,
@@ -141,7 +150,8 @@ impl<W: LineSet> SideTables<W> {
         requires clue { All (λ number. number ≤ W.WIDTH) clue.now }
         requires table { IsTableOf clue.now (slice_index_or self.old i no_table) }
         ensures table { IsTableOf clue.now (slice_index_or self.new i no_table) }
-        ensures others { (k : ℕ) → k ≢ i → slice_index_or self.new k no_table ≡ slice_index_or self.old k no_table }
+        ensures others { (k : ℕ) → k ≢ i
+            → slice_index_or self.new k no_table ≡ slice_index_or self.old k no_table }
         ensures line { IsTrue result ↔ ((slice_index_or self.new i no_table).line ≡ Some line.now) }
     {
         let place = usize::from(i);

@@ -1,4 +1,4 @@
-//! The solutions that a search keeps.
+//! The solutions that a search finds.
 ghost use Rattle.std.specs.Prelude.{◌≡◌, ◌<◌, ◌≤◌, ◌++◌, [], ◌∷◌, length, IfOk};
 ghost use Rattle.grid_core.specs.PartialGrid.{IsSize};
 ghost use Rattle.solve_core.specs.steps.FoundGrids.{FoundGrids};
@@ -11,7 +11,7 @@ use line_core::LineSet;
 use std::alloc::Global;
 use std::marker::Model;
 
-/// The solutions that a search found, two at most, in grids that were made before it.
+/// The solutions that a search found, at most two, in grids that are allocated before it.
 #[derive(Drop)]
 pub struct Solutions {
     first: Grid,
@@ -25,16 +25,25 @@ impl Model for Solutions {
 
     ghost Value = { FoundGrids };
 
-    ghost view = { λ s. record { width = s.first.width; height = s.first.height; grids = take s.count (s.first ∷ s.second ∷ []) } };
+    ghost view = { λ s. record {
+      width = s.first.width;
+      height = s.first.height;
+      grids = take s.count (s.first ∷ s.second ∷ []);
+    } };
 
-    ghost invariant = { λ s. (s.count ≤ 2) × (s.second.width ≡ s.first.width) × (s.second.height ≡ s.first.height) };
+    ghost invariant = { λ s.
+        (s.count ≤ 2)
+        × (s.second.width ≡ s.first.width)
+        × (s.second.height ≡ s.first.height) };
 }
 
 impl Solutions {
-    /// No solution, and room for two.
+    /// Returns an empty list, and allocates two grids of `width` columns and `height` rows for
+    /// solutions. Fails with `NoMemory` if an allocation fails.
     pub fn new(alloc: Global, width: u16, height: u16) -> Result<Solutions, NoMemory>
         requires { IsSize width height }
-        ensures { IfOk result (λ solutions. solutions ≡ record { width = width; height = height; grids = [] }) }
+        ensures { IfOk result (λ solutions.
+            solutions ≡ record { width = width; height = height; grids = [] }) }
     {
         Ok(Solutions {
             first: Grid::unknown(alloc, width, height)?,
@@ -43,7 +52,7 @@ impl Solutions {
         })
     }
 
-    /// How many there are.
+    /// Returns how many solutions there are, at most 2.
     pub fn len(&self) -> usize
         ensures len { result ≡ length self.now.grids }
         ensures within { length self.now.grids ≤ 2 }
@@ -51,14 +60,18 @@ impl Solutions {
         self.count
     }
 
-    /// Keeps one more.
+    /// Appends the grid `lines`. There have to be fewer than two solutions.
     pub fn keep<W: LineSet>(&mut self, lines: &GridLines<W>)
         requires room { length self.old.grids < 2 }
         requires width { lines.now.width ≡ self.old.width }
         requires height { lines.now.height ≡ self.old.height }
         ensures { self.new ≡ record self.old {
           grids = self.old.grids ++
-              (record { width = self.old.width; height = self.old.height; cells = lines.now.cells } ∷ []);
+              (record {
+                width = self.old.width;
+                height = self.old.height;
+                cells = lines.now.cells;
+              } ∷ []);
         } }
     {
         if self.count == 0 {
@@ -69,7 +82,7 @@ impl Solutions {
         self.count += 1;
     }
 
-    /// The verdict of a search that the limit on guesses cut short or didn't.
+    /// Returns the verdict of the search, where `cut` is whether the limit on guesses cut it short.
     pub fn verdict(self, cut: bool) -> Verdict
         ensures { result ≡ verdict_by self.grids cut }
     {

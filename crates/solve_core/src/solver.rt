@@ -1,4 +1,4 @@
-//! A puzzle with the room for closing its grids.
+//! A puzzle with the buffers for closing its grids.
 ghost use Rattle.std.specs.Prelude.{◌≡◌, IfOk};
 ghost use Rattle.grid_core.specs.Nonogram.{lines_of};
 ghost use Rattle.solve_core.specs.Closure.{closure};
@@ -14,7 +14,7 @@ use place_sets::Wide;
 use std::alloc::Global;
 use std::marker::Model;
 
-/// A workspace in the narrowest sets that have room for its puzzle.
+/// A workspace in the narrowest sets that fit its puzzle.
 #[derive(Drop)]
 pub enum Fitting<'p> {
     Narrow(Workspace<'p, u64>),
@@ -22,12 +22,13 @@ pub enum Fitting<'p> {
     Wide(Workspace<'p, Wide>),
 }
 
-/// A puzzle with the room for closing its grids.
+/// A puzzle with the buffers for closing its grids under line deduction or trials.
 pub struct Solver<'p> {
     workspace: Fitting<'p>,
 }
 
-/// A call of its own, so that a proof takes it as one step, whichever width there is.
+/// Written by hand so that callers' proofs see one call: a derived drop is expanded at each exit of
+/// each caller, for each of the set widths.
 impl Drop for Solver<'_> {
     fn drop(self) {
         let Solver { workspace: _ } = self;
@@ -44,7 +45,7 @@ impl<'p> Model for Solver<'p> {
 }
 
 impl<'p> Solver<'p> {
-    /// Makes all the room that closing takes.
+    /// Allocates all buffers that closing takes. Fails with `NoMemory` if an allocation fails.
     pub fn new(alloc: Global, puzzle: &'p Puzzle) -> Result<Solver<'p>, NoMemory>
         ensures { IfOk result (λ solver. solver ≡ puzzle.now) }
     {
@@ -56,10 +57,13 @@ impl<'p> Solver<'p> {
         Ok(Solver { workspace })
     }
 
-    /// Closes a grid under line deduction. Returns whether it is alive; a dead grid's cells are open.
+    /// Closes `grid`, which has the puzzle's size, under line deduction. Returns whether it is
+    /// alive; the cells of a dead grid are unspecified. Allocates nothing.
+    #[must_use]
     pub fn close_lines(&mut self, grid: &mut Grid) -> bool
         requires size { HasSizeOf self.old grid.old }
-        ensures closed { if_alive result grid.new.cells ≡ closure (lines_of self.old) grid.old.cells }
+        ensures closed { if_alive result grid.new.cells
+            ≡ closure (lines_of self.old) grid.old.cells }
         ensures size { HasSizeOf self.old grid.new }
         ensures puzzle { self.new ≡ self.old }
     {
@@ -70,7 +74,9 @@ impl<'p> Solver<'p> {
         }
     }
 
-    /// Closes a grid under trials. Returns whether it is alive; a dead grid's cells are open.
+    /// Closes `grid`, which has the puzzle's size, under trials. Returns whether it is alive; the
+    /// cells of a dead grid are unspecified. Allocates nothing.
+    #[must_use]
     pub fn close_trials(&mut self, grid: &mut Grid) -> bool
         requires size { HasSizeOf self.old grid.old }
         ensures tried { if_alive result grid.new.cells ≡ trials (lines_of self.old) grid.old.cells }

@@ -1,4 +1,4 @@
-//! Steps of a trail.
+//! The entries of a trail.
 ghost use Rattle.std.specs.Prelude.{◌<◌, ℕ};
 ghost use Rattle.place_sets.specs.Masks.{Has};
 ghost use Rattle.solve_core.specs.steps.Trails.{IsStepOf};
@@ -7,7 +7,8 @@ use grid_core::Side;
 use line_core::LineSet;
 use std::marker::Model;
 
-/// What a line learned: its side, its number, and the places of its cells that changed.
+/// A trail entry: a line that was assigned to, by its axis and its number, and its cells that
+/// changed.
 #[derive(Drop)]
 pub struct Step<W: LineSet> {
     pub side: Side,
@@ -27,9 +28,11 @@ impl<W: LineSet> Model for Step<W> {
 }
 
 impl<W: LineSet> Step<W> {
-    /// The rows that it touches: its own line, or those that cross it where it changed.
+    /// Returns the rows in which cells changed: the line itself, or the rows that cross it at its
+    /// changes.
     pub fn rows(&self) -> W
-        ensures { (width height y : ℕ) → IsStepOf width height self.now → Has (W.number result) y → y < height }
+        ensures { (width height y : ℕ) → IsStepOf width height self.now → Has (W.number result) y
+            → y < height }
     {
         match self.side {
             Side::Rows => W::empty().marked(self.line, true),

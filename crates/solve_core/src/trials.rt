@@ -1,4 +1,4 @@
-//! Trials, one cell and one colour at a time.
+//! Trials of single cells, in one colour at a time.
 ghost use Rattle.std.specs.Prelude.{◌≡◌, ◌≢◌, ℕ, ◌+◌, ◌*◌, ◌<◌, ◌≤◌, Some, length, slice_set, slice_index_or, IsTrue, IfOk};
 ghost use Rattle.grid_core.specs.declared.cells.Cell.TheVariants.{Unknown};
 ghost use Rattle.grid_core.specs.Nonogram.{lines_of};
@@ -20,13 +20,15 @@ use line_core::LineSet;
 use std::alloc::Global;
 use std::marker::Model;
 
-/// What trials of a puzzle's grids work with, in room that is made once: what closes, and the openings.
+/// The state of trials: that of propagation, and the colours that are known to be consistent, in
+/// buffers that are allocated once.
 pub struct Trials<W: LineSet> {
     pub(crate) closer: Closer<W>,
     openings: Openings<W>,
 }
 
-/// A call of its own, so that a proof takes it as one step.
+/// Written by hand so that callers' proofs see one call: a derived drop is expanded at each exit of
+/// each caller.
 impl<W: LineSet> Drop for Trials<W> {
     fn drop(self) {
         let Trials {
@@ -45,13 +47,14 @@ impl<W: LineSet> Model for Trials<W> {
 }
 
 impl<W: LineSet> Trials<W> {
-    /// Its parts.
+    /// Returns the state of propagation and the consistent colours.
     fn into_parts(self) -> (Closer<W>, Openings<W>) {
         let Trials { closer, openings } = self;
         (closer, openings)
     }
 
-    /// Makes the room that closing and trials of a puzzle take, of that of others, if there are any.
+    /// Allocates the buffers that propagation and trials need for `puzzle`, reusing those of
+    /// `others` if given. Fails with `NoMemory` if an allocation fails.
     pub fn new(
         alloc: Global,
         others: Option<Trials<W>>,
@@ -73,7 +76,8 @@ impl<W: LineSet> Trials<W> {
         })
     }
 
-    /// Gives a cell the colour that is left, and closes the board.
+    /// Assigns `colour` to a cell whose other colour is refuted, and propagates. Clears the record
+    /// of consistent colours.
     fn keep_colour(
         &mut self,
         puzzle: &Puzzle,
@@ -85,8 +89,10 @@ impl<W: LineSet> Trials<W> {
         requires room { HasRoomFor puzzle.now self.old }
         requires size { IsBoardOf puzzle.now board.old }
         requires cell { CanSettle board.old.cells place colour }
-        requires below { AtMost (Some (slice_set board.old.cells place colour)) (trials (lines_of puzzle.now) board.old.cells) }
-        ensures progress { Progresses (trials (lines_of puzzle.now)) result board.old.cells board.new.cells }
+        requires below { AtMost (Some (slice_set board.old.cells place colour))
+            (trials (lines_of puzzle.now) board.old.cells) }
+        ensures progress { Progresses (trials (lines_of puzzle.now)) result
+            board.old.cells board.new.cells }
         ensures changed { result ≢ Same }
         ensures ready { result ≢ Dead → IsReady puzzle.now self.new board.new.cells }
         ensures size { IsBoardOf puzzle.now board.new }
@@ -95,12 +101,14 @@ impl<W: LineSet> Trials<W> {
         if !self.closer.assign(puzzle, board, place, colour) {
             return Progress::Dead;
         }
+        // Colours that were consistent may be refuted now that more cells are known.
         self.openings.forget();
         Progress::Changed
     }
 
-    /// Whether a colour is refuted at an unknown cell. It is tried on the board itself, which then goes back; if
-    /// the board stays alive, the colours of all cells known there are open.
+    /// Runs a trial on the board itself, and undoes it. Returns whether `colour` is refuted at the
+    /// unknown cell with index `place`. If it isn't, records all colours that the trial assigned as
+    /// consistent.
     fn is_refuted_by_trial(
         &mut self,
         puzzle: &Puzzle,
@@ -126,8 +134,9 @@ impl<W: LineSet> Trials<W> {
         !alive
     }
 
-    /// Notes as open the colours for which cells of row y are neutral, as the tables of the row and of columns show,
-    /// that of column x among them.
+    /// Records as consistent the colours that are inert at cells of row `y`, as far as valid
+    /// lookahead tables of the row and of columns show. Builds the tables of row `y` and column `x`
+    /// if they are missing and 16 trials in succession have ended alive.
     fn open_neutral(&mut self, puzzle: &Puzzle, board: &Board<W>, x: u16, y: u16)
         requires ready { IsReady puzzle.now self.old board.now.cells }
         requires room { HasRoomFor puzzle.now self.old }
@@ -141,8 +150,9 @@ impl<W: LineSet> Trials<W> {
         self.openings.open_row(usize::from(y), &neutral);
     }
 
-    /// Whether a colour is refuted at an unknown cell, without a trial if it is known to be open, or tables show
-    /// that nothing else is certain with it.
+    /// Reports whether `colour` is refuted at the unknown cell with index `place`. Runs no trial if
+    /// the colour is recorded as consistent, or if lookahead tables show that it is inert on the
+    /// cell's row and column.
     fn is_refuted(
         &mut self,
         puzzle: &Puzzle,
@@ -171,14 +181,16 @@ impl<W: LineSet> Trials<W> {
         self.is_refuted_by_trial(puzzle, board, place, colour)
     }
 
-    /// Tries both colours at an unknown cell.
+    /// Tries both colours at an unknown cell. If one is refuted, assigns the other one and
+    /// propagates.
     fn try_place(&mut self, puzzle: &Puzzle, board: &mut Board<W>, place: usize) -> Progress
         requires ready { IsReady puzzle.now self.old board.old.cells }
         requires room { HasRoomFor puzzle.now self.old }
         requires size { IsBoardOf puzzle.now board.old }
         requires place { place < length board.old.cells }
         requires unknown { slice_index_or board.old.cells place Unknown ≡ Unknown }
-        ensures progress { Progresses (trials (lines_of puzzle.now)) result board.old.cells board.new.cells }
+        ensures progress { Progresses (trials (lines_of puzzle.now)) result
+            board.old.cells board.new.cells }
         ensures ready { result ≢ Dead → IsReady puzzle.now self.new board.new.cells }
         ensures tried { result ≡ Same → IsTried (lines_of puzzle.now) board.new.cells place }
         ensures size { IsBoardOf puzzle.now board.new }
@@ -193,13 +205,15 @@ impl<W: LineSet> Trials<W> {
         Progress::Same
     }
 
-    /// Tries once each unknown cell of whose neighbours at least `least`, 0 to 4, are known or outside the grid.
+    /// Tries once, in row order, each unknown cell that has at least `least`, 0 to 4, neighbours
+    /// that are known or outside the grid, unless both of its colours are recorded as consistent.
     fn try_each(&mut self, puzzle: &Puzzle, board: &mut Board<W>, least: usize) -> Progress
         requires least { least ≤ 4 }
         requires ready { IsReady puzzle.now self.old board.old.cells }
         requires room { HasRoomFor puzzle.now self.old }
         requires size { IsBoardOf puzzle.now board.old }
-        ensures progress { Progresses (trials (lines_of puzzle.now)) result board.old.cells board.new.cells }
+        ensures progress { Progresses (trials (lines_of puzzle.now)) result
+            board.old.cells board.new.cells }
         ensures ready { result ≢ Dead → IsReady puzzle.now self.new board.new.cells }
         ensures tried { least ≡ 0 → result ≡ Same →
             (k : ℕ) → k < length board.new.cells → IsTried (lines_of puzzle.now) board.new.cells k }
@@ -219,14 +233,15 @@ impl<W: LineSet> Trials<W> {
         progress
     }
 
-    /// Tries cells until a pass over all of them changes nothing: first, until that changes nothing, those with
-    /// three known neighbours, then those with two and one too, since there most colours are refuted. Returns
-    /// whether the board is alive.
+    /// Runs trials until a pass over all unknown cells changes nothing. Returns whether the board
+    /// is alive. Each pass tries the cells with at least 3 known neighbours, since most refuted
+    /// colours are found there; a pass that changes nothing lowers that number by 1, down to 0.
     fn try_until_same(&mut self, puzzle: &Puzzle, board: &mut Board<W>) -> bool
         requires ready { IsReady puzzle.now self.old board.old.cells }
         requires room { HasRoomFor puzzle.now self.old }
         requires size { IsBoardOf puzzle.now board.old }
-        ensures tried { if_alive result board.new.cells ≡ trials (lines_of puzzle.now) board.old.cells }
+        ensures tried { if_alive result board.new.cells
+            ≡ trials (lines_of puzzle.now) board.old.cells }
         ensures rest { IsTrue result → IsAtRest puzzle.now self.new.closer board.new.cells }
         ensures size { IsBoardOf puzzle.now board.new }
         ensures room { HasRoomFor puzzle.now self.new }
@@ -246,16 +261,18 @@ impl<W: LineSet> Trials<W> {
         }
     }
 
-    /// Closes a board at rest under trials. Returns whether it is alive.
+    /// Closes a board at its fixpoint under trials. Returns whether it is alive.
     pub fn try_at_rest(&mut self, puzzle: &Puzzle, board: &mut Board<W>) -> bool
         requires rest { IsAtRest puzzle.now self.old.closer board.old.cells }
         requires room { HasRoomFor puzzle.now self.old }
         requires size { IsBoardOf puzzle.now board.old }
-        ensures tried { if_alive result board.new.cells ≡ trials (lines_of puzzle.now) board.old.cells }
+        ensures tried { if_alive result board.new.cells
+            ≡ trials (lines_of puzzle.now) board.old.cells }
         ensures rest { IsTrue result → IsAtRest puzzle.now self.new.closer board.new.cells }
         ensures size { IsBoardOf puzzle.now board.new }
         ensures room { HasRoomFor puzzle.now self.new }
     {
+        // What is recorded as consistent or valid may be of other cells.
         self.openings.forget();
         self.closer.forget_fresh();
         let alive = self.try_until_same(puzzle, board);
@@ -263,11 +280,12 @@ impl<W: LineSet> Trials<W> {
         alive
     }
 
-    /// Closes a board under trials. Returns whether it is alive.
+    /// Closes a board under line deduction and then under trials. Returns whether it is alive.
     pub fn try_board(&mut self, puzzle: &Puzzle, board: &mut Board<W>) -> bool
         requires room { HasRoomFor puzzle.now self.old }
         requires size { IsBoardOf puzzle.now board.old }
-        ensures tried { if_alive result board.new.cells ≡ trials (lines_of puzzle.now) board.old.cells }
+        ensures tried { if_alive result board.new.cells
+            ≡ trials (lines_of puzzle.now) board.old.cells }
         ensures rest { IsTrue result → IsAtRest puzzle.now self.new.closer board.new.cells }
         ensures size { IsBoardOf puzzle.now board.new }
         ensures room { HasRoomFor puzzle.now self.new }

@@ -1,14 +1,15 @@
-//! The words of a set: 64 places each.
+//! The words of a bit set, of 64 indices each.
 ghost use Rattle.std.specs.Prelude.{◌≡◌, ℕ, ◌+◌, ◌<◌, false};
 ghost use Rattle.place_sets.specs.Masks.{Has, IsMarked, IsMaskOf};
 
 use line_core::LineSet;
 use place_sets::PlaceSet;
 
-/// How many places a word has.
+/// How many indices a word has.
 pub const WORD: u16 = 64;
 
-/// The 64 places of a set from a place on.
+/// Returns those of the 64 indices from `from` on that are in `set`, as a word in which they count
+/// from 0.
 pub fn word_from<W: LineSet>(set: W, from: u16) -> u64
     requires { from < W.WIDTH }
     ensures { IsMaskOf (λ i. (i < 64) × Has (W.number set) (i + from)) result }
@@ -16,11 +17,13 @@ pub fn word_from<W: LineSet>(set: W, from: u16) -> u64
     u64::narrowed(set.shifted_down(from).widened())
 }
 
-/// A word without its first place.
+/// Returns `word`, which isn't empty, without its first index.
 pub fn without_first(word: u64) -> u64
     requires { 0 < word }
     ensures less { result < word }
-    ensures rest { (k : ℕ) → Has word k → ((i : ℕ) → i < k → Has word i → ⊥) → IsMaskOf (IsMarked (Has word) k false) result }
+    ensures rest { (k : ℕ) → Has word k → ((i : ℕ) → i < k → Has word i → ⊥)
+        → IsMaskOf (IsMarked (Has word) k false) result }
 {
+    // Clears the lowest bit in one step, without looking for it.
     word & (word - 1)
 }

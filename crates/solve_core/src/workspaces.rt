@@ -1,4 +1,4 @@
-//! A puzzle with the room for closing its grids, in sets of one width.
+//! A puzzle with the buffers for closing its grids, in sets of one width.
 ghost use Rattle.std.specs.Prelude.{◌≡◌, IfOk};
 ghost use Rattle.grid_core.specs.Nonogram.{lines_of};
 ghost use Rattle.solve_core.specs.Closure.{closure};
@@ -14,8 +14,8 @@ use line_core::LineSet;
 use std::alloc::Global;
 use std::marker::Model;
 
-/// A puzzle with the room for closing its grids, in sets that have room for its lines and the numbers of its
-/// clues.
+/// A puzzle with the buffers for closing its grids, in sets that fit its lines and the numbers of
+/// its clues.
 #[derive(Drop)]
 pub struct Workspace<'p, W: LineSet> {
     puzzle: &'p Puzzle,
@@ -36,7 +36,7 @@ impl<'p, W: LineSet> Model for Workspace<'p, W> {
 }
 
 impl<'p, W: LineSet> Workspace<'p, W> {
-    /// Makes all the room that closing takes.
+    /// Allocates all buffers that closing takes. Fails with `NoMemory` if an allocation fails.
     pub fn new(alloc: Global, puzzle: &'p Puzzle) -> Result<Workspace<'p, W>, NoMemory>
         requires { FitsIn W.WIDTH puzzle.now }
         ensures { IfOk result (λ workspace. workspace ≡ puzzle.now) }
@@ -51,10 +51,12 @@ impl<'p, W: LineSet> Workspace<'p, W> {
         })
     }
 
-    /// Closes a grid under line deduction. Returns whether it is alive; a dead grid's cells are open.
+    /// Closes `grid`, which has the puzzle's size, under line deduction. Returns whether it is
+    /// alive; the cells of a dead grid are unspecified.
     pub fn close_lines(&mut self, grid: &mut Grid) -> bool
         requires size { HasSizeOf self.old grid.old }
-        ensures closed { if_alive result grid.new.cells ≡ closure (lines_of self.old) grid.old.cells }
+        ensures closed { if_alive result grid.new.cells
+            ≡ closure (lines_of self.old) grid.old.cells }
         ensures size { HasSizeOf self.old grid.new }
         ensures puzzle { self.new ≡ self.old }
     {
@@ -65,7 +67,8 @@ impl<'p, W: LineSet> Workspace<'p, W> {
         alive
     }
 
-    /// Closes a grid under trials. Returns whether it is alive; a dead grid's cells are open.
+    /// Closes `grid`, which has the puzzle's size, under trials. Returns whether it is alive; the
+    /// cells of a dead grid are unspecified.
     pub fn close_trials(&mut self, grid: &mut Grid) -> bool
         requires size { HasSizeOf self.old grid.old }
         ensures tried { if_alive result grid.new.cells ≡ trials (lines_of self.old) grid.old.cells }

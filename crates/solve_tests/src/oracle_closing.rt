@@ -1,5 +1,6 @@
-//! What `docs/solving.md` says of closing ("Closure and trials", "What is meant"), written a second time, for
-//! tests, in the plainest way: all rounds. Nothing here is shared with the solver but `Cell` and `Puzzle`.
+//! A second implementation, for tests, of what `docs/solving.md` defines for grids ("Closure and
+//! trials", "What is meant"), in the plainest way: by rounds. It shares nothing with the solver but
+//! `Cell`, `Clue` and `Puzzle`.
 //!
 //! A grid is the list of its cells in row order, and `None` if it is dead.
 
@@ -14,8 +15,8 @@ pub struct PlainLine {
     full_lines: Vec<u64>,
 }
 
-/// Appends lines of `len` cells: the first index of each is `apart` after that of the line before, and each
-/// index is `step` after the one before.
+/// Appends a line of `len` cells for each clue. The first cells of two lines in succession are
+/// `apart` indices apart, and two cells in succession of one line are `step` indices apart.
 fn push_lines(
     lines: &mut Vec<PlainLine>,
     alloc: Global,
@@ -42,7 +43,7 @@ fn push_lines(
     Ok(())
 }
 
-/// Returns the rows and then the columns of a puzzle.
+/// Returns the rows of a puzzle and then its columns.
 pub fn plain_lines(alloc: Global, puzzle: &Puzzle) -> Result<Vec<PlainLine>, AllocError> {
     let (width, height) = (puzzle.width(), puzzle.height());
     let across = usize::from(width);
@@ -52,8 +53,8 @@ pub fn plain_lines(alloc: Global, puzzle: &Puzzle) -> Result<Vec<PlainLine>, All
     Ok(lines)
 }
 
-/// Assigns a colour to the cell with this index, if it is one. Returns false if the cell has the other
-/// colour.
+/// Assigns `colour` to the cell with index `index` if it is unknown. Returns false if the cell has
+/// the other colour. If `colour` is unknown, nothing changes and the result is true.
 fn assign(cells: &mut [Cell], index: usize, colour: Cell) -> bool {
     let Some(cell) = cells.get_mut(index) else {
         return false;
@@ -64,8 +65,8 @@ fn assign(cells: &mut [Cell], index: usize, colour: Cell) -> bool {
     colour.is_unknown() || *cell == colour
 }
 
-/// Returns the grid after a round, in which each line is deduced from the grid as it is. It is dead if a line
-/// is dead, or if a row and a column give one cell two colours.
+/// Returns the grid after a round, which deduces each line from `cells`. It is dead if a line is
+/// dead, or if a row and a column deduce different colours of one cell.
 fn after_round(
     alloc: Global,
     lines: &[PlainLine],
@@ -89,13 +90,14 @@ fn after_round(
     Ok(Some(after))
 }
 
-/// Returns the closure of a grid: rounds, until one changes nothing.
+/// Returns the closure of a grid: the grid after rounds until one changes nothing.
 pub fn closure(
     alloc: Global,
     lines: &[PlainLine],
     cells: &[Cell],
 ) -> Result<Option<Cells>, AllocError> {
     let mut now = cells.to_vec(alloc)?;
+    // Each round but the last makes a cell known, so no more rounds are needed.
     for _ in 0..=cells.len() {
         match after_round(alloc, lines, &now)? {
             Some(after) if after == now => break,
@@ -106,7 +108,8 @@ pub fn closure(
     Ok(Some(now))
 }
 
-/// Returns whether a colour of an unknown cell is refuted: the closure of the grid with it is dead.
+/// Reports whether `colour` is refuted for the unknown cell with index `index`: the closure of the
+/// grid with that colour there is dead.
 fn is_refuted(
     alloc: Global,
     lines: &[PlainLine],
@@ -121,8 +124,9 @@ fn is_refuted(
     Ok(closure(alloc, lines, &tried)?.is_none())
 }
 
-/// Returns the grid after a trial round: both colours of each unknown cell are tried, all from the grid as it
-/// is, and then it is closed by lines. It is dead if both colours of a cell are refuted.
+/// Returns the grid after a trial round, which tries both colours of each unknown cell in `cells`,
+/// assigns the other colour where one is refuted, and then takes the closure. It is dead if both
+/// colours of a cell are refuted, or if the closure is dead.
 fn after_trial_round(
     alloc: Global,
     lines: &[PlainLine],
@@ -146,13 +150,14 @@ fn after_trial_round(
     closure(alloc, lines, &after)
 }
 
-/// Returns the grid closed under trials: trial rounds, until one changes nothing.
+/// Returns the grid closed under trials: the grid after trial rounds until one changes nothing.
 pub fn trials(
     alloc: Global,
     lines: &[PlainLine],
     cells: &[Cell],
 ) -> Result<Option<Cells>, AllocError> {
     let mut now = cells.to_vec(alloc)?;
+    // Each trial round but the last makes a cell known, so no more are needed.
     for _ in 0..=cells.len() {
         match after_trial_round(alloc, lines, &now)? {
             Some(after) if after == now => break,

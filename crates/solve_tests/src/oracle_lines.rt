@@ -1,7 +1,8 @@
-//! What `docs/solving.md` says of one line ("Lines", "What is meant"), written a second time, for tests, in
-//! the plainest way: all full lines are listed. Nothing here is shared with the deduction but `Cell`.
+//! A second implementation, for tests, of what `docs/solving.md` defines for one line ("Lines",
+//! "What is meant"), in the plainest way: by listing all full lines. It shares nothing with the
+//! deduction but `Cell`.
 //!
-//! A full line is a number whose bit k says whether cell k is filled.
+//! A full line is a number: bit `k` is set if cell `k` is filled.
 
 use grid_core::Cell;
 use std::alloc::{AllocError, Global};
@@ -29,7 +30,8 @@ pub fn runs(alloc: Global, len: u16, full: u64) -> Result<Vec<u16>, AllocError> 
     Ok(lengths)
 }
 
-/// Returns all full lines of `len` cells whose runs are `clue`.
+/// Returns all full lines of `len` cells whose runs are `clue`. Tries all 2^`len` full lines, so
+/// `len` has to be small.
 pub fn full_lines(alloc: Global, len: u16, clue: &[u16]) -> Result<Vec<u64>, AllocError> {
     let mut lines = Vec::new(alloc);
     for full in 0..1u64.wrapping_shl(u32::from(len)) {
@@ -41,7 +43,7 @@ pub fn full_lines(alloc: Global, len: u16, clue: &[u16]) -> Result<Vec<u64>, All
     Ok(lines)
 }
 
-/// Returns whether a full line has the colour of each known cell of `line`.
+/// Reports whether a full line has the colour of each known cell of `line`.
 fn agrees(full: u64, line: &[Cell]) -> bool {
     let mut rest = full;
     for cell in line {
@@ -53,8 +55,9 @@ fn agrees(full: u64, line: &[Cell]) -> bool {
     true
 }
 
-/// Returns the deduced line: what all placings share, which are those of its clue's full lines that agree
-/// with it. `None` if there is no placing.
+/// Returns the deduced line: each cell has the colour that all placings share, and is unknown if
+/// they differ. The placings are those of `full_lines`, the full lines of the clue, that agree with
+/// `line`. `None` if there is no placing.
 pub fn deduced(
     alloc: Global,
     line: &[Cell],

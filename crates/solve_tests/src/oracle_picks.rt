@@ -1,10 +1,10 @@
-//! What `docs/solving.md` says of the cell that a rule picks ("The search"), written a second time, for
-//! tests. Nothing here is shared with the solver but `Cell` and `Pick`.
+//! A second implementation, for tests, of how `docs/solving.md` defines the cell that a rule picks
+//! ("The search"). It shares nothing with the solver but `Cell` and `Pick`.
 
 use grid_core::Cell;
 use solve_core::Pick;
 
-/// Returns whether the cell in a column and a row is known, or outside the grid.
+/// Reports whether the cell in column `x` and row `y` is known or outside the grid.
 fn is_known_or_outside(width: u16, cells: &[Cell], x: u16, y: u16) -> bool {
     let index = usize::from(y)
         .wrapping_mul(usize::from(width))
@@ -18,6 +18,7 @@ fn is_known_or_outside(width: u16, cells: &[Cell], x: u16, y: u16) -> bool {
 /// Returns how many of a cell's four neighbours are known or outside the grid.
 fn known_neighbours(width: u16, cells: &[Cell], x: u16, y: u16) -> u32 {
     let mut count = 0u32;
+    // Left of column 0 and above row 0 the number wraps to 65,535, which is outside each grid.
     for (x, y) in [
         (x.wrapping_sub(1), y),
         (x.wrapping_add(1), y),
@@ -31,8 +32,9 @@ fn known_neighbours(width: u16, cells: &[Cell], x: u16, y: u16) -> u32 {
     count
 }
 
-/// Returns the column and the row of the cell that a rule picks in a grid of these sizes: the first unknown
-/// cell in row order, or the first of those with the most known neighbours. `None` if the grid is full.
+/// Returns the column and the row of the cell that `pick` picks in a grid of `width` by `height`
+/// cells: by `First` the first unknown cell in row order, by `Most` the first of those with the
+/// most known neighbours. `None` if no cell is unknown.
 pub fn picked(pick: Pick, width: u16, height: u16, cells: &[Cell]) -> Option<(u16, u16)> {
     let mut best = None;
     let mut most = 0u32;

@@ -1,4 +1,4 @@
-//! Pseudorandom lines, grids and puzzles, and some by numbers, for tests.
+//! Pseudorandom lines, grids and puzzles for tests, and small ones by number.
 
 ghost use Rattle.std.specs.Prelude.{◌≡◌, ◌<◌, IfOk};
 ghost use Rattle.grid_core.specs.PartialGrid.{IsSize};
@@ -8,11 +8,12 @@ use grid_core::{Cell, Clue, Grid, LONGEST_SIDE, NoMemory, Puzzle, Texts};
 use std::alloc::{AllocError, Global};
 use std::test::Fail;
 
-/// A generator of pseudorandom numbers.
+/// A linear congruential generator of pseudorandom numbers, with its state.
 #[derive(Drop)]
 pub struct Draws(pub u64);
 
 impl Draws {
+    /// Returns the next number, of 31 bits.
     pub fn draw(&mut self) -> u64 {
         self.0 = self
             .0
@@ -22,7 +23,8 @@ impl Draws {
     }
 }
 
-/// Returns cells that are the digits of a number, base 3.
+/// Returns `count` cells, the digits of `number` in base 3 from the lowest on: 0 is unknown, 1
+/// filled and 2 blank.
 pub fn numbered_cells(alloc: Global, count: usize, number: u32) -> Result<Cells, AllocError> {
     let mut cells = Vec::new(alloc);
     let mut rest = number;
@@ -37,8 +39,8 @@ pub fn numbered_cells(alloc: Global, count: usize, number: u32) -> Result<Cells,
     Ok(cells)
 }
 
-/// Appends `len` cells of which about `known` in 64 are known: one in 64 in the other colour than the full
-/// line whose filled cells are the lowest bits of a number, all others in its colour.
+/// Appends `len` cells, of which about `known` of 64 are known: about 1 of 64 in the wrong colour,
+/// all others in their colour in the full line whose filled cells are the lowest bits of `full`.
 pub fn push_partly_known(
     cells: &mut Cells,
     len: usize,
@@ -59,8 +61,8 @@ pub fn push_partly_known(
     Ok(())
 }
 
-/// A full grid of up to 6 by 6 cells: its sizes, and its rows from the top, each as a number whose bit x says
-/// whether the cell in column x is filled.
+/// A full grid of up to 6 by 6 cells. Its rows are listed from the top; bit `x` of a row is set if
+/// the cell in column `x` is filled, and the bits above the width have no meaning.
 #[derive(Drop)]
 pub struct Picture {
     pub width: u16,
@@ -69,7 +71,8 @@ pub struct Picture {
 }
 
 impl Picture {
-    /// Draws a picture of which each cell is filled with a chance of a quarter, a half or three quarters.
+    /// Returns a pseudorandom picture. Each cell is filled with a probability of 1/4, 1/2 or 3/4,
+    /// which is the same for all its cells.
     pub fn drawn(alloc: Global, draws: &mut Draws) -> Result<Picture, AllocError> {
         let width = (draws.draw() % 6) as u16 + 1;
         let height = (draws.draw() % 6) as u16 + 1;
@@ -90,7 +93,7 @@ impl Picture {
         })
     }
 
-    /// Returns column x, as a number whose bit y says whether the cell in row y is filled.
+    /// Returns column `x` as a number: bit `y` is set if the cell in row `y` is filled.
     fn column(&self, x: u16) -> u64 {
         let mut full = 0u64;
         for row in self.rows.iter().rev() {
@@ -100,8 +103,8 @@ impl Picture {
         full
     }
 
-    /// Returns a grid of which about four of ten cells are known as they are in the picture, and one of 64 is
-    /// known otherwise.
+    /// Returns a grid of which about 26 of 64 cells are known: about 1 of 64 in the wrong colour,
+    /// the others as in the picture.
     pub fn partly_known(&self, alloc: Global, draws: &mut Draws) -> Result<Cells, AllocError> {
         let mut cells = Vec::new(alloc);
         for row in &self.rows {
@@ -110,8 +113,9 @@ impl Picture {
         Ok(cells)
     }
 
-    /// Returns the puzzle with the picture's clues, or, if `is_changed`, with the clues that its columns
-    /// have once a row is drawn again.
+    /// Returns the puzzle with the picture's clues. If `is_changed`, one row is drawn again after
+    /// the row clues are taken and before the column clues are, so that the two may contradict each
+    /// other.
     pub fn puzzle(
         &mut self,
         alloc: Global,
@@ -138,11 +142,12 @@ impl Picture {
     }
 }
 
-/// Of these the first 2, 3 and 5 are all that fit on a line of 1, 2 and 3 cells, and the next 1, 2 and 3 are
-/// all that need one cell more.
+/// Clues of up to 4 cells. The first 2, 3 and 5 are all that fit on a line of 1, 2 and 3 cells, and
+/// the next 1, 2 and 3 are all that need one cell more.
 const CLUES: [&[u16]; 8] = [&[], &[1], &[2], &[3], &[1, 1], &[4], &[1, 2], &[2, 1]];
 
-/// The widths and heights of small puzzles, and how many choices of their clues there are.
+/// The sizes of all puzzles of up to 3 by 3 cells: width, height, and the number of choices of
+/// their clues among `CLUES`.
 pub static SIZES: [(u16, u16, u32); 9] = [
     (1, 1, 9),
     (2, 1, 45),
@@ -155,8 +160,9 @@ pub static SIZES: [(u16, u16, u32); 9] = [
     (3, 3, 262_144),
 ];
 
-/// Returns clues of `count` lines of `len` cells, 1 to 3, that the lowest digits of a number choose. It takes
-/// these digits away, and counts the clues that don't fit on their lines.
+/// Returns the clues of `count` lines of `len` cells, 1 to 3, that the lowest digits of `number`
+/// choose. Removes these digits, and adds to `misfits` the number of clues that do not fit on their
+/// lines.
 pub fn chosen_clues(
     alloc: Global,
     count: u16,
@@ -181,7 +187,8 @@ pub fn chosen_clues(
     Ok(clues)
 }
 
-/// Returns the clues with these numbers.
+/// Returns the clues with these numbers. `None` if some numbers are no clue, or if an allocation
+/// fails.
 fn clues_of(alloc: Global, lists: &[&[u16]]) -> Option<Vec<Clue>> {
     let mut clues = Vec::new(alloc);
     for numbers in lists {
@@ -191,7 +198,8 @@ fn clues_of(alloc: Global, lists: &[&[u16]]) -> Option<Vec<Clue>> {
     Some(clues)
 }
 
-/// Returns the puzzle with these clues of its rows and of its columns, if there is one.
+/// Returns the puzzle with these clues of its rows and of its columns. `None` if there is no such
+/// puzzle, or if an allocation fails.
 pub fn puzzle_with(alloc: Global, rows: &[&[u16]], columns: &[&[u16]]) -> Option<Puzzle> {
     let longest = usize::from(LONGEST_SIDE);
     if rows.len() > longest || columns.len() > longest {
@@ -204,7 +212,8 @@ pub fn puzzle_with(alloc: Global, rows: &[&[u16]], columns: &[&[u16]]) -> Option
     Puzzle::new(width, height, rows, columns, Texts::none(), None).ok()
 }
 
-/// Assigns the cells of a list, from an index on, to the cells of a row.
+/// Sets the cells of row `y` to those of `cells` from index `first` on; cells after the end of
+/// `cells` become unknown.
 fn set_row(grid: &mut Grid, y: u16, cells: &[Cell], first: usize)
     requires { y < grid.old.height }
     ensures width { grid.new.width ≡ grid.old.width }
@@ -217,7 +226,8 @@ fn set_row(grid: &mut Grid, y: u16, cells: &[Cell], first: usize)
     }
 }
 
-/// Returns the grid of these sizes with these cells in row order, and unknown ones after them.
+/// Returns the grid of `width` by `height` cells with `cells` in row order; cells after the end of
+/// `cells` are unknown.
 pub fn grid_of(alloc: Global, width: u16, height: u16, cells: &[Cell]) -> Result<Grid, NoMemory>
     requires { IsSize width height }
     ensures width { IfOk result (λ grid. grid.width ≡ width) }

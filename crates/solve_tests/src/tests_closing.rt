@@ -1,4 +1,5 @@
-//! Tests of closing, of guesses, and of puzzles that need sets of each width.
+//! Tests of the closures, of the cells that are guessed, and of puzzles that need bit sets of each
+//! width.
 
 ghost use Rattle.std.specs.Prelude.{◌≡◌};
 
@@ -11,7 +12,8 @@ use solve_core::{Pick, Reporter, Solver, line_grid, next_guess};
 use std::alloc::{AllocError, Global};
 use std::test::Fail;
 
-/// Returns whether a closed grid is the oracle's.
+/// Reports whether a grid was closed to `wanted`, or found to be dead if `wanted` is `None`.
+/// `alive` is what the solver returned.
 fn is_closed(
     alloc: Global,
     alive: bool,
@@ -30,7 +32,8 @@ fn is_closed(
     Ok(alive && cells == wanted)
 }
 
-/// Returns whether a solver closes a grid as the oracle does, by lines and under trials.
+/// Reports whether `solver` closes the grid with these cells as the oracle does, by lines and under
+/// trials.
 fn closes_alike(
     alloc: Global,
     puzzle: &Puzzle,
@@ -52,7 +55,8 @@ fn closes_alike(
     )
 }
 
-/// Returns whether one solver closes the unknown grid of a puzzle, and another grid, as the oracle does.
+/// Reports whether one solver closes the unknown grid of a puzzle, and then the grid with these
+/// cells, as the oracle does.
 fn are_closed_alike(alloc: Global, puzzle: &Puzzle, cells: &[Cell]) -> Result<bool, Fail> {
     let lines = plain_lines(alloc, puzzle)?;
     let unknown = vec![in alloc; Cell::Unknown; cells.len()]?;
@@ -63,7 +67,8 @@ fn are_closed_alike(alloc: Global, puzzle: &Puzzle, cells: &[Cell]) -> Result<bo
     )
 }
 
-/// All puzzles of up to 3 by 3 cells whose clues fit on their lines, or all but one that needs a cell more.
+/// Tests all puzzles of up to 3 by 3 cells of whose clues at most one does not fit on its line;
+/// that one needs one cell more.
 #[test]
 fn small_puzzles_are_closed_alike(rt: HostRuntime) -> Result<(), Fail> {
     let alloc = rt.alloc();
@@ -104,7 +109,7 @@ fn drawn_puzzles_are_closed_alike(rt: HostRuntime) -> Result<(), Fail> {
     Ok(())
 }
 
-/// Returns whether both rules pick the cell of a grid that the oracle picks.
+/// Reports whether `next_guess` picks the cell that the oracle picks, by both rules.
 fn is_guessed_alike(alloc: Global, width: u16, height: u16, cells: &[Cell]) -> Result<bool, Fail> {
     if width == 0 || width > LONGEST_SIDE || height == 0 || height > LONGEST_SIDE {
         return Ok(false);
@@ -118,7 +123,7 @@ fn is_guessed_alike(alloc: Global, width: u16, height: u16, cells: &[Cell]) -> R
     Ok(true)
 }
 
-/// The widths and heights of small grids, and how many grids there are.
+/// Width, height and number of the grids of each of some small sizes: 3 states for each cell.
 static GRIDS: [(u16, u16, u32); 11] = [
     (1, 1, 3),
     (2, 1, 9),
@@ -133,7 +138,8 @@ static GRIDS: [(u16, u16, u32); 11] = [
     (1, 4, 81),
 ];
 
-/// In all grids of up to 3 by 3 cells or of four in a line, and in pseudorandom ones of up to 6 by 6.
+/// Tests all grids of up to 3 by 3 cells or of four in a line, and pseudorandom ones of up to 6 by
+/// 6.
 #[test]
 fn guesses_are_alike(rt: HostRuntime) -> Result<(), Fail> {
     let alloc = rt.alloc();
@@ -158,14 +164,16 @@ fn guesses_are_alike(rt: HostRuntime) -> Result<(), Fail> {
     Ok(())
 }
 
+/// The clue of a blank line.
 const NONE: &[u16] = &[];
 
+/// The clue of a line with one filled cell.
 const ONE: &[u16] = &[1];
 
-/// The clues of as many blank lines as a grid can have.
+/// The clues of 256 blank lines, as many as an axis can have.
 const BLANK: [&[u16]; 256] = [NONE; 256];
 
-/// Returns whether the unknown grid of a puzzle of so many blank cells is closed, with a solver and without.
+/// Reports whether `close_lines` and `line_grid` make all `cells` cells of a blank puzzle known.
 fn is_closed_by_lines(alloc: Global, puzzle: &Puzzle, cells: u32) -> Result<bool, NoMemory> {
     let mut solver = Solver::new(alloc, puzzle)?;
     let mut grid = Grid::unknown(alloc, puzzle.width(), puzzle.height())?;
@@ -181,6 +189,8 @@ fn puzzles_of_all_widths_are_solved_in_turn(rt: HostRuntime) -> Result<(), Fail>
     let alloc = rt.alloc();
     let narrow = puzzle_with(alloc, &[ONE, ONE], &[ONE, ONE]).ok_or("puzzle")?;
     let mut reporter = Reporter::new();
+    // Widths for each set width, and the narrow puzzle after each, since the reporter reuses its
+    // buffers.
     for width in [256usize, 3, 129, 65, 64] {
         let lines = &BLANK[..width];
         let blank = puzzle_with(alloc, lines, lines).ok_or("puzzle")?;

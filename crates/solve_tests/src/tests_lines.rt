@@ -1,4 +1,5 @@
-//! Tests of single lines.
+//! Tests of the deduction, the outermost placings, the hashes and the lookahead tables of single
+//! lines.
 
 ghost use Rattle.std.specs.Prelude.{◌≤◌};
 
@@ -10,13 +11,14 @@ use place_sets::{PlaceSet, Wide};
 use std::alloc::{AllocError, Global};
 use std::test::Fail;
 
-/// Returns the line with these cells, of which there are 1 to 256.
+/// Returns the line with these cells. `None` unless there are 1 to 256 of them.
 fn line_with(cells: &[Cell]) -> Option<Line> {
     if cells.is_empty() || cells.len() > 256 {
         return None;
     }
     let mut line = Line::unknown(cells.len() as u16);
     for i in 0..line.len() {
+        // Always true, but no invariant of the loop says that `set` keeps the length.
         if i < line.len() {
             let cell = cells.get(usize::from(i)).copied().unwrap_or(Cell::Unknown);
             line.set(i, cell);
@@ -25,7 +27,7 @@ fn line_with(cells: &[Cell]) -> Option<Line> {
     Some(line)
 }
 
-/// Returns whether these are the cells of a line.
+/// Reports whether `cells` are the cells of `line`.
 pub(crate) fn has_cells(line: &Line, cells: &[Cell]) -> bool {
     for i in 0..line.len() {
         if cells.get(usize::from(i)).copied() != Some(line.get(i)) {
@@ -35,8 +37,8 @@ pub(crate) fn has_cells(line: &Line, cells: &[Cell]) -> bool {
     cells.len() == usize::from(line.len())
 }
 
-/// Returns whether what is deduced of the line with these cells is what is wanted, which is `None` if it is
-/// dead.
+/// Reports whether the line with these cells and the clue `numbers` is deduced to `wanted`, or is
+/// dead if `wanted` is `None`.
 fn is_deduced(
     alloc: Global,
     cells: &[Cell],
@@ -55,7 +57,8 @@ fn is_deduced(
     })
 }
 
-/// Lengths, how many full lines of two cells more there are, and how many lines.
+/// For each length, the number of full lines with two more cells, and the number of all lines of
+/// that length.
 static LENGTHS: [(u16, u64, u32); 6] = [
     (1, 8, 3),
     (2, 16, 9),
@@ -65,8 +68,8 @@ static LENGTHS: [(u16, u64, u32); 6] = [
     (6, 256, 729),
 ];
 
-/// All lines of up to 6 cells, with the clues of all full lines of two cells more: those that fit, and
-/// others.
+/// Tests all lines of up to 6 cells with the clues of all full lines that have two more cells:
+/// those that fit on the line, and others.
 #[test]
 fn short_lines_are_deduced_alike(rt: HostRuntime) -> Result<(), Fail> {
     let alloc = rt.alloc();
@@ -87,8 +90,8 @@ fn short_lines_are_deduced_alike(rt: HostRuntime) -> Result<(), Fail> {
     Ok(())
 }
 
-/// The known cells at an end of a line but the innermost, which is blank: how many there are, and a full
-/// line of them.
+/// The known cells at one end of a line without the innermost, which is blank: their number, and
+/// the full line of them.
 type End = (u16, u64);
 
 /// Appends the cells of an end.
@@ -102,7 +105,7 @@ fn push_end(cells: &mut Cells, end: End) -> Result<(), AllocError> {
     Ok(())
 }
 
-/// Returns cells between two ends.
+/// Returns `cells` between two known ends, next to each of which is a blank cell.
 fn between(alloc: Global, front: End, cells: &[Cell], back: End) -> Result<Cells, AllocError> {
     let mut all = Vec::new(alloc);
     push_end(&mut all, front)?;
@@ -115,7 +118,8 @@ fn between(alloc: Global, front: End, cells: &[Cell], back: End) -> Result<Cells
     Ok(all)
 }
 
-/// Returns whether a line is deduced alike once it stands between two known ends.
+/// Reports whether the line with these cells and the clue `numbers` is deduced to `wanted` also
+/// when it stands between two known ends, or is dead there if `wanted` is `None`.
 fn is_deduced_between(
     alloc: Global,
     front: End,
@@ -139,7 +143,7 @@ fn is_deduced_between(
     is_deduced(alloc, &all, &all_numbers, wanted.as_ref())
 }
 
-/// Pseudorandom lines of 7 to 12 cells, alone and between known ends.
+/// Tests pseudorandom lines of 7 to 12 cells, alone and between known ends.
 #[test]
 fn drawn_lines_are_deduced_alike(rt: HostRuntime) -> Result<(), Fail> {
     let alloc = rt.alloc();
@@ -166,8 +170,8 @@ fn drawn_lines_are_deduced_alike(rt: HostRuntime) -> Result<(), Fail> {
     Ok(())
 }
 
-/// Returns whether these are the starts of the leftmost and of the rightmost placing, whatever starts were
-/// left before, or whether there is no placing, if `is_alive` is false.
+/// Reports whether `leftmost` and `rightmost` return `is_alive` and leave the starts `left` and
+/// `right`. `starts` may hold those of another line.
 fn start_at(
     line: &Line,
     clue: &Clue,
@@ -181,7 +185,8 @@ fn start_at(
     is_left && is_right
 }
 
-/// Returns the cells that a text stands for: `#` filled, `.` blank, and all others unknown.
+/// Returns the cells that a text stands for: `#` is filled, `.` is blank, and any other byte is
+/// unknown.
 fn cells_drawn(alloc: Global, text: &[u8]) -> Result<Cells, AllocError> {
     let mut cells = Vec::new(alloc);
     for byte in text {
@@ -194,8 +199,9 @@ fn cells_drawn(alloc: Global, text: &[u8]) -> Result<Cells, AllocError> {
     Ok(cells)
 }
 
-/// Returns whether runs at both ends of a line start where they should and are deduced, and runs that don't
-/// fit start nowhere.
+/// Reports whether, on a line of `len` cells, the outermost placings of two runs of 2 start where
+/// they should, both while no cell is known and once the outermost cells are filled, whether the
+/// line is then deduced, and whether runs that do not fit have no placing.
 fn ends_start_well(alloc: Global, len: u16, starts: &mut Starts) -> Result<bool, Fail>
     requires { (10 ≤ len) × (len ≤ LONGEST_SIDE) }
 {
@@ -220,7 +226,8 @@ fn ends_start_well(alloc: Global, len: u16, starts: &mut Starts) -> Result<bool,
     Ok(is_free && is_dead && is_held)
 }
 
-/// A line, a clue, whether there is a placing, and the starts of the leftmost and of the rightmost one.
+/// A line, a clue, whether there is a placing, and the starts of the leftmost and the rightmost
+/// one.
 type Row = (
     &'static [u8],
     &'static [u16],
@@ -229,6 +236,7 @@ type Row = (
     &'static [u16],
 );
 
+/// Lines with the starts of their outermost placings.
 static ROWS: [Row; 8] = [
     (b"?????", &[3], true, &[0], &[2]),
     (b"??#??", &[1, 1], true, &[0, 2], &[2, 4]),
@@ -252,13 +260,15 @@ fn starts_come_out(rt: HostRuntime) -> Result<(), Fail> {
             "row {number}"
         );
     }
+    // Lengths at the limits of the set widths, in mixed order, since `starts` is reused.
     for len in [63u16, 256, 64, 255, 65, 129, 127, 128] {
         assert!(rt; ends_start_well(alloc, len, &mut starts)?, "{len}");
     }
     Ok(())
 }
 
-/// Returns how many hashes 1,000 lines have, each of which differs from the one before in one cell.
+/// Returns how many different hashes 1,000 lines have, each of which differs from the one before it
+/// in one cell.
 fn hashes<W: PlaceSet>(alloc: Global, len: u16) -> Result<usize, Fail>
     requires { (1 ≤ len) × (len ≤ W.WIDTH) }
 {
@@ -290,8 +300,9 @@ fn unlike_lines_seldom_share_a_hash(rt: HostRuntime) -> Result<(), Fail> {
     Ok(())
 }
 
-/// Returns whether a lookahead table of five unknown cells with the clue 2 1 knows which cells are inert.
-/// The placings are `##.#.`, `##..#` and `.##.#`, so only the second cell, filled, deduces nothing else.
+/// Reports whether the lookahead table of five unknown cells with the clue 2 1 has the right inert
+/// cells. The placings are `##.#.`, `##..#` and `.##.#`, so only the second cell, filled, deduces
+/// nothing else.
 fn knows_inert_cells<W: LineSet>(alloc: Global) -> Result<bool, Fail>
     requires { 5 ≤ W.WIDTH }
 {

@@ -1,5 +1,5 @@
-//! Calls whose growths of memory are refused, each in turn, and calls that take no memory with every growth
-//! refused.
+//! Tests of the calls of `solve_core` with failing allocations: each allocation of a call fails in
+//! turn, and calls that allocate nothing are made with every allocation failing.
 
 use crate::test_puzzles::puzzle_with;
 use grid_core::{Grid, NoMemory, Puzzle};
@@ -8,13 +8,14 @@ use solve_core::*;
 use std::alloc::Global;
 use std::test::Fail;
 
+/// The clue of a line with one filled cell.
 const ONE: &[u16] = &[1];
 
-/// Returns how many cells of a puzzle are known by a solver and on a grid that are made for it.
+/// Returns how many cells of a puzzle lines make known, from an unknown grid and by a new solver.
 fn known_by_lines(alloc: Global, puzzle: &Puzzle) -> Result<u32, NoMemory> {
     let mut grid = Grid::unknown(alloc, puzzle.width(), puzzle.height())?;
     let mut solver = Solver::new(alloc, puzzle)?;
-    solver.close_lines(&mut grid);
+    let _ = solver.close_lines(&mut grid);
     Ok(grid.known())
 }
 
@@ -41,8 +42,8 @@ fn line_grids_are_made_or_refused(rt: HostRuntime) -> Result<(), Fail> {
     Ok(())
 }
 
-/// Returns whether a report on the puzzle with the clue 1 in each of three rows and columns is the one with
-/// this limit on guesses.
+/// Reports whether `findings` are right for the puzzle with the clue 1 in each of three rows and
+/// three columns and a limit of `guesses` guesses, which is 0, 2 or 3.
 fn is_found(findings: &Findings, puzzle: &Puzzle, guesses: u32) -> bool {
     if findings.spent != guesses || findings.grade != Grade::Search {
         return false;
@@ -57,7 +58,8 @@ fn is_found(findings: &Findings, puzzle: &Puzzle, guesses: u32) -> bool {
     }
 }
 
-/// Returns how many growths of a report with this limit on guesses are refused.
+/// Makes a report of at most `guesses` guesses with each allocation failing in turn. Returns how
+/// many allocations failed.
 fn growths_with(alloc: Global, puzzle: &Puzzle, guesses: u32) -> Result<usize, Unswept> {
     sweep(
         alloc,
@@ -83,7 +85,7 @@ fn reports_are_made_or_refused(rt: HostRuntime) -> Result<(), Fail> {
     Ok(())
 }
 
-/// Closes the puzzle whose cells trials assign, all eight of them, and lines none.
+/// Tests a puzzle of eight cells, of which lines make none known and trials all.
 #[test]
 fn closing_takes_no_memory(rt: HostRuntime) -> Result<(), Fail> {
     let alloc = rt.alloc();

@@ -1,5 +1,5 @@
-//! Calls whose growths of memory are refused, each in turn, and calls that take no memory
-//! with every growth refused.
+//! Tests of the calls of `line_core` with failing allocations: each allocation of a call fails in
+//! turn, and calls that allocate nothing are made with every allocation failing.
 
 ghost use Rattle.std.specs.Prelude.{◌≤◌};
 
@@ -10,7 +10,7 @@ use refusals::{Told, is_heeded, refuse, sweep, told_if, was_refused};
 use std::alloc::Global;
 use std::test::Fail;
 
-/// What is deduced of ten unknown cells with a run of eight.
+/// The deduced line of ten unknown cells with the clue 8.
 static DEDUCED: [Cell; 10] = [
     Cell::Unknown,
     Cell::Unknown,
@@ -24,7 +24,7 @@ static DEDUCED: [Cell; 10] = [
     Cell::Unknown,
 ];
 
-/// Returns whether a run of eight cells is deduced on ten unknown ones as it should be.
+/// Reports whether ten unknown cells with the clue 8, which is `clue`, are deduced to `DEDUCED`.
 fn is_deduced_well(tables: &mut Tables, clue: &Clue) -> bool
     requires { 10 ≤ tables.old }
 {
@@ -45,7 +45,8 @@ fn tables_are_made_or_refused(rt: HostRuntime) -> Result<(), Fail> {
     Ok(())
 }
 
-/// Returns whether the outermost starts of that run are as they should be.
+/// Reports whether the outermost placings of ten unknown cells with the clue 8, which is `clue`,
+/// start at 0 and at 2.
 fn are_starts_well(starts: &mut Starts, clue: &Clue) -> bool {
     let line = Line::unknown(10);
     let left = leftmost(&line, clue, starts) && starts.list() == [0].as_slice();
@@ -66,7 +67,7 @@ fn starts_are_made_or_refused(rt: HostRuntime) -> Result<(), Fail> {
     Ok(())
 }
 
-/// Returns whether lines are set, copied and compared as they should be.
+/// Reports whether a line is set, copied, compared and hashed as expected.
 fn are_lines_well() -> bool {
     let mut line = LineOf::<u64>::unknown(10);
     line.set(3, Cell::Filled);

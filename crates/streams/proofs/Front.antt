@@ -1,4 +1,4 @@
--- What several writes of one text left.
+-- What a writer holds after several writes: prefixes of one text, and of texts one after another.
 use Rattle.std.proofs.Common.{◌≡◌, ℕ, zero, suc, ◌+◌, ◌-◌, ◌<◌, ◌≤◌, List, [], ◌∷◌, ◌++◌, Vec, take, drop, get_or, length, ap, refl, subst, sym, ◌∙◌, append_assoc, append-nil, arith}
 use Rattle.std.proofs.lemmas.Grind.{common_steps}
 use Rattle.std.proofs.lemmas.List.{drop_at, length-append, take-append-le, take_all, take_at}
@@ -9,18 +9,18 @@ use Rattle.std.specs.declared.alloc.Global.{Global}
 use Rattle.streams.specs.Writing.{SendsFront, joined}
 use Rattle.std.proofs.KnownBytes.{Appends-trans}
 
--- the rest of a list from i on, as a range of it
+-- taking all that is left from index i on is dropping the first i elements
 pub rest_of : {A : Type 0} (all : List A) (i : ℕ) → take (length all - i) (drop i all) ≡ drop i all
 rest_of all i = grind (arith, common_steps)
 
--- a front, and then a front of the rest, is a front
+-- a prefix, and then a prefix of the rest, is a prefix
 pub appends_front : (a b c : Option (List ℕ)) (all : List ℕ) (i n : ℕ) → Appends a b (take i all)
     → Appends b c (take n (take (length all - i) (drop i all))) → Appends a c (take (i + n) all)
 appends_front a b c all i n first second =
     let second' = subst (λ rest. Appends b c (take n rest)) (rest_of all i) second in
     subst (Appends a c) (sym (take-add i n all)) (Appends-trans a b c _ _ first second')
 
--- a front of a text behind another is a front of both, and of what follows
+-- a text and then a prefix of the next one are a prefix of all texts
 pub sends_behind : (a b c : Option (List ℕ)) (before text after : List ℕ) (n : ℕ) → Appends a b before → n ≤ length text
     → Appends b c (take n text) → Appends a c (take (length before + n) (before ++ (text ++ after)))
 sends_behind a b c before text after n first within second =
@@ -31,7 +31,7 @@ sends_behind a b c before text after n first within second =
     ∙ ap (λ (xs : List ℕ). before ++ xs) (take-append-le n text after within) in
     subst (Appends a c) (sym front) (Appends-trans a b c _ _ first second)
 
--- texts are those before a place, the one at the place, and those behind it
+-- the joined texts are those before index i, the one at i, and those after it
 pub text_among : (texts : List (Vec ℕ Global)) (last : List ℕ) (i : ℕ) (d : Vec ℕ Global) → i < length texts
     → joined texts ++ last ≡ joined (take i texts) ++ ((get_or texts i d).items ++ (joined (drop (suc i) texts) ++ last))
 text_among [] last i d within = absurd (omega arith)
@@ -40,7 +40,7 @@ text_among (text ∷ texts) last (suc i) d within =
     append_assoc text.items (joined texts) last ∙ ap (λ others. text.items ++ others) (text_among texts last i d (omega arith))
     ∙ sym (append_assoc text.items (joined (take i texts)) _)
 
--- a text among others is within all of them
+-- a text ends within all texts joined
 pub among_within : (texts : List (Vec ℕ Global)) (last : List ℕ) (i : ℕ) (text : Vec ℕ Global) (x : List ℕ) → i < length texts
     → text ≡ get_or texts i text → x ≡ text.items → length (joined (take i texts)) + length x ≤ length (joined texts ++ last)
 among_within texts last i text x within at same =
@@ -55,7 +55,7 @@ among_within texts last i text x within at same =
       length-append (get_or texts i text).items behind,
     )
 
--- a front of a text among others, behind those before it, is a front of all
+-- all texts before index i and then a prefix of the one at i are a prefix of all
 pub sent_among : (a b c : Option (List ℕ)) (texts : List (Vec ℕ Global)) (last : List ℕ) (i : ℕ) (text : Vec ℕ Global) (x : List ℕ)
     (before count sent : ℕ) → i < length texts → text ≡ get_or texts i text → x ≡ text.items → before ≡ length (joined (take i texts))
     → Appends a b (joined (take i texts)) → sent ≡ before + count → SendsFront x count b c → SendsFront (joined texts ++ last) sent a c
@@ -71,7 +71,7 @@ sent_among a b c texts last i text x before count sent within at same counted wr
           (subst (λ (y : List ℕ). count ≤ length y) here front.0) (subst (λ (y : List ℕ). Appends b c (take count y)) here front.1))),
     )
 
--- a front of the last text, behind the others, is a front of all
+-- all texts but the last, and then a prefix of the last, are a prefix of all
 pub sent_last : (a b c : Option (List ℕ)) (texts : List (Vec ℕ Global)) (last : List ℕ) (i n count sent : ℕ) → length texts ≤ i
     → n ≡ length (joined (take i texts)) → Appends a b (joined (take i texts)) → sent ≡ n + count → SendsFront last count b c
     → SendsFront (joined texts ++ last) sent a c

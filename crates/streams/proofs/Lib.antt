@@ -1,2 +1,2 @@
--- Lemmas on texts that are written in several writes.
+-- Lemmas about texts that are sent in several writes.
 pub mod Front

@@ -1,17 +1,17 @@
--- Counts of failed calls.
+-- Counting failed calls.
 use Rattle.std.specs.Prelude.{ℕ, ◌+◌, ◌-◌, ◌^◌, min, Bool, true, false, List, ◌==◌, nat_lt, ◌&&◌, length, Result, Ok, Err}
 use Rattle.streams.specs.declared.counted.Counted.{Counted}
 
--- how many calls failed
+-- how many calls failed, as far as a `u32` can count them
 abbrev pub fault_count : {T : Type 0} → Counted T → ℕ
 fault_count counted = counted.faults
 
--- one more, up to the greatest `u32`, if the test holds
+-- `count`, or, if the test holds, one more, but at most the greatest `u32`
 abbrev pub one_more_if : Bool → ℕ → ℕ
 one_more_if true count = min (count + 1) (2 ^ 32 - 1)
 one_more_if false count = count
 
--- a write failed, or took nothing of some bytes
+-- a write of `bytes` returned an error, or took none of at least one byte
 abbrev pub write_failed : {E : Type 0} → Result ℕ E → List ℕ → Bool
 write_failed (Ok count) bytes = (count == 0) && nat_lt 0 (length bytes)
 write_failed (Err _) bytes = true

@@ -1,4 +1,4 @@
-//! A reader or a writer that counts its failed calls.
+//! A wrapper of readers and writers that counts their failed calls.
 ghost use Rattle.std.specs.Prelude.{◌≡◌, is_err};
 ghost use Rattle.std.specs.Io.{ReadsAtMost, WritesAtMost};
 ghost use Rattle.std.specs.Io.KnownBytes.{Keeps, ReadConsumes, WriteAppends};
@@ -7,16 +7,16 @@ ghost use Rattle.streams.specs.Counted.{fault_count, one_more_if, write_failed};
 use std::io;
 use std::io::{Read, Write};
 
-/// A reader or a writer, with the number of its calls that failed.
+/// A reader or a writer together with the number of its calls that failed.
 #[derive(Drop)]
 pub struct Counted<T> {
-    /// What is wrapped.
+    /// The reader or writer that is wrapped.
     pub inner: T,
     faults: u32,
 }
 
 impl<T> Counted<T> {
-    /// Wraps `inner`, of which no call has failed yet.
+    /// Wraps `inner` and starts counting at 0.
     pub fn new(inner: T) -> Counted<T>
         ensures wraps { result.inner ≡ inner }
         ensures none { fault_count result ≡ 0 }
@@ -24,7 +24,7 @@ impl<T> Counted<T> {
         Counted { inner, faults: 0 }
     }
 
-    /// The number of calls that failed, which stays at the greatest `u32` once it is there.
+    /// Returns how many calls failed; the count stops at `u32::MAX`.
     pub fn faults(&self) -> u32
         ensures { result ≡ fault_count self.now }
     {
@@ -33,10 +33,11 @@ impl<T> Counted<T> {
 }
 
 impl<R: Read> Counted<R> {
-    /// Reads as `inner` does, and counts a failure.
+    /// Reads from `inner` into `buffer`, and counts an error.
     pub fn read(&mut self, buffer: &mut [u8]) -> io::Result<usize>
         ensures bound { ReadsAtMost result buffer.new }
-        ensures bytes { ReadConsumes (R.remaining self.old.inner) (R.remaining self.new.inner) result buffer.new }
+        ensures bytes { ReadConsumes (R.remaining self.old.inner) (R.remaining self.new.inner)
+            result buffer.new }
         ensures counts { fault_count self.new ≡ one_more_if (is_err result) (fault_count self.old) }
     {
         let answer = self.inner.read(buffer);
@@ -48,11 +49,14 @@ impl<R: Read> Counted<R> {
 }
 
 impl<W: Write> Counted<W> {
-    /// Writes as `inner` does, and counts a failure and a write that took nothing of some bytes.
+    /// Writes `bytes` to `inner`. Counts an error, and also a write that took none of at least one
+    /// byte, since nothing can be written after it.
     pub fn write(&mut self, bytes: &[u8]) -> io::Result<usize>
         ensures bound { WritesAtMost result bytes.now }
-        ensures bytes { WriteAppends (W.contents self.old.inner) (W.contents self.new.inner) result bytes.now }
-        ensures counts { fault_count self.new ≡ one_more_if (write_failed result bytes.now) (fault_count self.old) }
+        ensures bytes { WriteAppends (W.contents self.old.inner) (W.contents self.new.inner)
+            result bytes.now }
+        ensures counts { fault_count self.new
+            ≡ one_more_if (write_failed result bytes.now) (fault_count self.old) }
     {
         let answer = self.inner.write(bytes);
         let failed = match &answer {
@@ -65,7 +69,7 @@ impl<W: Write> Counted<W> {
         answer
     }
 
-    /// Flushes as `inner` does, and counts a failure.
+    /// Flushes `inner`, and counts an error.
     pub fn flush(&mut self) -> io::Result<()>
         ensures bytes { Keeps (W.contents self.old.inner) (W.contents self.new.inner) }
         ensures counts { fault_count self.new ≡ one_more_if (is_err result) (fault_count self.old) }

@@ -1,4 +1,5 @@
-//! Readers and writers that count their failed calls: reading up to a limit, and writing texts whole.
+//! Reading up to a limit and writing whole texts, over readers and writers that count their failed
+//! calls.
 #![tactic(auto)]
 
 mod counted;

@@ -1,4 +1,4 @@
--- Lemmas on lists that are dealt in turn.
+-- Lemmas on dealing jobs in turn, and on taking their answers back in turn.
 use Rattle.std.proofs.Common.{◌≡◌, ◌+◌, ◌%◌, ◌<◌, ◌==◌, if◌then◌else◌, ℕ, zero, suc, Bool, true, false, List, [], ◌∷◌, ◌++◌, length, take, drop, get_or, set, refl, ap, sym, ◌∙◌, subst, map, arith, eq-eqb, get_or-set_other}
 use Rattle.std.proofs.Math.Nat.{mod-lt}
 use Rattle.std.proofs.lemmas.Bool.Decides.{nat_tests}
@@ -10,13 +10,14 @@ use Rattle.lane_core.specs.declared.answers.Answer.{Answer}
 use Rattle.lane_core.proofs.AnswersLemmas.{AreAnswersTo-push}
 use Rattle.survey_core.specs.steps.Dealt.{dealt_from, dealt}
 
--- the next element goes to the queue whose turn it is
+-- appending the next element to the queue whose turn it is keeps what each queue gets in all
 deal_when : {T : Type 0} (xss : List (List T)) (i k : ℕ) (x : T) (own later all : List T) (b : Bool) → (i == k) ≡ b → i < length xss
-    → own ≡ get_or xss i [] ++ x ∷ [] → get_or xss k [] ++ (if b then x ∷ later else later) ≡ all → get_or (set xss i own) k [] ++ later ≡ all
+    → own ≡ get_or xss i [] ++ x ∷ [] → get_or xss k [] ++ (if b then x ∷ later else later) ≡ all
+    → get_or (set xss i own) k [] ++ later ≡ all
 deal_when xss i k x own later all true e h content before = grind (arith, common_steps)
 deal_when xss i k x own later all false e h content before = grind (arith, common_steps)
 
--- if the next job goes to the queue whose turn it is, each queue lacks only its share of the rest
+-- once the next job went to the queue whose turn it is, each queue lacks just its share of the jobs after it
 pub deal_next : {Q T : Type 0} (f : Q → List T) (qs : List Q) (n place : ℕ) (q q' : Q) (job : T) (rest xs : List T) →
     0 < n → length qs ≡ n → q ≡ get_or qs (place % n) q → f q' ≡ f q ++ job ∷ [] →
     ((k : ℕ) → k < n → get_or (map f qs) k [] ++ dealt_from place (job ∷ rest) n k ≡ dealt xs n k) →
@@ -27,18 +28,18 @@ deal_next f qs n place q q' job rest xs some len e pushed before k b =
     rw (map-set f qs (place % n) q') (deal_when (map f qs) (place % n) k job (f q') _ _ (place % n == k) refl
     (omega (arith, length-map qs f)) (pushed ∙ ap (λ l. l ++ job ∷ []) (sym at)) (before k b))
 
--- the element at a place, between what is before it and what comes after
+-- a list has an element at each index below its length, between the elements before it and those after it
 next_of : {T : Type 0} (xs : List T) (i : ℕ) → i < length xs → (x : T) × (drop i xs ≡ x ∷ drop (suc i) xs) ×
     (take (suc i) xs ≡ take i xs ++ x ∷ [])
 next_of [] i h = absurd (omega arith)
 next_of (x ∷ xs) zero h = (x, refl, refl)
 next_of (x ∷ xs) (suc i) h = let r = next_of xs i (omega arith) in (r.0, r.1, ap (λ l. x ∷ l) r.2)
 
--- what each queue still holds answers what it was dealt from this place on
+-- each of the queues `xss` has the answers to its share of the jobs from index `place` on
 abbrev pub AllLeft : List Job → ℕ → ℕ → List (List Answer) → Type 0
 AllLeft jobs n place xss = (k : ℕ) → k < n → AreAnswersTo (dealt_from place (drop place jobs) n k) (get_or xss k [])
 
--- the queue whose turn it is answers the next job, and then its share of the rest
+-- the queue whose turn it is has the answer to the next job, and then those to its share of the jobs after it
 gather_turn : {Q : Type 0} (f : Q → List Answer) (qs : List Q) (n place : ℕ) (q : Q) (job : Job) (rest jobs : List Job) → 0 < n
     → length qs ≡ n → q ≡ get_or qs (place % n) q → drop place jobs ≡ job ∷ rest → AllLeft jobs n place (map f qs)
     → AreAnswersTo (job ∷ dealt_from (place + 1) rest n (place % n)) (f q)
@@ -49,7 +50,7 @@ gather_turn f qs n place q job rest jobs some len e next left =
     subst (λ (b : Bool). AreAnswersTo (if b then job ∷ later else later) (f q)) (eq-eqb (place % n) (place % n) refl)
     (rw (next, at) at (left (place % n) within))
 
--- the rest of the queue whose turn it was answers what is left for it, and the other queues are as they were
+-- without its first answer, the queue whose turn it was has the answers to its share, and the others are unchanged
 gather_rest : (later : ℕ → List Job) (job : Job) (xss : List (List Answer)) (i k : ℕ) (own : List Answer) (b : Bool) → (i == k) ≡ b
     → i < length xss → AreAnswersTo (later i) own → AreAnswersTo (if b then job ∷ later k else later k) (get_or xss k [])
     → AreAnswersTo (later k) (get_or (set xss i own) k [])
@@ -60,14 +61,14 @@ gather_rest later job xss i k own true e h now before =
 gather_rest later job xss i k own false e h now before =
     rw (get_or-set_other xss i k own [] (λ same. grind (arith, nat_tests))) before
 
--- as long as jobs are left, the queue whose turn it is isn't empty
+-- as long as jobs are left, the queue whose turn it is is not empty
 pub gather_some : {Q : Type 0} (f : Q → List Answer) (qs : List Q) (n place : ℕ) (q : Q) (jobs : List Job) →
     0 < n → length qs ≡ n → place < length jobs → q ≡ get_or qs (place % n) q → AllLeft jobs n place (map f qs) → f q ≡ [] → ⊥
 gather_some f qs n place q jobs some len h e left empty =
     let r = next_of jobs place h in
     rw empty at (gather_turn f qs n place q r.0 (drop (suc place) jobs) jobs some len e r.1 left)
 
--- if the queue whose turn it is gives its next answer, one more job is answered, and the rest is left
+-- taking the first answer of the queue whose turn it is answers one more job, and leaves the answers to the jobs after it
 pub gather_next : {Q : Type 0} (f : Q → List Answer) (qs : List Q) (n place : ℕ) (q q' : Q) (jobs : List Job) (answer : Answer)
     (gathered : List Answer) →
     0 < n → length qs ≡ n → place < length jobs → q ≡ get_or qs (place % n) q → f q ≡ answer ∷ f q' →
@@ -80,7 +81,8 @@ gather_next f qs n place q q' jobs answer gathered some len h e front before lef
     let turn = rw front at (gather_turn f qs n place q r.0 (drop (suc place) jobs) jobs some len e r.1 left) in (
       rw (next, r.2) (AreAnswersTo-push (take place jobs) gathered r.0 answer before turn.0),
       λ k b. rw (map-set f qs (place % n) q')
-          (subst (λ (m : ℕ). AreAnswersTo (dealt_from (place + 1) (drop m jobs) n k) (get_or (set (map f qs) (place % n) (f q')) k [])) (sym next)
+          (subst (λ (m : ℕ).
+          AreAnswersTo (dealt_from (place + 1) (drop m jobs) n k) (get_or (set (map f qs) (place % n) (f q')) k [])) (sym next)
           (gather_rest (dealt_from (place + 1) (drop (suc place) jobs) n) r.0 (map f qs) (place % n) k (f q') (place % n == k) refl
           (omega (arith, length-map qs f)) turn.1 (rw r.1 at (left k b)))),
     )

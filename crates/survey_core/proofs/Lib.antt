@@ -1,4 +1,4 @@
--- Lemmas on surveys: entries read and graded, jobs dealt and answered lane by lane, and progress.
+-- The modules of lemmas on surveys: entries read and graded, jobs dealt and answered, lane by lane, and progress.
 pub mod ProgressLemmas
 pub mod ReadingLemmas
 pub mod ListingLemmas

@@ -1,4 +1,4 @@
--- Entries that are listed with what was found of them are the graded ones.
+-- Lemmas on sequences of entries with their answers: what they list are the graded entries.
 use Rattle.std.proofs.Common.{◌≡◌, ℕ, List, [], ◌∷◌, ◌++◌, map, Some, Result, Ok, Err, refl}
 use Rattle.grid_core.specs.Nonogram.{Nonogram}
 use Rattle.grid_core.specs.declared.memory.NoMemory.{NoMemory}
@@ -14,14 +14,14 @@ use Rattle.survey_text.specs.Survey.{Guessing, graded, reported}
 use Rattle.survey_core.specs.steps.Graded.{AreGraded}
 use Rattle.survey_core.specs.steps.Readings.{fault_of, reading, readings}
 
--- an answer that was listed is the graded entry
+-- an entry that was listed with an answer is the graded entry
 graded_is : (guesses : Guessing) (name : List ℕ) (p q : Nonogram) (outcome : Result Findings NoMemory) (entry : GradedEntry) → q ≡ p
     → IsOutcome p guesses.limit guesses.pick outcome → if_graded name q outcome ≡ Some entry
     → entry ≡ record { name = name; result = reported guesses (Ok p) }
 graded_is guesses name p q (Err refused) entry same is_outcome listed = cc
 graded_is guesses name p q (Ok findings) entry same is_outcome listed = cc
 
--- entries that were all listed with their faults and answers, which others may follow, are the graded ones
+-- if no entry is missing from what was listed, the graded entries were, even if further faults and answers follow
 pub listed_graded : (guesses : Guessing) (entries : List Entry) (read others : List (Result Nonogram EntryFault)) (answers : List Answer)
     (all : List GradedEntry) → read ≡ readings entries ++ others → AreGraded guesses read answers
     → answered entries (map fault_of read) answers ≡ map Some all → all ≡ map (graded guesses) (map shown_entry entries)

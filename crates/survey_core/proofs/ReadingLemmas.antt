@@ -1,4 +1,4 @@
--- Entries that are read, and the answers beside them.
+-- Lemmas on entries that were read, their jobs and faults, and the answers to the puzzles among them.
 use Rattle.std.proofs.Common.{◌≡◌, ℕ, suc, ◌+◌, ◌<◌, ◌≤◌, min, List, [], ◌∷◌, ◌++◌, length, map, take, drop, get_or, cond, is_none, IfOk, Option, None, Some, Result, Ok, Err, ap, ◌∙◌, append-nil, append_assoc, arith}
 use Rattle.std.proofs.Math.Seq.{take-add}
 use Rattle.std.proofs.lemmas.List.{drop-drop, drop_at, length-append, length-map, map-append, map_more, take_at, map_push, take_min, drop_min}
@@ -20,25 +20,27 @@ use Rattle.survey_core.specs.steps.Graded.{AreAnswersAt, AreGraded, graded_of, p
 use Rattle.survey_core.specs.steps.Readings.{NumberedPuzzle, fault_of, job_of, jobs_from, reading, readings, shown_job}
 use Rattle.survey_core.specs.declared.grading.Printing.{Printing}
 
--- one more entry adds its job, if it is a puzzle
+-- one more entry appends its job, if it is a puzzle
 pub jobs_from-more : (guesses : Guessing) (first : ℕ) (entries : List Entry) (i : ℕ) (d : Entry) → i < length entries
     → jobs_from guesses first (readings (take (i + 1) entries)) ≡ jobs_from guesses first (readings (take i entries)) ++
     job_of guesses (first + i) (reading (get_or entries i d))
 jobs_from-more guesses first entries i d h =
     made-more (λ (numbered : ℕ × Result Nonogram EntryFault). job_of guesses numbered.0 numbered.1) reading first entries i d h
 
--- the jobs of entries, and of those behind them
+-- the jobs of two lists of entries, the second numbered on, are those of the first, followed by those of the second
 pub jobs_from-append : (guesses : Guessing) (first : ℕ) (xs ys : List Entry)
-    → jobs_from guesses first (readings (xs ++ ys)) ≡ jobs_from guesses first (readings xs) ++ jobs_from guesses (first + length xs) (readings ys)
+    → jobs_from guesses first (readings (xs ++ ys))
+    ≡ jobs_from guesses first (readings xs) ++ jobs_from guesses (first + length xs) (readings ys)
 jobs_from-append guesses first xs ys =
     rw (map-append reading xs ys, ← length-map xs reading)
-    (numbered-append (λ (numbered : ℕ × Result Nonogram EntryFault). job_of guesses numbered.0 numbered.1) first (readings xs) (readings ys))
+    (numbered-append (λ (numbered : ℕ × Result Nonogram EntryFault). job_of guesses numbered.0 numbered.1) first (readings xs)
+    (readings ys))
 
--- the faults of entries, and of those behind them
+-- the faults of two lists of entries are those of the first, followed by those of the second
 pub faults-append : (xs ys : List Entry) → map fault_of (readings (xs ++ ys)) ≡ map fault_of (readings xs) ++ map fault_of (readings ys)
 faults-append xs ys = simp map-append
 
--- answers to the jobs of entries are those to the puzzles that were read
+-- answers to the jobs of entries are answers to the puzzles that were read
 pub are_graded : (guesses : Guessing) (first : ℕ) (read : List (Result Nonogram EntryFault)) (jobs : List Job) (answers : List Answer)
     → map shown_job jobs ≡ jobs_from guesses first read → AreAnswersTo jobs answers → AreGraded guesses read answers
 are_graded guesses first [] [] [] made answered = tt
@@ -56,17 +58,18 @@ are_graded guesses first (Ok p ∷ read) (job ∷ jobs) (answer ∷ answers) mad
 are_graded guesses first (Ok p ∷ read) (job ∷ jobs) [] made answered = absurd answered
 are_graded guesses first read jobs answers made answered = cc
 
--- what stands for an entry past the end
+-- the value that `get_or` returns for an index past the end
 abbrev pub no_entry : Entry
 no_entry = record { name = record { ref_ptr = (0, 0); now = [] }; body = record { ref_ptr = (0, 0); now = [] } }
 
--- one more entry adds its fault, or that it has none
+-- one more entry appends its fault, or that it has none
 pub faults-more : (entries : List Entry) (i : ℕ) (d : Entry) → i < length entries
     → map fault_of (readings (take (i + 1) entries)) ≡ map fault_of (readings (take i entries)) ++
     fault_of (reading (get_or entries i d)) ∷ []
-faults-more entries i d h = rw (map_more reading entries i d h) (map_push fault_of (readings (take i entries)) (reading (get_or entries i d)))
+faults-more entries i d h =
+    rw (map_more reading entries i d h) (map_push fault_of (readings (take i entries)) (reading (get_or entries i d)))
 
--- the answers to the puzzles of two lists are those to the first, as many as these are, and those to the other
+-- of the answers to the puzzles of two lists, those after the first list's are the answers to the second
 graded_apart : (guesses : Guessing) (read others : List (Result Nonogram EntryFault)) (answers : List Answer)
     → AreGraded guesses (read ++ others) answers → AreGraded guesses others (drop (puzzle_count (map fault_of read)) answers)
 graded_apart guesses [] others answers graded = graded
@@ -77,7 +80,7 @@ graded_apart guesses (Ok p ∷ read) others (answer ∷ answers) graded =
     let more : puzzle_count (map fault_of (Ok p ∷ read)) ≡ suc (puzzle_count (map fault_of read)) = omega (arith, one) in
     rw more (graded_apart guesses read others answers graded.2)
 
--- if there are answers at a place to two lists of entries, there are to the first
+-- if the answers at an index are those to two lists of entries, they are those to the first
 pub answers_in_front : (printing : Printing) (first : ℕ) (xs ys : List Entry) → AreAnswersAt printing first (xs ++ ys)
     → AreAnswersAt printing first xs
 answers_in_front printing first xs ys are = record {
@@ -87,7 +90,7 @@ answers_in_front printing first xs ys are = record {
   answers = rw (append_assoc xs ys are.behind) at are.answers;
 }
 
--- and to the other, behind these
+-- if the answers at an index are those to two lists of entries, those to the second list follow the first
 pub answers_behind : (printing : Printing) (first : ℕ) (xs ys : List Entry) → AreAnswersAt printing first (xs ++ ys)
     → AreAnswersAt printing (first + length xs) ys
 unfolding answers_in_front
@@ -111,7 +114,7 @@ answers_behind printing first xs ys are =
           (rw (map-append reading xs (ys ++ are.behind)) at front.answers));
     }
 
--- what a part lists, if all that it has is listed, are its entries, graded
+-- if no entry of a chunk is missing from what it lists, it lists its entries, graded
 pub part_graded : (printing : Printing) (first : ℕ) (entries : List Entry) (before faults : List (Option EntryFault))
     (answers : List Answer) (all : List GradedEntry) → AreAnswersAt printing first entries
     → before ≡ take (min first (length printing.faults.now)) printing.faults.now
@@ -125,19 +128,21 @@ part_graded printing first entries before faults answers all are passed here lef
     listed_graded (guessing printing.settings.now) entries (readings (entries ++ are.behind)) (readings are.behind) answers all
     (map-append reading entries are.behind) (rw from are.answers) (rw (← same) listed)
 
--- the graded entries of two lists, and how many they are
-pub graded_both : (printing : Printing) (xs ys : List Entry) → graded_of printing (xs ++ ys) ≡ graded_of printing xs ++ graded_of printing ys
+-- the graded entries of two lists are those of the first, followed by those of the second
+pub graded_both : (printing : Printing) (xs ys : List Entry)
+    → graded_of printing (xs ++ ys) ≡ graded_of printing xs ++ graded_of printing ys
 graded_both printing xs ys = simp map-append
 
+-- there are as many graded entries as entries
 pub graded_count : (printing : Printing) (xs : List Entry) → length (graded_of printing xs) ≡ length xs
 graded_count printing xs = simp length-map
 
--- a fact that rests on another
+-- if `A` implies that each result has `P`, each result has the property that `A` implies `P`
 pub when_ok : {X E : Type 0} (A : Type 0) (P : X → Type 0) (r : Result X E) → (A → IfOk r P) → IfOk r (λ x. A → P x)
 when_ok A P (Ok x) h = h
 when_ok A P (Err e) h = tt
 
--- if all is answered, it is so from the first place on
+-- faults and answers of all entries are those at index 0
 pub all_answered : (printing : Printing) (entries : List Entry) → length entries ≤ MOST_ENTRIES
     → printing.faults.now ≡ map fault_of (readings entries)
     → AreGraded (guessing printing.settings.now) (readings entries) printing.answers.now → AreAnswersAt printing 0 entries

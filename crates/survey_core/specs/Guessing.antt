@@ -1,7 +1,7 @@
--- How a survey guesses.
+-- How a survey guesses, by its settings.
 use Rattle.survey_text.specs.Survey.{Guessing}
 use Rattle.survey_core.specs.declared.settings.Settings.{Settings}
 
--- what a survey is asked for of guesses
+-- the limit on guesses and the pick of `settings`
 abbrev pub guessing : Settings → Guessing
 guessing settings = record { limit = settings.guesses; pick = settings.pick }

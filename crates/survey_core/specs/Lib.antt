@@ -1,4 +1,4 @@
--- The definitions that public contracts rest on; those that only private calls need are the steps.
+-- The definitions that public contracts use, and in `steps` those that only private ones use.
 pub mod Guessing
 pub mod Leaving
 pub mod Faults

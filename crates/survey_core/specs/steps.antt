@@ -1,4 +1,4 @@
--- The definitions that only private calls need.
+-- The definitions that only contracts of private functions use.
 pub mod Collected
 pub mod Dealt
 pub mod Graded

@@ -1,5 +1,5 @@
-//! Bells, by which the two ends of a lane wake one another: an end with nothing to do sleeps at its own bell,
-//! and the other end rings it.
+//! How the two ends of a lane wake each other: an end with nothing to do parks, and the other end
+//! wakes it.
 
 ghost use Rattle.std.specs.Prelude.{◌≡◌, IfOk, vec_len};
 
@@ -8,7 +8,7 @@ use std::alloc::Global;
 use std::sync::Wait;
 use std::thread::Parker;
 
-/// A bell for each of `workers` workers.
+/// Returns a parker for each of `workers` workers. Fails with `NoMemory` if an allocation does.
 pub fn worker_bells(alloc: Global, workers: usize) -> Result<Vec<Parker>, NoMemory>
     ensures { IfOk result (λ bells. vec_len bells ≡ workers) }
 {
@@ -19,14 +19,15 @@ pub fn worker_bells(alloc: Global, workers: usize) -> Result<Vec<Parker>, NoMemo
     Ok(bells)
 }
 
-/// How many answers a worker puts, at most, before it rings: half of what its ring has room for, and at least
-/// one. So the collector refills a lane while its worker grades the other half.
+/// Returns how many answers a worker puts, at most, before it wakes the collector: half of the
+/// capacity of its ring, `ring`, and at least 1. The collector then refills the lane while the
+/// worker grades the other half.
 pub fn answers_before_ringing(ring: usize) -> usize {
     (ring / 2).max(1)
 }
 
-/// The bells of a worker: its own, at which it sleeps, and the collector's, which it rings once for several
-/// answers, and for each before it sleeps or ends.
+/// The parker of a worker and that of the collector, which the worker wakes once for several
+/// answers, and before it parks or ends itself if an answer was put since.
 #[derive(Drop)]
 pub struct WorkerBells<'s> {
     own: &'s Parker,
@@ -36,7 +37,8 @@ pub struct WorkerBells<'s> {
 }
 
 impl<'s> WorkerBells<'s> {
-    /// The worker's own bell, and the collector's, which is rung once for `batch` answers.
+    /// Returns the parkers of a worker, `own`, and of the collector, which is to be woken once for
+    /// `batch` answers.
     pub fn new(own: &'s Parker, collector: &'s Parker, batch: usize) -> WorkerBells<'s> {
         WorkerBells {
             own,
@@ -46,7 +48,8 @@ impl<'s> WorkerBells<'s> {
         }
     }
 
-    /// An answer was put: rings if as many as `batch` were put since the collector's bell was last rung.
+    /// Counts an answer that was put, and wakes the collector if at least `batch` answers were put
+    /// since it was last woken.
     pub fn tell_later(&mut self) {
         self.untold = self.untold.saturating_add(1);
         if self.untold >= self.batch {
@@ -54,7 +57,7 @@ impl<'s> WorkerBells<'s> {
         }
     }
 
-    /// Rings if an answer was put since the collector's bell was last rung.
+    /// Wakes the collector if an answer was put since it was last woken.
     pub fn tell(&mut self) {
         if self.untold > 0 {
             self.untold = 0;
@@ -62,8 +65,10 @@ impl<'s> WorkerBells<'s> {
         }
     }
 
-    /// Tells what was put, and sleeps until the collector rings.
+    /// Wakes the collector if an answer was put since it was last woken, and parks until the
+    /// collector wakes this worker.
     pub fn sleep<R: Wait>(&mut self, rt: &R) {
+        // In this order: else the two could park at the same time, each waiting for the other.
         self.tell();
         self.own.park(rt);
     }

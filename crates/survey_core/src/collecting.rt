@@ -24,16 +24,17 @@ use std::thread;
 use std::thread::{Parker, Scope, Threads};
 use thiserror::Error;
 
-/// The most jobs of a collection: as many as it has entries.
+/// The greatest number of jobs: that of the entries of a collection.
 pub const MOST_JOBS: usize = MOST_ENTRIES;
 
-/// Why answers were not collected.
+/// Why collecting the answers failed.
 #[derive(Clone, Copy, Debug, PartialEq, Eq, Error)]
 pub enum CollectFault {
-    /// A growth was refused, before any thread was asked for.
+    /// An allocation failed; in `collect`, before any thread was started.
     #[error("out of memory")]
     NoMemory,
-    /// A thread was not started, whatever the cause. Each worker that was started before it has ended.
+    /// The thread of a worker could not be started, whatever the cause. The workers that were
+    /// started before it have ended.
     #[error("a thread was not started")]
     Thread,
 }
@@ -54,11 +55,15 @@ impl From<NoThread> for CollectFault {
     }
 }
 
-/// The answers to the jobs, in job order, graded by one worker for each lane, each in a thread of its own. At
-/// most 10,000 jobs, 1 to 16 lanes, and rings of a capacity from 1 to 64. The job at place k, from 0, goes to
-/// lane k modulo the number of lanes. With no jobs no thread is started. All memory but that of starting
-/// threads and of grading is taken before any thread is started, and all threads are started before the first
-/// job is sent.
+/// Grades the jobs over `lanes` lanes, each with a worker in a thread of its own and with rings of
+/// the capacity `ring`, and returns the answers in job order. There may be 0 to 10,000 jobs and 1
+/// to 16 lanes, and the capacity may be 1 to 64.
+///
+/// The job at index `k` goes to lane `k % lanes`. All memory but that for starting threads and for
+/// grading is allocated before any thread is started, and all threads are started before the first
+/// job is sent; without jobs no thread is started. Fails with `NoMemory` if an allocation before
+/// that fails, and with `Thread` if a thread can't be started. An allocation that fails while a job
+/// is graded is reported in its answer.
 pub fn collect<R: Threads + Wait + Sync, G: Gate + Sync>(
     rt: &R,
     alloc: Global,
@@ -88,7 +93,8 @@ pub fn collect<R: Threads + Wait + Sync, G: Gate + Sync>(
     collect_some(&context, jobs, usize::from(lanes), ring)
 }
 
-/// The same, over any number of jobs.
+/// Grades any number of jobs over `lanes` lanes with rings of the capacity `ring`, and returns the
+/// answers in job order.
 fn collect_some<R: Threads + Wait + Sync, G: Gate + Sync>(
     context: &LaneContext<'_, R, G>,
     jobs: Vec<Job>,
@@ -99,6 +105,7 @@ fn collect_some<R: Threads + Wait + Sync, G: Gate + Sync>(
     requires ring { (1 ≤ ring) × (ring ≤ LARGEST_RING) }
     ensures { IfOk result (λ answers. AreAnswersTo jobs.items answers.items) }
 {
+    // All lists are allocated here: once a thread was started, collecting can't fail for memory.
     let alloc = context.alloc;
     let all = Snapshot::of(&jobs);
     let count = jobs.len();
@@ -109,19 +116,22 @@ fn collect_some<R: Threads + Wait + Sync, G: Gate + Sync>(
         thread::scope_env(),
         context.rt,
         move |scope| -> Result<Vec<VecDeque<Answer, Global>>, NoThread>
-            ensures { IfOk result (λ queues. EachAnswered (waiting_jobs lists.entry.opened.items) (map (λ q. q.items) queues.items)) }
+            ensures { IfOk result (λ queues. EachAnswered
+                (waiting_jobs lists.entry.opened.items) (map (λ q. q.items) queues.items)) }
         { run_lanes(context, scope, lists) },
     )?;
     Ok(gather(&all, count, lanes, queues, gathered))
 }
 
-/// The answers of each lane, once its worker was started, and it was finished, drained and settled.
+/// Starts the workers of the lanes, takes turns at the lanes until each is complete, settles them,
+/// and returns the answers of each.
 fn run_lanes<'s, 'b: 's, E, R: Threads + Wait + Sync, G: Gate + Sync>(
     context: &'s LaneContext<'s, R, G>,
     scope: &Scope<'s, E>,
     lists: LaneLists<'b>,
 ) -> Result<Vec<VecDeque<Answer, Global>>, NoThread>
-    ensures { IfOk result (λ queues. EachAnswered (waiting_jobs lists.entry.opened.items) (map (λ q. q.items) queues.items)) }
+    ensures { IfOk result (λ queues. EachAnswered
+        (waiting_jobs lists.entry.opened.items) (map (λ q. q.items) queues.items)) }
 {
     let LaneLists {
         opened,
@@ -134,7 +144,8 @@ fn run_lanes<'s, 'b: 's, E, R: Threads + Wait + Sync, G: Gate + Sync>(
     Ok(settle_all(context.rt, complete, settled))
 }
 
-/// Starts the worker of each lane. If one is not started, those before it are stopped.
+/// Starts the worker of each lane, and returns the running lanes in the list `room`. If one can't
+/// be started, stops those before it and fails with `NoThread`.
 pub fn start_all<'s, 'b: 's, E, R: Threads + Wait + Sync, G: Gate + Sync>(
     context: &'s LaneContext<'s, R, G>,
     scope: &Scope<'s, E>,
@@ -142,7 +153,8 @@ pub fn start_all<'s, 'b: 's, E, R: Threads + Wait + Sync, G: Gate + Sync>(
     room: VecDeque<RunningLane<'b>, Global>,
 ) -> Result<VecDeque<RunningLane<'b>, Global>, NoThread>
     requires { (room.items ≡ []) × (deque_len opened ≤ deque_capacity room) }
-    ensures jobs { IfOk result (λ running. dealt_jobs running.items ≡ waiting_jobs opened.entry.items) }
+    ensures jobs { IfOk result (λ running.
+        dealt_jobs running.items ≡ waiting_jobs opened.entry.items) }
     ensures len { IfOk result (λ running. deque_len running ≡ deque_len opened.entry) }
 {
     let mut opened = opened;
@@ -159,7 +171,7 @@ pub fn start_all<'s, 'b: 's, E, R: Threads + Wait + Sync, G: Gate + Sync>(
     Ok(running)
 }
 
-/// Asks each worker to finish, and waits for it.
+/// Asks each worker to finish, and waits until its thread ends.
 pub fn stop_all<R: Threads>(rt: &R, running: VecDeque<RunningLane<'_>, Global>) {
     let mut running = running;
     'stopping: while let Some(lane) = running.pop_front() {
@@ -167,8 +179,9 @@ pub fn stop_all<R: Threads>(rt: &R, running: VecDeque<RunningLane<'_>, Global>) 
     }
 }
 
-/// Takes turns at the lanes until each is complete. After a round in which nothing could be done, the
-/// collector sleeps at its bell.
+/// Takes turns at the lanes until each is complete, and returns the complete lanes in the list
+/// `room`. After a round in which nothing was sent or taken, the collector parks until a worker
+/// wakes it.
 fn take_turns<'b, R: Wait, G>(
     context: &LaneContext<'_, R, G>,
     running: VecDeque<RunningLane<'b>, Global>,
@@ -193,7 +206,7 @@ fn take_turns<'b, R: Wait, G>(
     unreachable!()
 }
 
-/// One turn at each lane. Whether anything could be done at one.
+/// Takes one turn at each lane. Returns whether anything was sent or taken at any of them.
 fn take_round(running: &mut VecDeque<RunningLane<'_>, Global>) -> bool
     ensures jobs { dealt_jobs running.new.items ≡ dealt_jobs running.old.items }
     ensures len { deque_len running.new ≡ deque_len running.old }
@@ -207,7 +220,7 @@ fn take_round(running: &mut VecDeque<RunningLane<'_>, Global>) -> bool
     moved
 }
 
-/// One turn at one lane. Whether anything could be done at it.
+/// Takes one turn at the lane at index `place`. Returns whether anything was sent or taken.
 #[tactic(auto, using(crate::proofs::CollectedLemmas::places))]
 fn turn_at(running: &mut VecDeque<RunningLane<'_>, Global>, place: usize) -> bool
     requires { place < deque_len running.old }
@@ -218,17 +231,21 @@ fn turn_at(running: &mut VecDeque<RunningLane<'_>, Global>, place: usize) -> boo
     lane.turn()
 }
 
-/// Takes the lanes that are complete from the front, up to the first that is not.
+/// Moves complete lanes from the front of `running` to the end of `complete`, up to the first lane
+/// that is not complete.
 fn take_complete(
     running: &mut VecDeque<RunningLane<'_>, Global>,
     complete: &mut VecDeque<CompleteLane, Global>,
 )
     requires { deque_len complete.old + deque_len running.old ≤ deque_capacity complete.old }
-    ensures jobs { complete_jobs complete.new.items ++ dealt_jobs running.new.items ≡ complete_jobs complete.old.items ++
-        dealt_jobs running.old.items }
-    ensures len { deque_len complete.new + deque_len running.new ≡ deque_len complete.old + deque_len running.old }
+    ensures jobs { complete_jobs complete.new.items ++ dealt_jobs running.new.items
+        ≡ complete_jobs complete.old.items ++ dealt_jobs running.old.items }
+    ensures len { deque_len complete.new + deque_len running.new
+        ≡ deque_len complete.old + deque_len running.old }
     ensures room { deque_capacity complete.new ≡ deque_capacity complete.old }
 {
+    // Stops at the first that is not, so that the lanes keep their order, in which they are
+    // settled.
     'completing: while let Some(lane) = running.pop_front() {
         match lane.complete() {
             Ok(lane) => complete.push_back_reserved(lane),
@@ -240,7 +257,7 @@ fn take_complete(
     }
 }
 
-/// Settles the lanes, in order: the answers of each.
+/// Settles the lanes in order, and returns the answers of each in the list `room`.
 fn settle_all<R: Threads + Wait>(
     rt: &R,
     complete: VecDeque<CompleteLane, Global>,

@@ -1,5 +1,5 @@
-//! Grading entries: reading them, collecting the answers to their puzzles, and printing these beside the
-//! entries.
+//! Grading entries: reading them, collecting the answers to their puzzles, and printing the entries
+//! with these.
 
 ghost use Rattle.std.specs.Prelude.{◌≡◌, ◌≤◌, ◌+◌, ◌++◌, ℕ, List, length, map, IfOk};
 ghost use Rattle.puzzle_text.specs.Shown.{shown_entry};
@@ -21,14 +21,14 @@ use std::sync::Wait;
 use std::thread::Threads;
 use survey_text::{AnswerListing, Parts, SurveyText};
 
-/// The printing of entries that were read, with the answers to the puzzles among them.
+/// The task of printing entries that were read, with the answers to the puzzles among them.
 #[derive(Drop)]
 struct Printing<'s> {
     alloc: Global,
     settings: &'s Settings,
-    /// Each entry's fault, if it has one.
+    /// For each entry its fault, or `None` if it is a puzzle.
     faults: &'s [Option<EntryFault>],
-    /// The answers to those without.
+    /// The answers to the puzzles among the entries, in order.
     answers: &'s [Answer],
 }
 
@@ -39,6 +39,8 @@ impl<'s, 'e> Work<Entry<'e>> for Printing<'s> {
         → AreParts printing.settings.now.show (first + 1) parts (graded_of printing entries) };
 
     fn part(&self, first: usize, entries: &[Entry<'e>]) -> Result<Parts, NoMemory> {
+        // The answers for this chunk follow those to the puzzles before it. `min` keeps both splits
+        // within their lists, which the contract of `part` doesn't bound.
         let (before, faults) = self.faults.split_at(first.min(self.faults.len()));
         let answered = puzzles_among(before).min(self.answers.len());
         let (_, answers) = self.answers.split_at(answered);
@@ -52,17 +54,20 @@ impl<'s, 'e> Work<Entry<'e>> for Printing<'s> {
 
     fn both(&self, front: Parts, behind: Parts) -> Result<Parts, NoMemory>
         ensures { (first : ℕ) (xs ys : List Entry)
-            → (AreAnswersAt self.now first xs → AreParts self.now.settings.now.show (first + 1) front (graded_of self.now xs))
+            → (AreAnswersAt self.now first xs
+            → AreParts self.now.settings.now.show (first + 1) front (graded_of self.now xs))
             → (AreAnswersAt self.now (first + length xs) ys
-            → AreParts self.now.settings.now.show (first + length xs + 1) behind (graded_of self.now ys))
+            → AreParts self.now.settings.now.show (first + length xs + 1) behind
+            (graded_of self.now ys))
             → IfOk result (λ parts. AreAnswersAt self.now first (xs ++ ys)
-            → AreParts self.now.settings.now.show (first + 1) parts (graded_of self.now (xs ++ ys))) }
+            → AreParts self.now.settings.now.show (first + 1) parts
+            (graded_of self.now (xs ++ ys))) }
     {
         front.followed_by(behind)
     }
 }
 
-/// How many entries have no fault.
+/// Returns how many entries have no fault, and so are puzzles.
 fn puzzles_among(faults: &[Option<EntryFault>]) -> usize
     ensures { result ≡ puzzle_count faults.now }
 {
@@ -75,7 +80,8 @@ fn puzzles_among(faults: &[Option<EntryFault>]) -> usize
     count
 }
 
-/// The survey of entries, graded over lanes.
+/// Grades `entries`, at most 10,000, over lanes, and returns the text of their survey. Fails with
+/// `NoMemory` if an allocation does, and with `Thread` if the thread of a worker can't be started.
 pub(crate) fn survey_text<H: Threads + Wait + Sync, G: Gate + Sync>(
     rt: &H,
     alloc: Global,
@@ -84,7 +90,8 @@ pub(crate) fn survey_text<H: Threads + Wait + Sync, G: Gate + Sync>(
     gate: &G,
 ) -> Result<SurveyText, CollectFault>
     requires { length entries.now ≤ MOST_ENTRIES }
-    ensures { IfOk result (λ survey. text_of survey ≡ survey_of_list (guessing settings.now) settings.now.show (map shown_entry entries.now)) }
+    ensures { IfOk result (λ survey. text_of survey
+        ≡ survey_of_list (guessing settings.now) settings.now.show (map shown_entry entries.now)) }
 {
     let parts = parts_of(entries.len(), settings.lanes);
     let Readings { jobs, faults } = read_entries(rt, alloc, entries, settings, parts)?;

@@ -1,15 +1,15 @@
-//! Room on a thread's heap.
+//! Growing the heap of a thread in large steps.
 
 use std::alloc::Global;
 
-/// How much room is made at once, in bytes.
+/// How many bytes are allocated and freed at once.
 const ROOM: usize = 1 << 20;
 
-/// For how many growths it serves.
+/// How many calls pass from one such allocation to the next.
 const GROWTHS: usize = 32;
 
-/// Has the heap of a thread grow by much at once: by itself the C library lets each heap but the first grow by a
-/// page, and asks the system for each.
+/// Grows a thread's heap in large steps. The C library grows every heap but the first page by page,
+/// with a system call for each page.
 #[derive(Drop)]
 pub struct HeapRoom {
     alloc: Global,
@@ -17,13 +17,13 @@ pub struct HeapRoom {
 }
 
 impl HeapRoom {
-    /// No room was made yet.
+    /// Returns a `HeapRoom` that has allocated nothing yet.
     pub fn new(alloc: Global) -> HeapRoom {
         HeapRoom { alloc, growths: 0 }
     }
 
-    /// Makes room now and then, for a puzzle or an answer that is kept: what is taken and given back at once
-    /// stays with the heap. If it is refused, there is none.
+    /// Allocates and frees 1 MiB on the first call and on every 32nd after it; the memory stays
+    /// with the thread's heap. A failed allocation is ignored.
     pub fn make(&mut self) {
         if self.growths % GROWTHS == 0 {
             let _room: Result<Vec<u8>, _> = Vec::with_capacity(self.alloc, ROOM);

@@ -1,4 +1,4 @@
-//! Dealing jobs to lanes in turn, and gathering their answers in job order: the one undoes the other.
+//! Dealing jobs to lanes in turn, and interleaving the answers of the lanes back into job order.
 
 ghost use Rattle.std.specs.Prelude.{◌≡◌, ◌<◌, ◌≤◌, ℕ, [], IfOk, length, map, slice_index_or, vec_len, vec_capacity};
 ghost use Rattle.lane_core.specs.Answers.{AreAnswersTo};
@@ -10,7 +10,8 @@ use std::alloc::Global;
 use std::collections::VecDeque;
 use std::snapshot::Snapshot;
 
-/// The jobs of each lane, in order: the job at place k, from 0, goes to lane k modulo the number of lanes.
+/// Deals the jobs to `lanes` lanes in turn, and returns the jobs of each lane in order: the job at
+/// index `k` goes to lane `k % lanes`. Fails with `NoMemory` if an allocation does.
 pub fn deal_out(
     alloc: Global,
     jobs: Vec<Job>,
@@ -18,8 +19,8 @@ pub fn deal_out(
 ) -> Result<Vec<VecDeque<Job, Global>>, NoMemory>
     requires some { 0 < lanes }
     ensures lanes { IfOk result (λ queues. vec_len queues ≡ lanes) }
-    ensures dealt { IfOk result (λ queues. (k : ℕ) → k < lanes → slice_index_or (map (λ q. q.items) queues.items) k [] ≡
-        dealt jobs.items lanes k) }
+    ensures dealt { IfOk result (λ queues. (k : ℕ) → k < lanes
+        → slice_index_or (map (λ q. q.items) queues.items) k [] ≡ dealt jobs.items lanes k) }
 {
     let count = jobs.len();
     let mut queues = no_jobs(alloc, lanes, count.div_ceil(lanes))?;
@@ -34,10 +35,11 @@ pub fn deal_out(
     Ok(queues)
 }
 
-/// As many empty queues as lanes, each with room for `room` jobs.
+/// Returns an empty queue for each of `lanes` lanes, with a capacity of `room` jobs.
 fn no_jobs(alloc: Global, lanes: usize, room: usize) -> Result<Vec<VecDeque<Job, Global>>, NoMemory>
     ensures lanes { IfOk result (λ queues. vec_len queues ≡ lanes) }
-    ensures empty { IfOk result (λ queues. (k : ℕ) → slice_index_or (map (λ q. q.items) queues.items) k [] ≡ []) }
+    ensures empty { IfOk result (λ queues.
+        (k : ℕ) → slice_index_or (map (λ q. q.items) queues.items) k [] ≡ []) }
 {
     let mut queues = Vec::with_capacity(alloc, lanes)?;
     for _ in 0..lanes {
@@ -46,7 +48,7 @@ fn no_jobs(alloc: Global, lanes: usize, room: usize) -> Result<Vec<VecDeque<Job,
     Ok(queues)
 }
 
-/// An empty list with room for `count` answers.
+/// Returns an empty list with a capacity of `count` answers.
 pub fn room_for_answers(alloc: Global, count: usize) -> Result<Vec<Answer>, NoMemory>
     ensures empty { IfOk result (λ answers. answers.items ≡ []) }
     ensures room { IfOk result (λ answers. vec_capacity answers ≡ count) }
@@ -54,8 +56,9 @@ pub fn room_for_answers(alloc: Global, count: usize) -> Result<Vec<Answer>, NoMe
     Ok(Vec::with_capacity(alloc, count)?)
 }
 
-/// The answers of all lanes in job order: the next answer of each lane in turn, so that answer j of lane k
-/// goes to place k + j times the number of lanes.
+/// Returns the answers of all lanes in job order: takes the next answer of each lane in turn, so
+/// that answer `j` of lane `k` gets the index `k + j * lanes`. `gathered` is an empty list with a
+/// capacity of at least `count`, the number of jobs.
 pub fn gather(
     jobs: &Snapshot<Vec<Job>>,
     count: usize,
@@ -66,12 +69,14 @@ pub fn gather(
     requires some { 0 < lanes }
     requires lanes { vec_len queues ≡ lanes }
     requires answered { (k : ℕ) → k < lanes →
-        AreAnswersTo (dealt jobs.now.value.items lanes k) (slice_index_or (map (λ q. q.items) queues.items) k []) }
+        AreAnswersTo (dealt jobs.now.value.items lanes k)
+        (slice_index_or (map (λ q. q.items) queues.items) k []) }
     requires empty { gathered.items ≡ [] }
     requires count { count ≡ length jobs.now.value.items }
     requires room { count ≤ vec_capacity gathered }
     ensures { AreAnswersTo jobs.now.value.items result.items }
 {
+    // `gathered` comes from the caller, since nothing is to be allocated once threads were started.
     let mut queues = queues;
     let mut gathered = gathered;
     for place in 0..count {

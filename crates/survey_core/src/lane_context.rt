@@ -1,19 +1,19 @@
-//! What the threads of a collection share.
+//! The context that the threads of a collection share.
 
 use std::alloc::Global;
 use std::thread::Parker;
 
-/// What the collector and its workers share.
+/// The context that the collector and its workers share.
 #[derive(Drop)]
 pub struct LaneContext<'s, R, G> {
-    /// The runtime.
+    /// The runtime, which starts threads and lets them wait.
     pub rt: &'s R,
-    /// What grading takes its memory from.
+    /// The allocator for grading.
     pub alloc: Global,
     /// The gate that each job enters before it is graded.
     pub gate: &'s G,
-    /// The bell at which the collector sleeps.
+    /// The parker of the collector.
     pub bell: &'s Parker,
-    /// How many answers a worker puts, at most, before it rings that bell.
+    /// How many answers a worker puts, at most, before it wakes the collector.
     pub batch: usize,
 }

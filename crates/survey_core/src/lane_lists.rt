@@ -1,4 +1,4 @@
-//! The lists of a collection, which are all made before the first thread is started.
+//! The lists that collecting needs, which are all allocated before the first thread is started.
 
 ghost use Rattle.std.specs.Prelude.{◌≡◌, ◌≤◌, [], IfOk, length, map, vec_len, vec_capacity};
 ghost use Rattle.std.specs.VecDeque.{deque_len, deque_capacity};
@@ -12,19 +12,20 @@ use std::alloc::Global;
 use std::collections::VecDeque;
 use std::thread::Parker;
 
-/// The lanes of a collection, open, and lists with room for each of them in what is left of its life.
+/// The opened lanes of a collection, with empty lists for all of them in each later state.
 #[derive(Drop)]
 pub struct LaneLists<'s> {
-    /// The lanes, open.
+    /// The lanes, whose workers are not started yet.
     pub opened: VecDeque<OpenLane<'s>, Global>,
-    /// Room for the lanes whose workers run.
+    /// An empty list that holds the lanes once their workers run.
     pub running: VecDeque<RunningLane<'s>, Global>,
-    /// Room for the lanes that are complete.
+    /// An empty list that holds the lanes once they are complete.
     pub complete: VecDeque<CompleteLane, Global>,
-    /// Room for the answers of each lane.
+    /// An empty list that holds the answers of each lane once it is settled.
     pub settled: Vec<VecDeque<Answer, Global>>,
     pub ghost none_running: { (running.items ≡ []) × (deque_len opened ≤ deque_capacity running) },
-    pub ghost none_complete: { (complete.items ≡ []) × (deque_len opened ≤ deque_capacity complete) },
+    pub ghost none_complete: { (complete.items ≡ [])
+        × (deque_len opened ≤ deque_capacity complete) },
     pub ghost none_settled: { (settled.items ≡ []) × (deque_len opened ≤ vec_capacity settled) },
 }
 
@@ -33,8 +34,9 @@ impl<'s> LaneLists<'s> {
     ghost use Rattle.lane_core.specs.declared.opening.TheConstants.{LARGEST_RING};
     ghost use Rattle.survey_core.specs.steps.Collected.{waiting_jobs};
 
-    /// Opens a lane for each queue of jobs, with one of these bells for its worker, and makes the lists. The
-    /// rings have a capacity from 1 to 64.
+    /// Opens a lane for each queue of jobs, with the parker at the same index of `bells` for its
+    /// worker, and allocates the lists. `ring` is the capacity of the lanes' rings, from 1 to 64.
+    /// Fails with `NoMemory` if an allocation does.
     pub fn new(
         alloc: Global,
         queues: Vec<VecDeque<Job, Global>>,
@@ -44,7 +46,8 @@ impl<'s> LaneLists<'s> {
         requires bells { vec_len queues ≤ length bells.now }
         requires least { 1 ≤ ring }
         requires most { ring ≤ LARGEST_RING }
-        ensures { IfOk result (λ lists. waiting_jobs lists.opened.items ≡ map (λ q. q.items) queues.items) }
+        ensures { IfOk result (λ lists.
+            waiting_jobs lists.opened.items ≡ map (λ q. q.items) queues.items) }
     {
         let lanes = queues.len();
         let opened = open_lanes(alloc, queues, bells, ring)?;
@@ -60,7 +63,8 @@ impl<'s> LaneLists<'s> {
     }
 }
 
-/// Opens a lane for each queue of jobs, with the bell at its place for its worker.
+/// Opens a lane for each queue of jobs, with the parker at the same index of `bells` for its
+/// worker.
 fn open_lanes<'s>(
     alloc: Global,
     queues: Vec<VecDeque<Job, Global>>,
@@ -70,7 +74,8 @@ fn open_lanes<'s>(
     requires bells { vec_len queues ≤ length bells.now }
     requires least { 1 ≤ ring }
     requires most { ring ≤ LARGEST_RING }
-    ensures jobs { IfOk result (λ lanes. waiting_jobs lanes.items ≡ map (λ q. q.items) queues.items) }
+    ensures jobs { IfOk result (λ lanes.
+        waiting_jobs lanes.items ≡ map (λ q. q.items) queues.items) }
     ensures len { IfOk result (λ lanes. deque_len lanes ≡ vec_len queues) }
 {
     let mut lanes = VecDeque::with_capacity(alloc, queues.len())?;

@@ -1,4 +1,5 @@
-//! The life of a lane: it is open, then its worker runs, then it is complete, and in the end it is settled.
+//! The states of a lane, each a type: it is open, then its worker runs, then it is complete, and in
+//! the end it is settled.
 
 ghost use Rattle.std.specs.Prelude.{◌≡◌, ◌++◌, [], length, true};
 ghost use Rattle.lane_core.specs.Messages.{has_finish, jobs_of};
@@ -14,13 +15,14 @@ use std::snapshot::Snapshot;
 use std::sync::Wait;
 use std::thread::{Parker, PromisedHandle, Scope, Threads};
 
-/// A lane that is open, with the jobs that it was dealt, room for their answers, and the bell of its worker.
+/// An open lane whose worker is not started yet, with the jobs dealt to it, a list for their
+/// answers, and the parker of its worker.
 #[derive(Drop)]
 pub struct OpenLane<'s> {
     front: LaneFront,
     back: LaneBack,
     bell: &'s Parker,
-    /// The jobs that it was dealt, in order.
+    /// The jobs dealt to the lane, in order.
     pub waiting: VecDeque<Job, Global>,
     got: Vec<Answer>,
     pub ghost one_lane: { AreOneLane front back },
@@ -32,7 +34,9 @@ impl<'s> OpenLane<'s> {
     ghost use Rattle.std.specs.Prelude.{◌≡◌, ◌≤◌, IfOk};
     ghost use Rattle.lane_core.specs.declared.opening.TheConstants.{LARGEST_RING};
 
-    /// Opens a lane for these jobs, with room for all their answers. Its rings have a capacity from 1 to 64.
+    /// Opens a lane for the jobs `waiting`, and allocates a list for all their answers. `bell` is
+    /// the parker of its worker, and `ring` the capacity of its rings, from 1 to 64. Fails with
+    /// `NoMemory` if an allocation does.
     pub fn open(
         alloc: Global,
         waiting: VecDeque<Job, Global>,
@@ -54,7 +58,8 @@ impl<'s> OpenLane<'s> {
         })
     }
 
-    /// Starts the worker of the lane.
+    /// Starts the worker of the lane in a thread of `scope`. Fails with `NoThread` if that thread
+    /// can't be started.
     pub fn start<'t, E, R: Wait + Sync, G: Gate + Sync>(
         self,
         context: &'t LaneContext<'t, R, G>,
@@ -86,7 +91,8 @@ impl<'s> OpenLane<'s> {
     }
 }
 
-/// A lane whose worker runs, and the jobs that it was dealt.
+/// A lane whose worker runs, with the jobs that are still to be sent and the answers received so
+/// far.
 #[derive(Drop)]
 pub struct RunningLane<'s> {
     front: LaneFront,
@@ -95,7 +101,7 @@ pub struct RunningLane<'s> {
     waiting: VecDeque<Job, Global>,
     got: Vec<Answer>,
     total: usize,
-    /// The jobs that it was dealt, in order.
+    /// The jobs dealt to the lane, in order.
     pub dealt: Snapshot<VecDeque<Job, Global>>,
     pub ghost one_lane: { AreOneLane front worker.promise.0.value },
     pub ghost jobs: { jobs_of (front_lists front).sent ++ waiting.items ≡ dealt.value.items },
@@ -106,8 +112,8 @@ pub struct RunningLane<'s> {
 impl<'s> RunningLane<'s> {
     ghost use Rattle.std.specs.Prelude.{◌≡◌, MatchResult};
 
-    /// One turn at the lane, after which its worker is woken if a message was sent or an answer taken.
-    /// Whether one was.
+    /// Takes a turn at the lane: sends what its ring accepts and takes the answers that are there.
+    /// If any was sent or taken, wakes the worker and returns `true`.
     pub fn turn(&mut self) -> bool
         ensures { self.new.dealt ≡ self.old.dealt }
     {
@@ -118,9 +124,10 @@ impl<'s> RunningLane<'s> {
         moved
     }
 
-    /// The lane as one that is complete, if it is; else as it was.
+    /// Returns the lane as a complete one, or, if it isn't complete yet, as an error, unchanged.
     pub fn complete(self) -> Result<CompleteLane, RunningLane<'s>>
-        ensures { MatchResult result (λ lane. lane.dealt ≡ self.entry.dealt) (λ lane. lane.dealt ≡ self.entry.dealt) }
+        ensures { MatchResult result
+            (λ lane. lane.dealt ≡ self.entry.dealt) (λ lane. lane.dealt ≡ self.entry.dealt) }
     {
         let answered = self.waiting.is_empty() && self.got.len() == self.total;
         if !answered || !self.front.has_sent_finish() {
@@ -143,8 +150,9 @@ impl<'s> RunningLane<'s> {
         })
     }
 
-    /// Asks the worker to finish, wakes it, and waits for its end.
+    /// Asks the worker to finish, wakes it, and waits until its thread ends.
     pub fn stop<R: Threads>(self, rt: &R) {
+        // Called before any job is sent, so the ring of messages is empty and accepts the finish.
         let mut front = self.front;
         let _ = front.finish();
         self.bell.unpark();
@@ -152,14 +160,14 @@ impl<'s> RunningLane<'s> {
     }
 }
 
-/// A lane that is complete: each job that it was dealt was sent and answered, and the finish was sent, so
-/// that its worker ends.
+/// A complete lane: each job dealt to it was sent and answered, and the finish was sent, so that
+/// its worker ends.
 #[derive(Drop)]
 pub struct CompleteLane {
     front: LaneFront,
     worker: PromisedHandle<LaneBack, FinishedBackOf>,
     got: Vec<Answer>,
-    /// The jobs that it was dealt, in order.
+    /// The jobs dealt to the lane, in order.
     pub dealt: Snapshot<VecDeque<Job, Global>>,
     pub ghost one_lane: { AreOneLane front worker.promise.0.value },
     pub ghost jobs: { jobs_of (front_lists front).sent ≡ dealt.value.items },
@@ -171,8 +179,8 @@ pub struct CompleteLane {
 impl CompleteLane {
     ghost use Rattle.lane_core.specs.Answers.{AreAnswersTo};
 
-    /// Waits for the worker, and settles the lane: after `NotDrained` it takes and settles again. The answers
-    /// to the jobs, in order.
+    /// Waits until the worker ends, settles the lane, and returns the answers to its jobs, in
+    /// order.
     pub fn settle<R: Threads + Wait>(self, rt: &R) -> VecDeque<Answer, Global>
         ensures { AreAnswersTo self.dealt.value.items result.items }
     {
@@ -185,6 +193,8 @@ impl CompleteLane {
         let mut front = front;
         let mut got = got;
         let mut back = worker.join(rt);
+        // No more answers were put than jobs were sent, and as many were received: a complete lane
+        // settles at the first call. The proof doesn't use that, so the loop handles an error too.
         for _ in rt.forever() {
             match settle(front, back) {
                 Ok(()) => return VecDeque::from(got),

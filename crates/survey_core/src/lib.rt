@@ -1,5 +1,5 @@
-//! Surveys of collections: reading a collection, grading its puzzles on one thread or over lanes, and writing
-//! what is found.
+//! Surveys of collections: reading a collection, grading its puzzles over lanes or on one thread,
+//! and writing the survey.
 #![tactic(auto)]
 
 mod bells;

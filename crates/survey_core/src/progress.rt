@@ -1,4 +1,4 @@
-//! The numbers of begun entries that are told, and their line.
+//! The progress line, which reports how many entries of a survey have been begun.
 
 ghost use Rattle.std.specs.Prelude.{◌≡◌, ℕ, List, [], ◌∷◌, ◌++◌, Option, IfOk, OnOk};
 ghost use Rattle.std.specs.Io.KnownBytes.{Appends};
@@ -11,10 +11,11 @@ use std::alloc::Global;
 use std::io::Write;
 use streams::write_text;
 
-/// The bytes of the longest line: CR, four words with their spaces, and two numbers.
+/// The capacity of the buffer for the progress line, in bytes: enough for CR, four words with their
+/// spaces, and two numbers of ten digits.
 const LONGEST_LINE: usize = 48;
 
-/// Adds the line that tells the number, and how many files there are if that is known.
+/// Appends the progress line for `begun` entries, and for `files` files if that is known.
 fn push_line(text: &mut Vec<u8>, begun: u32, files: Option<u32>) -> Result<(), NoMemory>
     ensures { OnOk result (text.new.items ≡ text.old.items ++ progress_line begun files) }
 {
@@ -23,7 +24,7 @@ fn push_line(text: &mut Vec<u8>, begun: u32, files: Option<u32>) -> Result<(), N
     push_files(text, files)
 }
 
-/// Adds how many files there are, if that is known.
+/// Appends how many files there are, if that is known.
 fn push_files(text: &mut Vec<u8>, files: Option<u32>) -> Result<(), NoMemory>
     ensures { OnOk result (text.new.items ≡ text.old.items ++ files_text files) }
 {
@@ -35,7 +36,7 @@ fn push_files(text: &mut Vec<u8>, files: Option<u32>) -> Result<(), NoMemory>
     push_bytes(text, b" files")
 }
 
-/// A text that didn't go out whole.
+/// The fault that a text was not sent in full.
 #[derive(Clone, Copy)]
 pub(crate) struct Unprinted;
 
@@ -45,10 +46,12 @@ impl From<NoMemory> for Unprinted {
     }
 }
 
-/// Prints the text, and flushes. A writer that failed as often as can be counted is left alone.
+/// Writes `text` to `writer` and flushes it. Fails if the writer does.
 fn print<E: Write>(writer: &mut Counted<E>, text: &[u8]) -> Result<(), Unprinted>
-    ensures { OnOk result (Appends (E.contents writer.old.inner) (E.contents writer.new.inner) text.now) }
+    ensures { OnOk result
+        (Appends (E.contents writer.old.inner) (E.contents writer.new.inner) text.now) }
 {
+    // A further failure could not be counted, so a writer that failed this often is not called.
     if writer.faults() == u32::MAX {
         return Err(Unprinted);
     }
@@ -58,20 +61,22 @@ fn print<E: Write>(writer: &mut Counted<E>, text: &[u8]) -> Result<(), Unprinted
     }
 }
 
-/// What is told of a survey's progress, in a line that is written over itself: CR, `entries begun 200`, and
-/// of a survey of files ` of 5000 files`. An entry is begun as its grading begins, so a refused one never is.
+/// The progress of a survey, printed as a line that overwrites itself: CR, `entries begun 200`, and
+/// for a survey of files ` of 5000 files`. An entry is begun when its grading starts, so a refused
+/// one never is.
 #[derive(Drop)]
 pub struct Progress<E> {
     writer: Counted<E>,
     files: Option<u32>,
     line: Vec<u8>,
-    /// The number in the line that stands there, 0 if none stands.
+    /// The number that was printed last, or 0 if none was.
     told: u32,
 }
 
 impl<E: Write + Drop> Progress<E> {
-    /// The progress of a survey that begins, of so many files if it is one of files. All its memory is taken
-    /// here.
+    /// Returns the progress of a survey of which no entry is begun yet. `files` is the number of
+    /// files if it is a survey of files. All memory for reporting is allocated here; fails with
+    /// `NoMemory` if that fails.
     pub fn new(alloc: Global, writer: E, files: Option<u32>) -> Result<Progress<E>, NoMemory>
         ensures files { IfOk result (λ progress. progress.files ≡ files) }
         ensures nothing { IfOk result (HasTold E.contents (E.contents writer) []) }
@@ -85,11 +90,12 @@ impl<E: Write + Drop> Progress<E> {
         })
     }
 
-    /// Prints the line of a number.
+    /// Prints the progress line for `begun` entries.
     fn print_line(&mut self, begun: u32) -> Result<(), Unprinted>
         ensures files { self.new.files ≡ self.old.files }
         ensures told { self.new.told ≡ self.old.told }
-        ensures printed { OnOk result (Appends (E.contents self.old.writer.inner) (E.contents self.new.writer.inner)
+        ensures printed { OnOk result (Appends
+            (E.contents self.old.writer.inner) (E.contents self.new.writer.inner)
             (progress_line begun self.old.files)) }
     {
         self.line.clear();
@@ -97,11 +103,12 @@ impl<E: Write + Drop> Progress<E> {
         print(&mut self.writer, &self.line)
     }
 
-    /// Tells how many entries are begun, if they are more than the line says. An `Err` says that the line
-    /// didn't go out whole; nothing keeps a later one from being told.
+    /// Prints the progress line for `begun` entries, if that is more than was printed last. Fails
+    /// if the line was not sent in full; a later number may still be printed.
     pub(crate) fn tell(&mut self, begun: u32) -> Result<(), Unprinted>
         ensures files { self.new.files ≡ self.old.files }
-        ensures told { (before : Option (List ℕ)) (looks : List ℕ) → HasTold E.contents before looks self.old
+        ensures told { (before : Option (List ℕ)) (looks : List ℕ)
+            → HasTold E.contents before looks self.old
             → OnOk result (HasTold E.contents before (looks ++ begun ∷ []) self.new) }
     {
         if begun <= self.told {
@@ -112,11 +119,14 @@ impl<E: Write + Drop> Progress<E> {
         Ok(())
     }
 
-    /// Tells the last number, and ends the line, also if the number didn't go out. Prints nothing if no entry
-    /// was begun.
+    /// Prints the final number, if it is more than was printed last, and then LF, even if the
+    /// number could not be printed. Prints nothing if no entry was begun. Fails if anything was not
+    /// sent in full.
     pub(crate) fn end(&mut self, begun: u32) -> Result<(), Unprinted>
-        ensures { (before : Option (List ℕ)) (looks : List ℕ) → HasTold E.contents before looks self.old
-            → OnOk result (Appends before (E.contents self.new.writer.inner) (progress_text self.old.files looks begun)) }
+        ensures { (before : Option (List ℕ)) (looks : List ℕ)
+            → HasTold E.contents before looks self.old
+            → OnOk result (Appends before (E.contents self.new.writer.inner)
+            (progress_text self.old.files looks begun)) }
     {
         let told = self.tell(begun);
         if begun == 0 {

@@ -1,4 +1,4 @@
-//! The gate that counts the jobs that enter, and the thread that tells how many they are.
+//! The gate that counts the jobs that enter it, and the thread that reports their number.
 
 ghost use Rattle.std.specs.Prelude.{◌≡◌};
 
@@ -11,10 +11,11 @@ use std::thread;
 use std::thread::{Parker, Scope, Threads};
 use std::time::Duration;
 
-/// How many milliseconds a number stands, at least: ten are told in a second at most.
+/// How long the reporting thread pauses between two numbers, in milliseconds. It prints at most ten
+/// in a second.
 const PAUSE: u64 = 100;
 
-/// A gate that counts the jobs as they enter, and holds none of them up.
+/// A gate that counts the jobs as they enter, and delays none of them.
 #[derive(Drop)]
 pub struct ProgressGate {
     begun: AtomicU32,
@@ -23,7 +24,7 @@ pub struct ProgressGate {
 }
 
 impl ProgressGate {
-    /// A gate that no job has entered yet.
+    /// Returns a gate that no job has entered yet.
     pub fn new() -> ProgressGate {
         ProgressGate {
             begun: AtomicU32::new(0),
@@ -32,7 +33,8 @@ impl ProgressGate {
         }
     }
 
-    /// No job enters any more: the thread that tells is woken, and ends.
+    /// Closes the gate, which no job enters afterwards, and wakes the reporting thread, which then
+    /// ends.
     fn close(&self) {
         self.has_ended.store(true, Ordering::SeqCst);
         self.bell.unpark();
@@ -45,11 +47,12 @@ impl Gate for ProgressGate {
     }
 }
 
-/// Tells how many jobs have entered until the gate is closed, and then the last number.
+/// Reports how many jobs have entered `gate` until that is closed, and then the final number.
 fn tell_until_closed<R: Wait, E: Write + Drop>(rt: &R, gate: &ProgressGate, progress: Progress<E>) {
     let mut progress = progress;
     for _ in rt.forever() {
         gate.bell.park_timeout(rt, Duration::from_millis(PAUSE));
+        // In this order: if the gate is closed, no job enters any more, and `begun` is final.
         let has_ended = gate.has_ended.load(Ordering::SeqCst);
         let begun = gate.begun.load(Ordering::SeqCst);
         if has_ended {
@@ -60,8 +63,9 @@ fn tell_until_closed<R: Wait, E: Write + Drop>(rt: &R, gate: &ProgressGate, prog
     }
 }
 
-/// Work for the closure of a scope. Of what a closure writes through a `&mut` a scope says nothing, so the
-/// closure holds a value of a type parameter, whose call says it.
+/// A call to be made in the closure of a scope. The contract of a scope doesn't cover what its
+/// closure writes through a `&mut`. Therefore the closure holds a value of a type parameter that
+/// implements this trait, and the contract of `run` covers it.
 trait Task {
     type Output;
 
@@ -74,7 +78,7 @@ trait Task {
         ensures { run_gives self result };
 }
 
-/// A closure that is lent.
+/// A mutably borrowed closure, as a `Task`.
 #[derive(Drop)]
 struct Lent<'a, F> {
     work: &'a mut F,
@@ -85,7 +89,8 @@ impl<'a, F: FnMut() -> A, A> Task for Lent<'a, F> {
 
     ghost can_run = { λ task. F.pre task.work.now };
 
-    ghost run_gives = { λ task done. (done.0.ghost_name ≡ task.work.ghost_name) × F.step task.work.now done.1 done.0.now };
+    ghost run_gives = { λ task done. (done.0.ghost_name ≡ task.work.ghost_name)
+        × F.step task.work.now done.1 done.0.now };
 
     fn run(self) -> (&'a mut F, A) {
         let Lent { work } = self;
@@ -94,7 +99,8 @@ impl<'a, F: FnMut() -> A, A> Task for Lent<'a, F> {
     }
 }
 
-/// Does the task, and meanwhile tells in a thread of this scope how many jobs have entered the gate.
+/// Runs `task` and returns its result, while a thread of `scope` reports how many jobs have entered
+/// `gate`.
 fn run_told<'s, S, R: Wait + Sync, E: Write + Drop + Send + 's, T: Task<Output = A> + Drop, A>(
     scope: &Scope<'s, S>,
     rt: &'s R,
@@ -105,13 +111,15 @@ fn run_told<'s, S, R: Wait + Sync, E: Write + Drop + Send + 's, T: Task<Output =
     requires { T.can_run task }
     ensures { T.run_gives task result }
 {
+    // If the thread can't be started, nothing is reported, and the task runs all the same.
     let _telling = scope.spawn(move || tell_until_closed(rt, gate, progress));
     let done = task.run();
     gate.close();
     done
 }
 
-/// Does the task, and meanwhile tells how many jobs have entered the gate.
+/// Runs `task` and returns its result, while a thread, in a scope that lasts as long, reports how
+/// many jobs have entered `gate`.
 fn run_in_scope<R: Threads + Wait + Sync, E: Write + Drop + Send, T: Task<Output = A> + Drop, A>(
     rt: &R,
     gate: &ProgressGate,
@@ -131,15 +139,17 @@ fn run_in_scope<R: Threads + Wait + Sync, E: Write + Drop + Send, T: Task<Output
     )
 }
 
-/// Does nothing, but ties what is given back to what was lent.
+/// Has no effect. Ends the borrow `work` with the value that it has, so that the proof can relate
+/// the closure after the call to the one that was lent.
 fn take_back<F>(work: &mut F)
     ensures { work.new ≡ work.old }
 {}
 
 impl<E: Write + Drop + Send> Progress<E> {
-    /// Does the work, and meanwhile tells how many jobs have entered the gate, in a thread of its own: at
-    /// most ten numbers in a second, each greater than that before, and at the end the last one and LF. If
-    /// the thread can't be started, nothing is told.
+    /// Calls `work` and returns its result, while a thread of its own reports how many jobs have
+    /// entered `gate`: at most ten numbers in a second, each greater than the one before, and at
+    /// the end, if any job entered, the final number and LF. If the thread can't be started,
+    /// nothing is reported.
     pub fn tell_while<R: Threads + Wait + Sync, F: FnMut() -> A, A>(
         self,
         rt: &R,

@@ -1,4 +1,4 @@
-//! Reading entries.
+//! Reading the puzzles of entries, in chunks.
 
 ghost use Rattle.std.specs.Prelude.{◌≡◌, ◌<◌, ◌≤◌, ◌+◌, ◌^◌, ◌∷◌, [], ◌++◌, ℕ, List, length, map, vec_len, IfOk, OnOk};
 ghost use Rattle.puzzle_text.specs.declared.collections.Entry.{Entry};
@@ -14,18 +14,19 @@ use puzzle_text::{Entry, EntryFault, MOST_ENTRIES, TextFault, read_entry};
 use std::alloc::Global;
 use std::thread::Threads;
 
-/// What reading entries gives: the jobs of those that are puzzles, and for each entry its fault, if it has
-/// one.
+/// The result of reading entries: the jobs of those that are puzzles, and for each entry its fault,
+/// if it has one.
 #[derive(Drop)]
 pub(crate) struct Readings {
     /// The jobs of the entries that are puzzles, in order.
     pub jobs: Vec<Job>,
-    /// Each entry's fault, if it has one.
+    /// For each entry its fault, or `None` if it is a puzzle.
     pub faults: Vec<Option<EntryFault>>,
 }
 
 impl Readings {
-    /// Reads an entry, and adds its job or its fault.
+    /// Reads `entry`, and appends its job, which has the number `number`, or its fault. Fails with
+    /// `NoMemory` if an allocation does.
     fn add(
         &mut self,
         alloc: Global,
@@ -33,10 +34,12 @@ impl Readings {
         number: u32,
         settings: &Settings,
     ) -> Result<(), NoMemory>
-        ensures jobs { OnOk result (map shown_job self.new.jobs.items ≡ map shown_job self.old.jobs.items ++
-            job_of (guessing settings.now) number (reading entry.now)) }
+        ensures jobs { OnOk result (map shown_job self.new.jobs.items
+            ≡ map shown_job self.old.jobs.items
+            ++ job_of (guessing settings.now) number (reading entry.now)) }
         ensures few { OnOk result (vec_len self.new.jobs ≤ vec_len self.old.jobs + 1) }
-        ensures faults { OnOk result (self.new.faults.items ≡ self.old.faults.items ++ fault_of (reading entry.now) ∷ []) }
+        ensures faults { OnOk result (self.new.faults.items
+            ≡ self.old.faults.items ++ fault_of (reading entry.now) ∷ []) }
     {
         match read_entry(alloc, entry) {
             Ok(puzzle) => {
@@ -44,17 +47,21 @@ impl Readings {
                     .push(Job::new(number, puzzle, settings.guesses, settings.pick))?;
                 self.faults.push(None)?;
             }
+            // A failed allocation is no fault of the entry: it makes the whole call fail.
             Err(EntryFault::Text(TextFault::NoMemory)) => return Err(NoMemory),
             Err(fault) => self.faults.push(Some(fault))?,
         }
         Ok(())
     }
 
-    /// Adds what was read of the entries behind these.
+    /// Appends the result of reading the entries that follow.
     fn append(&mut self, behind: Readings) -> Result<(), NoMemory>
-        ensures jobs { OnOk result (self.new.jobs.items ≡ self.old.jobs.items ++ behind.jobs.items) }
-        ensures few { OnOk result (vec_len self.new.jobs ≡ vec_len self.old.jobs + vec_len behind.jobs) }
-        ensures faults { OnOk result (self.new.faults.items ≡ self.old.faults.items ++ behind.faults.items) }
+        ensures jobs { OnOk result
+            (self.new.jobs.items ≡ self.old.jobs.items ++ behind.jobs.items) }
+        ensures few { OnOk result
+            (vec_len self.new.jobs ≡ vec_len self.old.jobs + vec_len behind.jobs) }
+        ensures faults { OnOk result
+            (self.new.faults.items ≡ self.old.faults.items ++ behind.faults.items) }
     {
         let Readings { jobs, faults } = behind;
         let mut jobs = jobs;
@@ -65,7 +72,7 @@ impl Readings {
     }
 }
 
-/// The reading of entries.
+/// The task of reading entries.
 #[derive(Drop)]
 struct Reading<'s> {
     alloc: Global,
@@ -75,14 +82,16 @@ struct Reading<'s> {
 impl<'s, 'e> Work<Entry<'e>> for Reading<'s> {
     type Output = Readings;
 
-    ghost gives = { λ reading first entries read. IsReadingOf (guessing reading.settings.now) (first + 1) entries read };
+    ghost gives = { λ reading first entries read.
+        IsReadingOf (guessing reading.settings.now) (first + 1) entries read };
 
     fn part(&self, first: usize, entries: &[Entry<'e>]) -> Result<Readings, NoMemory> {
         read_part(self.alloc, entries, first as u32 + 1, self.settings)
     }
 
     fn both(&self, front: Readings, behind: Readings) -> Result<Readings, NoMemory>
-        ensures { (first : ℕ) (xs ys : List Entry) → IsReadingOf (guessing self.now.settings.now) (first + 1) xs front
+        ensures { (first : ℕ) (xs ys : List Entry)
+            → IsReadingOf (guessing self.now.settings.now) (first + 1) xs front
             → IsReadingOf (guessing self.now.settings.now) (first + length xs + 1) ys behind
             → IfOk result (IsReadingOf (guessing self.now.settings.now) (first + 1) (xs ++ ys)) }
     {
@@ -92,8 +101,9 @@ impl<'s, 'e> Work<Entry<'e>> for Reading<'s> {
     }
 }
 
-/// Reads entries, in so many parts at the same time. A job has its entry's number, from 1; a refused entry
-/// makes no job.
+/// Reads `entries`, at most 10,000, in `parts` chunks at the same time. A job has the number of its
+/// entry, from 1; a refused entry has a number, but no job. Fails with `NoMemory` if an allocation
+/// does.
 pub(crate) fn read_entries<R: Threads + Sync>(
     rt: &R,
     alloc: Global,
@@ -107,7 +117,7 @@ pub(crate) fn read_entries<R: Threads + Sync>(
     in_parts(rt, &Reading { alloc, settings }, entries, parts)
 }
 
-/// Reads entries, the first of which has this number.
+/// Reads `entries`, which are numbered from `first`.
 fn read_part(
     alloc: Global,
     entries: &[Entry<'_>],
@@ -123,6 +133,7 @@ fn read_part(
     };
     let mut room = HeapRoom::new(alloc);
     for (place, entry) in entries.iter().enumerate() {
+        // The puzzle that is read stays on this thread's heap.
         room.make();
         read.add(alloc, entry, first + place as u32, settings)?;
     }

@@ -1,4 +1,4 @@
-//! What a survey is asked for.
+//! The settings of a survey, with their limits and defaults.
 
 ghost use Rattle.std.specs.Prelude.{◌≤◌};
 ghost use Rattle.lane_core.specs.declared.jobs.TheConstants.{MOST_GUESSES};
@@ -6,33 +6,33 @@ ghost use Rattle.survey_core.specs.declared.settings.TheConstants.{LARGEST_RING,
 
 use solve_core::Pick;
 
-/// The most lanes of a collection.
+/// The greatest number of lanes.
 pub const MOST_LANES: u16 = 16;
 
 /// The greatest capacity of a lane's rings, in messages and in answers.
 pub const LARGEST_RING: u16 = lane_core::LARGEST_RING as u16;
 
-/// How many lanes there are if nothing else is asked for.
+/// The default number of lanes.
 pub const DEFAULT_LANES: u16 = 4;
 
-/// The capacity of a lane's rings if nothing else is asked for.
+/// The default capacity of a lane's rings, in messages and in answers.
 pub const DEFAULT_RING: u16 = 8;
 
-/// The limit on the guesses for a puzzle if nothing else is asked for.
+/// The default limit on the guesses for a puzzle.
 pub const DEFAULT_GUESSES: u32 = 1_000;
 
-/// What a survey is asked for. Each setting lies in its range, which the type keeps.
+/// The settings of a survey. The type's invariant is that each is in its range.
 #[derive(Clone, Copy, Debug, PartialEq, Eq)]
 pub struct Settings {
     /// How many lanes grade at the same time: 1 to 16.
     pub lanes: u16,
-    /// How many messages, and how many answers, a lane's rings hold: 1 to 64.
+    /// The capacity of each lane's rings, in messages and in answers: 1 to 64.
     pub ring: u16,
-    /// The most guesses for a puzzle: 0 to 1,000,000.
+    /// The greatest number of guesses for a puzzle: 0 to 1,000,000.
     pub guesses: u32,
     /// The rule for the cell of the next guess.
     pub pick: Pick,
-    /// Whether the solutions are shown.
+    /// Whether the solutions are printed.
     pub show: bool,
     pub ghost lanes_in_range: { (1 ≤ lanes) × (lanes ≤ MOST_LANES) },
     pub ghost ring_in_range: { (1 ≤ ring) × (ring ≤ LARGEST_RING) },

@@ -1,4 +1,4 @@
-//! The survey of a collection, and of entries in hand.
+//! Writing the survey of a collection, or of a list of entries.
 
 ghost use Rattle.std.specs.Prelude.{◌≡◌, ◌+◌, ◌-◌, ◌^◌, ◌<◌, ◌≤◌, ◌↔◌, ◌⊎◌, length, map, Err, IfErr, IfSome, OnOk, IsErrOf};
 ghost use Rattle.std.specs.Io.KnownBytes.{IsAtEnd, Keeps};
@@ -19,7 +19,7 @@ use std::sync::Wait;
 use std::thread::Threads;
 use streams::{ReadFault, read_within};
 
-/// Writes the survey of entries, graded over lanes.
+/// Grades `entries` over lanes, and writes their survey and nothing else to `writer`.
 fn write_survey<H: Threads + Wait + Sync, W: Write, G: Gate + Sync>(
     rt: &H,
     alloc: Global,
@@ -30,7 +30,10 @@ fn write_survey<H: Threads + Wait + Sync, W: Write, G: Gate + Sync>(
 ) -> Result<(), RunFault>
     requires few { length entries.now ≤ MOST_ENTRIES }
     requires writing { fault_count writer.old < 2 ^ 32 - 1 }
-    ensures answer { Leaves (Ok (survey_of_list (guessing settings.now) settings.now.show (map shown_entry entries.now))) result
+    ensures answer { Leaves
+        (Ok (survey_of_list
+        (guessing settings.now) settings.now.show (map shown_entry entries.now)))
+        result
         (W.contents writer.old.inner) (W.contents writer.new.inner) }
     ensures write { IsErrWrite result ↔ (fault_count writer.old < fault_count writer.new) }
     ensures no_read { IsErrOf result RunFault.Read → ⊥ }
@@ -41,13 +44,14 @@ fn write_survey<H: Threads + Wait + Sync, W: Write, G: Gate + Sync>(
     }
 }
 
-/// Reads a collection to its end, and writes its survey and nothing else.
+/// Reads a collection from `reader` to its end, grades its puzzles over lanes, and writes its
+/// survey and nothing else to `writer`.
 ///
-/// The survey has the text of each entry, numbered from 1, and the line of totals. `Read` if the reader
-/// failed; `Collection` if the collection is refused; `Thread` if a thread was not started; `NoMemory` if a
-/// growth of memory was refused anywhere; `Write` if the writer failed or took nothing, with the number of
-/// bytes of the survey that went out. All faults but `Write` leave nothing written. At most 16,777,217 bytes
-/// are read.
+/// The survey consists of the text of each entry, numbered from 1, and the line of totals. At most
+/// 16,777,217 bytes are read. Fails with `Read` if the reader fails, `Collection` if the collection
+/// is refused, `Thread` if a thread can't be started, `NoMemory` if an allocation fails anywhere,
+/// and `Write`, with the number of bytes of the survey that were sent, if the writer fails or
+/// accepts nothing. With any fault but `Write` nothing is written.
 pub fn run_survey<H: Threads + Wait + Sync, R: Read, W: Write, G: Gate + Sync>(
     rt: &H,
     alloc: Global,
@@ -58,17 +62,21 @@ pub fn run_survey<H: Threads + Wait + Sync, R: Read, W: Write, G: Gate + Sync>(
 ) -> Result<(), RunFault>
     requires reading { fault_count reader.old < 2 ^ 32 - 1 }
     requires writing { fault_count writer.old < 2 ^ 32 - 1 }
-    ensures bound { ReadsWithin (LONGEST_COLLECTION + 1) (R.remaining reader.old.inner) (R.remaining reader.new.inner) }
+    ensures bound { ReadsWithin (LONGEST_COLLECTION + 1)
+        (R.remaining reader.old.inner) (R.remaining reader.new.inner) }
     ensures ended { OnOk result (IsAtEnd (R.remaining reader.new.inner)) }
     ensures answer { IfSome (R.remaining reader.old.inner) (λ input.
-        Leaves (survey_of (guessing settings.now) settings.now.show input) result (W.contents writer.old.inner)
-        (W.contents writer.new.inner)) }
+        Leaves (survey_of (guessing settings.now) settings.now.show input) result
+        (W.contents writer.old.inner) (W.contents writer.new.inner)) }
 
-    // The faults of the reader and the writer, and of no other.
-    ensures read { IsErrOf result RunFault.Read ↔ (fault_count reader.old < fault_count reader.new) }
+    // `Read` and `Write` are returned exactly if the reader or the writer failed.
+    ensures read { IsErrOf result RunFault.Read
+        ↔ (fault_count reader.old < fault_count reader.new) }
     ensures write { IsErrWrite result ↔ (fault_count writer.old < fault_count writer.new) }
-    ensures unwritten { IfErr result (λ fault. IsWrite fault ⊎ Keeps (W.contents writer.old.inner) (W.contents writer.new.inner)) }
+    ensures unwritten { IfErr result (λ fault. IsWrite fault
+        ⊎ Keeps (W.contents writer.old.inner) (W.contents writer.new.inner)) }
 {
+    // One byte more than the limit, by which `entries` detects a collection that is too long.
     let collection = match read_within(alloc, reader, LONGEST_COLLECTION + 1) {
         Ok(collection) => collection,
         Err(ReadFault::Read) => return Err(RunFault::Read),
@@ -81,8 +89,9 @@ pub fn run_survey<H: Threads + Wait + Sync, R: Read, W: Write, G: Gate + Sync>(
     }
 }
 
-/// Writes the survey of entries in hand and nothing else, as `run_survey` does. `Collection(TooMany)` if
-/// there are over 10,000; else perhaps `Thread`, `NoMemory` or `Write`.
+/// Grades `entries` over lanes, and writes their survey and nothing else to `writer`, in the form
+/// of `run_survey`. Fails with `Collection(TooMany)` if there are more than 10,000, and otherwise
+/// with `Thread`, `NoMemory` or `Write` as `run_survey` does.
 pub fn survey_entries<H: Threads + Wait + Sync, W: Write, G: Gate + Sync>(
     rt: &H,
     alloc: Global,
@@ -92,10 +101,14 @@ pub fn survey_entries<H: Threads + Wait + Sync, W: Write, G: Gate + Sync>(
     gate: &G,
 ) -> Result<(), RunFault>
     requires { fault_count writer.old < 2 ^ 32 - 1 }
-    ensures answer { Leaves (survey_of_entries (guessing settings.now) settings.now.show (map shown_entry entries.now)) result
+    ensures answer { Leaves
+        (survey_of_entries
+        (guessing settings.now) settings.now.show (map shown_entry entries.now))
+        result
         (W.contents writer.old.inner) (W.contents writer.new.inner) }
-    // `NoMemory` never stands in place of this fault.
-    ensures too_many { MOST_ENTRIES < length entries.now → result ≡ Err (RunFault.Collection CollectionFault.TooMany) }
+    // `NoMemory` is never returned in place of this fault.
+    ensures too_many { MOST_ENTRIES < length entries.now
+        → result ≡ Err (RunFault.Collection CollectionFault.TooMany) }
     ensures write { IsErrWrite result ↔ (fault_count writer.old < fault_count writer.new) }
     ensures no_read { IsErrOf result RunFault.Read → ⊥ }
 {

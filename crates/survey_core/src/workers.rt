@@ -13,16 +13,18 @@ use std::snapshot::Snapshot;
 use std::sync::Wait;
 use std::thread::{Parker, Promise, PromisedHandle, Scope};
 
-/// The promise that a worker hands back the end of its own lane, with the finish taken.
+/// The promise that a worker returns the back of its own lane, with the finish taken.
 #[derive(Drop)]
 pub struct FinishedBackOf(Snapshot<LaneBack>);
 
 impl Promise<LaneBack> for FinishedBackOf {
-    ghost kept_by = { λ promise back. SameBack promise.0.value back × IsFinished (back_lists back) };
+    ghost kept_by = { λ promise back.
+        SameBack promise.0.value back × IsFinished (back_lists back) };
 }
 
-/// Steps until the finish is taken. After a step that finds nothing to do, the worker sleeps; before it does,
-/// and before it ends, the collector is told of what was put.
+/// Takes steps at the lane's back until the finish is taken, and returns the back. After a step
+/// that could do nothing, the worker parks. It wakes the collector once for several answers, and
+/// for those put since before it parks or ends.
 pub fn run_worker<R: Wait, G: Gate>(
     rt: &R,
     alloc: Global,
@@ -40,6 +42,7 @@ pub fn run_worker<R: Wait, G: Gate>(
         match back.step(alloc, gate) {
             Step::Graded => {
                 bells.tell_later();
+                // Answers stay on this thread's heap until the survey is printed.
                 room.make();
             }
             Step::Idle | Step::Waiting => bells.sleep(rt),
@@ -52,11 +55,13 @@ pub fn run_worker<R: Wait, G: Gate>(
     unreachable!()
 }
 
-/// No thread could be started.
+/// The fault that a thread could not be started.
 #[derive(Clone, Copy, Debug)]
 pub struct NoThread;
 
-/// Starts the worker of a lane, which sleeps at this bell.
+/// Starts the worker of a lane, whose parker is `bell`, in a thread of `scope`. Returns the handle
+/// of the thread, which promises the lane's back. Fails with `NoThread` if the thread can't be
+/// started.
 pub fn start_worker<'s, E, R: Wait + Sync, G: Gate + Sync>(
     context: &'s LaneContext<'s, R, G>,
     scope: &Scope<'s, E>,
@@ -66,6 +71,8 @@ pub fn start_worker<'s, E, R: Wait + Sync, G: Gate + Sync>(
     ensures { IfOk result (λ worker. worker.promise.0.value ≡ back) }
 {
     let promise = FinishedBackOf(Snapshot::of(&back));
+    // The closure captures plain references: one that captured `context`, whose type has a
+    // lifetime, would ensure nothing of its result.
     let (rt, alloc, gate) = (context.rt, context.alloc, context.gate);
     let (collector, batch) = (context.bell, context.batch);
     match scope.spawn_with(promise, move || {

@@ -1,4 +1,5 @@
-//! The printed bytes of surveys, and that their puzzles are graded at the same time.
+//! Tests of the bytes that surveys print, of surveys that grade puzzles at the same time, and of
+//! the sentences of faults.
 
 use crate::tests_samples::{NOTHING, TEN, TEN_SHOWN, TEN_SURVEY, settings};
 use lane_core::{Gate, Job, OpenGate, grade};
@@ -16,7 +17,7 @@ use std::test::Fail;
 use std::thread::Threads;
 use survey_core::*;
 
-/// What a survey of a collection answers and prints.
+/// Surveys a collection. Returns the result and the bytes that are written.
 pub(crate) fn surveyed<R: Threads + Wait + Sync + AllocGlobal, G: Gate + Sync>(
     rt: &R,
     collection: &[u8],
@@ -29,7 +30,7 @@ pub(crate) fn surveyed<R: Threads + Wait + Sync + AllocGlobal, G: Gate + Sync>(
     (outcome, output.inner)
 }
 
-/// What a survey of a collection's entries prints.
+/// Surveys the entries of a collection. Returns the bytes that are written.
 pub(crate) fn surveyed_entries<R: Threads + Wait + Sync + AllocGlobal, G: Gate + Sync>(
     rt: &R,
     collection: &[u8],
@@ -42,7 +43,7 @@ pub(crate) fn surveyed_entries<R: Threads + Wait + Sync + AllocGlobal, G: Gate +
     Ok(output.inner)
 }
 
-/// Asserts what a survey of a collection answers and prints.
+/// Asserts that the survey of a collection returns `wanted` and writes `text`.
 pub(crate) fn assert_survey(
     rt: &(impl Threads + Wait + Sync + Abort + AllocGlobal),
     collection: &[u8],
@@ -70,7 +71,7 @@ fn surveys_ten_entries(rt: HostRuntime) {
     }
 }
 
-/// A line, `count` times over.
+/// Returns `line` repeated `count` times.
 pub(crate) fn repeated(alloc: Global, line: &[u8], count: usize) -> Result<Vec<u8>, Fail> {
     let mut text = Vec::new(alloc);
     for _ in 0..count {
@@ -79,7 +80,7 @@ pub(crate) fn repeated(alloc: Global, line: &[u8], count: usize) -> Result<Vec<u
     Ok(text)
 }
 
-/// How the survey of the most entries ends, each of them refused.
+/// The end of a survey of 10,000 entries, each of which is refused.
 const MOST_REFUSED: &[u8] = b"10000 refused NoSize a.mk\n\
     entries 10000 refused 10000 none 0 one 0 several 0 unsettled 0 line 0 trials 0 search 0\n";
 
@@ -102,7 +103,7 @@ fn largest_collections_pass(rt: HostRuntime) -> Result<(), Fail> {
     Ok(())
 }
 
-/// What becomes of an entry, graded with at most two guesses.
+/// Returns the outcome of an entry, graded with at most two guesses.
 fn outcome_of(alloc: Global, number: u32, entry: &Entry<'_>) -> Result<Outcome, Fail> {
     let name = Vec::from_slice(alloc, entry.name)?;
     let result = match read_entry(alloc, entry) {
@@ -112,7 +113,7 @@ fn outcome_of(alloc: Global, number: u32, entry: &Entry<'_>) -> Result<Outcome, 
     Ok(Outcome { name, result })
 }
 
-/// What becomes of each entry of a collection.
+/// Returns the outcome of each entry of a collection, graded with at most two guesses.
 fn outcomes_of(alloc: Global, collection: &[u8]) -> Result<Vec<Outcome>, Fail> {
     let mut outcomes = Vec::new(alloc);
     for (entry, number) in entries(alloc, collection)?.iter().zip(1u32..) {
@@ -121,7 +122,7 @@ fn outcomes_of(alloc: Global, collection: &[u8]) -> Result<Vec<Outcome>, Fail> {
     Ok(outcomes)
 }
 
-/// The survey of a collection, graded on one thread with at most two guesses.
+/// Returns the survey of a collection, graded on one thread with at most two guesses.
 pub(crate) fn one_thread_survey(
     alloc: Global,
     collection: &[u8],
@@ -134,9 +135,10 @@ pub(crate) fn one_thread_survey(
     Ok(print_survey(alloc, &outcomes, show)?)
 }
 
-/// The sixth of ten entries, graded with at most two guesses, with its solutions shown.
+/// The text of the sixth entry of `TEN`, graded with at most two guesses, with its solutions.
 const SIXTH_SHOWN: &[u8] = b"6 2x2 several search 0 0 2 absent two.mk\n#.\n.#\n\n.#\n#.\n\n";
 
+/// Returns what `print_entry` returns for the sixth entry of `TEN`, with its solutions.
 fn sixth_shown(alloc: Global) -> Result<Vec<u8>, Fail> {
     let outcomes = outcomes_of(alloc, TEN.as_bytes())?;
     Ok(print_entry(alloc, 6, outcomes.get(5).ok_or("entry")?, true)?)
@@ -152,8 +154,10 @@ fn prints_ten_entries(rt: HostRuntime) -> Result<(), Fail> {
     Ok(())
 }
 
+/// The text of a refused entry, number 3, whose name has three control characters.
 const REFUSED_ENTRY: &[u8] = b"3 refused BadNumber:2 bad??? .mk\n";
 
+/// The survey of one refused entry whose name has three control characters.
 const REFUSED_SURVEY: &[u8] = b"1 refused BadNumber:2 bad??? .mk\n\
     entries 1 refused 1 none 0 one 0 several 0 unsettled 0 line 0 trials 0 search 0\n";
 
@@ -180,6 +184,7 @@ struct Pair {
 impl Gate for Pair {
     fn enter(&self, number: u32) {
         self.entered.fetch_add(number, Ordering::SeqCst);
+        // Bounded, so that the test fails, and does not hang, if only one job is graded at a time.
         for _ in 0..100_000_000u32 {
             if self.entered.load(Ordering::SeqCst) == 3 {
                 self.saw_both.fetch_add(1, Ordering::SeqCst);
@@ -189,8 +194,10 @@ impl Gate for Pair {
     }
 }
 
+/// A collection of two entries, whose puzzles are the jobs 1 and 2.
 const PAIR: &str = "@ one.mk\n1 1\n0\n#\n0\n@ clash.mk\n1 1\n1\n#\n0\n";
 
+/// Returns a gate that no job has entered.
 fn pair_gate() -> Pair {
     Pair {
         entered: AtomicU32::new(0),
@@ -217,7 +224,7 @@ fn surveys_of_entries_grade_at_the_same_time(rt: HostRuntime) -> Result<(), Fail
     Ok(())
 }
 
-/// Asserts that each fault is told by its sentence.
+/// Asserts that each fault is displayed as its sentence.
 fn assert_told<F: Display>(
     rt: &(impl Abort + AllocGlobal),
     sentences: &[(F, &str)],

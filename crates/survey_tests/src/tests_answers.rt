@@ -1,4 +1,4 @@
-//! The answers to puzzles that were worked out by hand.
+//! Tests of the answers to puzzles that were solved by hand.
 
 use crate::tests_samples::TEN;
 use grid_core::GoalWord;
@@ -10,8 +10,8 @@ use std::process::Abort;
 use std::test::Fail;
 use survey_core::collect_one;
 
-/// Of each puzzle among the ten entries: its number, its grade, the guesses spent, and what is said of its
-/// goal.
+/// For each puzzle among the entries of `TEN`: its number, its grade, the guesses spent, and the
+/// word for its goal.
 const EIGHT: [(u32, Grade, u32, GoalWord); 8] = [
     (1, Grade::Lines, 0, GoalWord::Absent),
     (2, Grade::Lines, 0, GoalWord::Absent),
@@ -23,7 +23,8 @@ const EIGHT: [(u32, Grade, u32, GoalWord); 8] = [
     (10, Grade::Lines, 0, GoalWord::Misses),
 ];
 
-/// The jobs of the puzzles among the ten entries, with their numbers and 1,000 guesses.
+/// Returns a job for each puzzle among the entries of `TEN`, with the number of its entry and a
+/// limit of 1,000 guesses.
 pub(crate) fn eight_jobs(alloc: Global) -> Result<Vec<Job>, Fail> {
     let mut jobs = Vec::new(alloc);
     for (entry, number) in entries(alloc, TEN.as_bytes())?.iter().zip(1u32..) {
@@ -34,7 +35,8 @@ pub(crate) fn eight_jobs(alloc: Global) -> Result<Vec<Job>, Fail> {
     Ok(jobs)
 }
 
-/// Whether an answer has its report, of this grade with so many guesses spent, or none if it may be missing.
+/// Reports whether an answer has a report with the grade `grade` and `spent` guesses, or has none
+/// and `may_be_missing` is true.
 fn is_reported(answer: &Answer, grade: Grade, spent: u32, may_be_missing: bool) -> bool {
     match answer.outcome() {
         Ok(found) => found.grade == grade && found.spent == spent,
@@ -42,17 +44,17 @@ fn is_reported(answer: &Answer, grade: Grade, spent: u32, may_be_missing: bool) 
     }
 }
 
-/// Asserts that eight answers stand in job order, each with its report, or without it if a growth was
-/// refused.
+/// Asserts that these are the answers to the jobs of `eight_jobs`, in job order, each with its
+/// report. If `refused`, an allocation failed, and reports may be missing.
 pub(crate) fn assert_answers(rt: &impl Abort, answers: &[Answer], refused: bool) {
     assert!(rt; answers.len() == 8);
     for (answer, (number, grade, spent, goal)) in answers.iter().zip(EIGHT) {
-        let told = (
+        let given = (
             answer.number(),
             answer.guesses(),
             answer.puzzle().goal_word(),
         );
-        assert!(rt; told == (number, 1000, goal), "puzzle {number}");
+        assert!(rt; given == (number, 1000, goal), "puzzle {number}");
         let is_reported = is_reported(answer, grade, spent, refused);
         assert!(rt; is_reported, "puzzle {number}");
     }

@@ -1,5 +1,5 @@
-//! That lanes work at the same time, that jobs are dealt in turn, and that a thread can be started, no
-//! contract says.
+//! Tests of what no contract of `collect` says: that lanes work at the same time, that jobs are
+//! dealt in turn, and that threads can be started.
 
 ghost use Rattle.std.specs.Prelude.{◌≤◌};
 
@@ -14,9 +14,10 @@ use std::test::Fail;
 use std::thread::Threads;
 use survey_core::{LARGEST_RING, MOST_JOBS, MOST_LANES, collect};
 
+/// How often a job at a gate looks for others. Bounded, so that a test fails and does not hang.
 const MOST_TURNS: u32 = 100_000_000;
 
-/// Jobs with the numbers from 0, each a puzzle of one cell.
+/// Returns `count` jobs with the numbers from 0 on, each with a puzzle of one cell.
 pub fn jobs_numbered(alloc: Global, count: u32) -> Result<Vec<Job>, Fail> {
     let mut jobs = Vec::new(alloc);
     for number in 0..count {
@@ -26,7 +27,8 @@ pub fn jobs_numbered(alloc: Global, count: u32) -> Result<Vec<Job>, Fail> {
     Ok(jobs)
 }
 
-/// Asserts that the answers to `count` jobs, over so many lanes with such rings, are there in job order.
+/// Asserts that `collect` returns the answers to `count` jobs in job order, over `lanes` lanes with
+/// rings of the capacity `ring`.
 pub(crate) fn assert_answered<R: Threads + Wait + Sync + Abort + AllocGlobal, G: Gate + Sync>(
     rt: &R,
     count: u32,
@@ -81,10 +83,11 @@ fn each_lane_has_a_thread(rt: HostRuntime) -> Result<(), Fail> {
     Ok(())
 }
 
+/// The initial value of `FirstWaits.seen`, which is more than the number of jobs.
 const NOTHING_SEEN: u32 = 100;
 
-/// A gate at which job 0 waits until three jobs with odd numbers have entered, and then looks how many others
-/// with even numbers have.
+/// A gate at which job 0 waits until three jobs with odd numbers have entered, and then records how
+/// many other jobs with even numbers have.
 #[derive(Drop)]
 struct FirstWaits {
     odd: AtomicU32,
@@ -114,6 +117,7 @@ impl Gate for FirstWaits {
 
 #[test]
 fn jobs_are_dealt_in_turn(rt: HostRuntime) -> Result<(), Fail> {
+    // One lane gets the jobs 0, 2 and 4, so none of these enters while job 0 waits.
     let gate = FirstWaits {
         odd: AtomicU32::new(0),
         even: AtomicU32::new(0),

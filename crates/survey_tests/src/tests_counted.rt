@@ -1,13 +1,15 @@
-//! That calls are passed on with their errors, which the contracts leave open, and counted if they fail.
+//! Tests of `Counted`: calls and their errors are passed on, which its contracts leave open, and
+//! failed calls are counted.
 
 use std::io;
 use std::io::{ErrorKind, Read, Write};
 use survey_core::Counted;
 
-/// What a call answers: how many bytes it took or gave, or the kind of its error.
+/// The result of a read or a write: the number of bytes, or the kind of the error.
 type Answer = Result<usize, ErrorKind>;
 
-/// Gives this answer at each call, with fewer bytes if the call is of fewer.
+/// A reader and writer whose calls return `answer`, or fewer bytes if the slice of the call is
+/// shorter.
 #[derive(Drop)]
 struct Scripted {
     answer: Answer,
@@ -34,6 +36,7 @@ impl Write for Scripted {
     }
 }
 
+/// Returns a counted `Scripted`, whose answers a test sets.
 fn counted_script() -> Counted<Scripted> {
     Counted::new(Scripted {
         answer: Ok(0),
@@ -41,7 +44,7 @@ fn counted_script() -> Counted<Scripted> {
     })
 }
 
-/// What is answered, with the kind of an error in its place.
+/// Returns the result with each error replaced by its kind, which can be compared.
 fn told<T>(answer: io::Result<T>) -> Result<T, ErrorKind> {
     match answer {
         Ok(value) => Ok(value),
@@ -49,7 +52,7 @@ fn told<T>(answer: io::Result<T>) -> Result<T, ErrorKind> {
     }
 }
 
-/// Reads in turn, into three bytes: what each answers, and how many have failed then.
+/// Reads into three bytes, in order: the result, and how many reads have failed so far.
 const READS: [(Answer, u32); 5] = [
     (Ok(2), 0),
     (Ok(0), 0),
@@ -70,7 +73,8 @@ fn reads_pass_through(rt: HostRuntime) {
     }
 }
 
-/// Writes in turn: of which bytes, what each answers, and how many have failed then.
+/// Writes, in order: the bytes, the result, and how many writes have failed so far. A write fails
+/// too if it takes none of at least one byte.
 const WRITES: [(&[u8], Answer, u32); 6] = [
     (b"abc", Ok(2), 0),
     (b"", Ok(0), 0),
@@ -90,7 +94,8 @@ fn writes_pass_through(rt: HostRuntime) {
     }
 }
 
-/// Flushes in turn: what each answers, and how many there were then and have failed.
+/// Flushes, in order: the result, how many flushes were made so far, and how many of them have
+/// failed.
 const FLUSHES: [(Result<(), ErrorKind>, u32, u32); 3] = [
     (Ok(()), 1, 0),
     (Err(ErrorKind::StorageFull), 2, 1),

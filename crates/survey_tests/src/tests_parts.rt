@@ -1,5 +1,6 @@
-//! Surveys that are read and printed in parts: that they have the bytes of one thread if threads are there,
-//! no contract says, nor that they flush once.
+//! Tests of surveys that are read and printed in chunks, each in a thread of its own. No contract
+//! says that such a survey succeeds, with the bytes that one thread prints, nor that it is flushed
+//! once.
 
 use crate::tests::{one_thread_survey, repeated, surveyed_entries};
 use crate::tests_samples::{TEN, settings};
@@ -27,10 +28,10 @@ fn surveys_in_parts_are_alike(rt: HostRuntime) -> Result<(), Fail> {
     Ok(())
 }
 
-/// What a survey answers, and how often it flushes.
+/// The result of a survey, and how often it flushed its output.
 type Ending = (Result<(), RunFault>, u32);
 
-/// How a survey of so many bytes ends if there is room for `room`.
+/// Returns how a survey of `length` bytes ends if its output takes `room` bytes.
 fn ending_in_room(room: usize, length: usize) -> Ending {
     if room < length {
         (Err(RunFault::Write(room as u64)), 0)
@@ -39,8 +40,9 @@ fn ending_in_room(room: usize, length: usize) -> Ending {
     }
 }
 
-/// How a survey of a collection's entries ends that has so much room, and whether just the first of the wanted
-/// bytes went out, as many as there is room for.
+/// Surveys a collection's entries into an output that takes `room` bytes. Returns how the survey
+/// ends, and whether the bytes that are written are the first `room` ones of `wanted`, or all of
+/// them.
 fn surveyed_into_room(
     rt: &(impl Threads + Wait + Sync + AllocGlobal),
     collection: &[u8],

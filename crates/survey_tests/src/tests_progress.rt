@@ -1,4 +1,5 @@
-//! What is told of the progress, over one lane and over more: no contract follows a value into a thread.
+//! Tests of the progress line, over one lane and over more: no contract follows a value into a
+//! thread.
 
 use crate::tests::surveyed;
 use crate::tests_samples::{TEN, TEN_SURVEY, settings};
@@ -14,14 +15,14 @@ use std::time::{Clock, Duration, Instant};
 use std::{io, thread};
 use survey_core::{Progress, ProgressGate};
 
-/// Lets jobs enter, one after another.
+/// Lets `count` jobs enter, one after another.
 pub(crate) fn enter(gate: &ProgressGate, count: u32) {
     for number in 0..count {
         gate.enter(number);
     }
 }
 
-/// Lets 1,000 jobs enter in half a second.
+/// Lets 1,000 jobs enter in about half a second.
 fn enter_slowly(clock: &impl Clock, gate: &ProgressGate) {
     for _ in 0..50u32 {
         enter(gate, 20);
@@ -35,15 +36,19 @@ fn enter_from_four<R: Threads + Sync + Abort + AllocGlobal>(rt: &R, gate: &Progr
     assert!(rt; done.is_ok());
 }
 
-/// How jobs enter.
+/// How jobs enter a gate.
 #[derive(Clone, Copy)]
 enum Jobs {
+    /// This number of jobs, one after another.
     InARow(u32),
+    /// The jobs of `enter_slowly`.
     Slowly,
+    /// The jobs of `enter_from_four`.
     FromFour,
 }
 
 impl Jobs {
+    /// Lets the jobs enter `gate`.
     fn enter<R: Threads + Clock + Sync + Abort + AllocGlobal>(self, rt: &R, gate: &ProgressGate) {
         match self {
             Jobs::InARow(count) => enter(gate, count),
@@ -53,7 +58,7 @@ impl Jobs {
     }
 }
 
-/// What is told while jobs enter.
+/// Returns what is printed while jobs enter.
 fn told<R: Threads + Wait + Clock + Sync + Abort + AllocGlobal>(
     rt: &R,
     jobs: Jobs,
@@ -66,7 +71,7 @@ fn told<R: Threads + Wait + Clock + Sync + Abort + AllocGlobal>(
     Ok(text)
 }
 
-/// The number that these digits write.
+/// Returns the number that decimal digits stand for.
 fn number_of(digits: &[u8]) -> u32 {
     let mut number = 0u32;
     for digit in digits {
@@ -77,7 +82,7 @@ fn number_of(digits: &[u8]) -> u32 {
     number
 }
 
-/// The numbers of the lines that are told of entries.
+/// Returns the numbers of the progress lines in a text, which have no number of files.
 fn numbers_of(alloc: Global, text: &[u8]) -> Result<Vec<u32>, Fail> {
     let mut numbers = Vec::new(alloc);
     let lines = text.strip_suffix(b"\n").ok_or("no LF")?;
@@ -88,7 +93,8 @@ fn numbers_of(alloc: Global, text: &[u8]) -> Result<Vec<u32>, Fail> {
     Ok(numbers)
 }
 
-/// How many jobs enter, of how many files, and how what is told ends, if anything is.
+/// How many jobs enter, the number of files if it is known, and the end of what is printed, which
+/// is empty if nothing is.
 const LAST_LINES: [(u32, Option<u32>, &[u8]); 5] = [
     (1, None, b"\rentries begun 1\n"),
     (8, Some(10), b"\rentries begun 8 of 10 files\n"),
@@ -101,8 +107,8 @@ const LAST_LINES: [(u32, Option<u32>, &[u8]); 5] = [
 fn last_number_is_told(rt: HostRuntime) -> Result<(), Fail> {
     for (count, files, last) in LAST_LINES {
         let text = told(&rt, Jobs::InARow(count), files)?;
-        let is_told = text.ends_with(last) && text.is_empty() == last.is_empty();
-        assert!(rt; is_told, "{count} jobs");
+        let is_printed = text.ends_with(last) && text.is_empty() == last.is_empty();
+        assert!(rt; is_printed, "{count} jobs");
     }
     Ok(())
 }
@@ -114,7 +120,8 @@ fn jobs_of_four_threads_are_all_counted(rt: HostRuntime) -> Result<(), Fail> {
     Ok(())
 }
 
-/// The numbers that are told in half a second, and how many they are at most.
+/// Returns the numbers that are printed while 1,000 jobs enter slowly, and how many there can be at
+/// most: one for each 100 ms, and the last.
 fn told_slowly<R: Threads + Wait + Clock + Sync + Abort + AllocGlobal>(
     rt: &R,
 ) -> Result<(Vec<u32>, u128), Fail> {
@@ -133,7 +140,8 @@ fn ten_rising_numbers_are_told_in_a_second(rt: HostRuntime) -> Result<(), Fail> 
     Ok(())
 }
 
-/// Fails at its first writes, so many, and then takes bytes once it is let go.
+/// A writer whose first `failing` writes fail. Each other one sets `is_held`, and takes its bytes
+/// once `is_let_go` is set.
 #[derive(Drop)]
 struct HeldErrors<'a> {
     failing: u32,
@@ -142,8 +150,9 @@ struct HeldErrors<'a> {
     is_let_go: &'a AtomicBool,
 }
 
-/// Waits until it is so.
+/// Waits until `it` is true.
 fn wait_for(it: &AtomicBool) {
+    // In effect without end; a loop without a bound would have to be shown to end.
     for _ in 0..u64::MAX {
         if it.load(Ordering::SeqCst) {
             return;
@@ -174,6 +183,7 @@ fn jobs_enter_while_the_writer_is_held(rt: HostRuntime) -> Result<(), Fail> {
     let mut taken = Vec::new(rt.alloc());
     let is_held = AtomicBool::new(false);
     let is_let_go = AtomicBool::new(false);
+    // The line of the first job is printed again until a write succeeds.
     let errors = HeldErrors {
         failing: 8,
         taken: &mut taken,
@@ -197,7 +207,7 @@ fn jobs_enter_while_the_writer_is_held(rt: HostRuntime) -> Result<(), Fail> {
     Ok(())
 }
 
-/// Fails at each write, and counts them.
+/// A writer whose writes all fail, and are counted.
 #[derive(Drop)]
 struct FailingErrors {
     failed: u32,
@@ -215,7 +225,7 @@ impl Write for FailingErrors {
     }
 }
 
-/// Whether a survey of ten entries prints what it is to.
+/// Reports whether a survey of `TEN` over `lanes` lanes prints `TEN_SURVEY`.
 fn is_ten_survey<R: Threads + Wait + Sync + AllocGlobal>(
     rt: &R,
     lanes: u16,
@@ -225,7 +235,8 @@ fn is_ten_survey<R: Threads + Wait + Sync + AllocGlobal>(
     outcome.is_ok() && text.as_slice() == TEN_SURVEY.as_bytes()
 }
 
-/// That the survey of ten entries, two of them refused, is the same while its progress is told to a writer.
+/// Asserts that the survey of `TEN`, of whose entries two are refused, is the same while its
+/// progress is printed to `errors`.
 fn assert_survey<R: Threads + Wait + Sync + Abort + AllocGlobal, E: Write + Drop + Send>(
     rt: &R,
     lanes: u16,

@@ -1,4 +1,5 @@
-//! Growths of memory and starts of threads that are refused, each in turn.
+//! Tests of calls of `survey_core` of which each allocation, and each start of a thread, fails in
+//! turn.
 
 use crate::tests::{one_thread_survey, repeated};
 use crate::tests_answers::{assert_answers, eight_jobs};
@@ -12,7 +13,7 @@ use std::test::Fail;
 use std::thread::Threads;
 use survey_core::{Counted, MOST_JOBS, Progress, ProgressGate, RunFault, collect, run_survey};
 
-/// More growths than any call here makes.
+/// More allocations and starts of threads than any call here makes.
 const MOST_GROWTHS: usize = 3000;
 
 /// A gate that counts the jobs that enter.
@@ -44,6 +45,7 @@ fn answers_are_collected_or_refused(rt: HostRuntime) -> Result<(), Fail> {
             Err(_) => assert!(rt; refused, "growth {growth}"),
         }
         let entered = gate.count.load(Ordering::SeqCst);
+        // `collect` fails before the first job is sent, or not at all.
         let wanted = if answers.is_ok() { 8 } else { 0 };
         assert!(rt; entered == wanted, "growth {growth}");
         if !refused {
@@ -54,7 +56,8 @@ fn answers_are_collected_or_refused(rt: HostRuntime) -> Result<(), Fail> {
     Ok(())
 }
 
-/// What a survey told, into a text that has its room.
+/// Surveys a collection into `text`, whose capacity has to suffice, and classifies the result. A
+/// survey that fails has to leave `text` empty.
 fn told_of_survey<R: Threads + Wait + Sync + AllocGlobal>(
     rt: &R,
     collection: &[u8],
@@ -89,7 +92,7 @@ fn surveys_are_written_or_refused(rt: HostRuntime) -> Result<(), Fail> {
     Ok(())
 }
 
-/// A survey in three parts, most of whose entries are refused.
+/// Tests a survey in three chunks, most of whose entries are refused.
 #[test]
 fn surveys_in_parts_are_written_or_refused(rt: HostRuntime) -> Result<(), Fail> {
     let alloc = rt.alloc();
@@ -103,8 +106,8 @@ fn surveys_in_parts_are_written_or_refused(rt: HostRuntime) -> Result<(), Fail> 
     Ok(())
 }
 
-/// What was told of the most jobs of the most files: all, or nothing if room for the line or the thread was
-/// refused.
+/// Tests the progress of the most jobs, of the most files: its last line is printed, or nothing is
+/// if the allocation of the line or the start of the thread failed.
 #[test]
 fn progress_is_told_or_refused(rt: HostRuntime) -> Result<(), Fail> {
     let alloc = rt.alloc();

@@ -1,5 +1,5 @@
-//! Lanes whose ends sleep and wake one another: that no wake is lost, and that a lane goes on while others
-//! sleep or are held, no contract says.
+//! Tests of lanes whose ends park and wake each other. No contract says that no wake is lost, nor
+//! that a lane goes on while others are parked or held.
 
 use crate::tests::{one_thread_survey, surveyed_entries};
 use crate::tests_collect::assert_answered;
@@ -13,13 +13,14 @@ use std::test::Fail;
 use std::thread::Threads;
 use survey_core::MOST_LANES;
 
+/// Entries with tiny puzzles, whose answers differ.
 const TINY: [&[u8]; 3] = [
     b"@ one.mk\n1 1\n0\n#\n0\n",
     b"@ clash.mk\n1 1\n1\n#\n0\n",
     b"@ two.mk\n2 2\n1\n1\n#\n1\n1\n",
 ];
 
-/// A collection of `count` tiny puzzles, whose answers differ.
+/// Returns a collection of `count` entries, which are those of `TINY` in turn.
 fn tiny_collection(alloc: Global, count: u32) -> Result<Vec<u8>, Fail> {
     let mut text = Vec::new(alloc);
     for number in 0..count {
@@ -28,7 +29,8 @@ fn tiny_collection(alloc: Global, count: u32) -> Result<Vec<u8>, Fail> {
     Ok(text)
 }
 
-/// Surveys a collection's entries over `lanes` lanes, with rings of 1, 2 and 8, twice each.
+/// Asserts that the survey of a collection's entries over `lanes` lanes is `wanted`, with rings of
+/// the capacities 1, 2 and 8, twice each.
 fn assert_surveys(
     rt: &(impl Threads + Wait + Sync + Abort + AllocGlobal),
     collection: &[u8],
@@ -55,10 +57,11 @@ fn surveys_of_tiny_puzzles_end_alike(rt: HostRuntime) -> Result<(), Fail> {
     Ok(())
 }
 
+/// How often job 0 looks for others at the gate. Bounded, so that a test fails and does not hang.
 const MOST_TURNS: u32 = 100_000_000;
 
-/// A gate at which job 0 waits until as many jobs as wanted have entered that are dealt to other lanes, of
-/// four.
+/// A gate for four lanes, at which job 0 waits until `wanted` jobs of the other three lanes have
+/// entered.
 #[derive(Drop)]
 struct HoldsFirstLane {
     wanted: u32,

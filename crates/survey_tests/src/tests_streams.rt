@@ -1,4 +1,4 @@
-//! Readers and writers that fail in mid-stream.
+//! Tests of surveys whose reader or writer fails in mid-stream.
 
 ghost use Rattle.std.specs.Prelude.{◌≡◌};
 ghost use Rattle.streams.specs.Counted.{fault_count};
@@ -13,7 +13,8 @@ use std::sync::Wait;
 use std::thread::Threads;
 use survey_core::{Counted, RunFault, run_survey, write_text};
 
-/// Gives its bytes in pieces, and fails at the call of that number, from 1.
+/// A reader that returns at most `piece` bytes from a call. The call that counts `calls_left` down
+/// to 0 fails, as do all later ones.
 #[derive(Drop)]
 struct FailingReader<'a> {
     rest: &'a [u8],
@@ -35,6 +36,7 @@ impl<'a> Read for FailingReader<'a> {
     }
 }
 
+/// Returns a reader of `text` that fails at the call with the number `calls`, counted from 1.
 fn failing_reader(text: &'static str, piece: usize, calls: usize) -> Counted<FailingReader<'static>>
     ensures { fault_count result ≡ 0 }
 {
@@ -45,7 +47,8 @@ fn failing_reader(text: &'static str, piece: usize, calls: usize) -> Counted<Fai
     })
 }
 
-/// Takes `room` bytes, in pieces, and then fails, or takes nothing.
+/// A writer that takes `room` bytes, at most `piece` in a call, and then fails, or takes nothing if
+/// `takes_nothing`. A flush fails if `flush_fails`.
 #[derive(Drop)]
 pub(crate) struct FailingWriter {
     pub(crate) taken: Vec<u8>,
@@ -77,6 +80,7 @@ impl Write for FailingWriter {
     }
 }
 
+/// Returns a writer that takes `room` bytes, at most `piece` in a call, and whose flushes succeed.
 pub(crate) fn failing_writer(
     alloc: Global,
     piece: usize,
@@ -96,8 +100,8 @@ pub(crate) fn failing_writer(
     })
 }
 
-/// Surveys what the reader gives, over `lanes` lanes. Returns what is answered, whether just these bytes went
-/// out, and how many reads and how many writes failed.
+/// Surveys what `reader` returns, over `lanes` lanes. Returns the result, whether `sent` is what
+/// was written, and how many reads and how many writes failed.
 fn surveyed(
     rt: &(impl Threads + Wait + Sync + AllocGlobal),
     lanes: u16,
@@ -116,7 +120,8 @@ fn surveyed(
     (outcome, is_sent, (reader.faults(), writer.faults()))
 }
 
-/// That a survey ends with `Write` once just the first `sent` bytes went out.
+/// Asserts that a survey ends with `Write`, that `sent` is what was written, and that one write or
+/// flush failed.
 fn assert_write_fails(
     rt: &(impl Threads + Wait + Sync + Abort + AllocGlobal),
     collection: &'static str,
@@ -133,8 +138,8 @@ fn assert_write_fails(
     assert!(rt; faults == (0, 1));
 }
 
-/// Of each writer: the collection and its survey, how many lanes there are, how many bytes it takes at a call,
-/// and whether it ends by taking nothing.
+/// For each writer: the collection and its survey, the number of lanes, how many bytes it takes in
+/// a call, and whether it takes nothing at its end, instead of failing.
 const WRITERS: [(&str, &str, u16, usize, bool); 4] = [
     ("", NOTHING, 1, 3, false),
     ("", NOTHING, 1, 3, true),
@@ -154,7 +159,7 @@ fn writer_fails_at_each_call(rt: HostRuntime) {
     }
 }
 
-/// Takes all, in pieces, and fails when it is flushed.
+/// Returns a writer that takes 1,000 bytes, at most 3 in a call, and fails when it is flushed.
 fn failing_flusher(alloc: Global, error: ErrorKind) -> Counted<FailingWriter>
     ensures { fault_count result ≡ 0 }
 {
@@ -188,7 +193,8 @@ fn interrupted_writes_and_flushes_fail(rt: HostRuntime) {
     }
 }
 
-/// That a survey ends as wanted if the reader fails at this call, and has written this.
+/// Asserts that a survey of `DEMO` returns `wanted` and writes `written` if its reader fails at the
+/// call with the number `call`.
 fn assert_read(
     rt: &(impl Threads + Wait + Sync + Abort + AllocGlobal),
     lanes: u16,
@@ -205,7 +211,7 @@ fn assert_read(
     assert!(rt; faults == (u32::from(outcome.is_err()), 0));
 }
 
-/// The collection has 168 bytes, and one call more gives the end.
+/// Tests all calls: `DEMO` has 168 bytes, and one more call finds the end.
 #[test]
 fn reader_fails_at_each_call(rt: HostRuntime) {
     for (piece, calls) in [(1usize, 169usize), (7, 25)] {

@@ -1,4 +1,4 @@
--- What is said of a goal, from what `grid_core` promises of it.
+-- Lemmas on goals: the word for a goal, and that a goal meets the clues exactly if it shows the only solution.
 use Rattle.std.proofs.Common.{◌≡◌, ℕ, ◌+◌, ◌-◌, ◌*◌, ◌/◌, ◌%◌, ◌<◌, ◌≤◌, Bool, true, false, List, [], ◌∷◌, Option, Some, None, Decides, ◌↔◌, ◌==◌, length, map, take, drop, get_or, refl, sym, ap, subst, ◌∙◌, if◌then◌else◌, arith}
 use Rattle.std.specs.List.{AllByRecursion, list_all}
 use Rattle.std.proofs.lemmas.Bool.{and_parts, and_from}
@@ -20,6 +20,7 @@ use Rattle.grid_core.specs.declared.puzzles.GoalWord.TheVariants as word
 use Rattle.survey_text.specs.Goals.{meets_clues, meets_line, word_of_goal}
 use Rattle.survey_text.specs.steps.Goals.{AreColours, IsOnlySolution, IsRowShown}
 
+-- the test of all lines is true exactly if the grid meets their clues
 lines_decide : (full : List Bool) (lines : List GridLine) →
     Decides (list_all (meets_line full) lines) (AllByRecursion (MeetsLine full) lines)
 lines_decide full [] = (λ _. tt, λ _. refl)
@@ -30,7 +31,7 @@ lines_decide full (line ∷ lines) =
       λ all. and_from _ _ (here.1 all.0) (others.1 all.1),
     )
 
--- the test is true exactly if the grid meets the clues
+-- the test of a full grid is true exactly if it meets the clues of the puzzle
 meets_decide : (p : Nonogram) (full : List Bool) → Decides (meets_clues p full) (Meets p full)
 meets_decide p full =
     let lines = lines_decide full (lines_of p) in
@@ -42,6 +43,7 @@ meets_decide p full =
       λ meets. and_from size_test lines_test (size.1 meets.size) (lines.1 (recursion_from_All _ _ meets.clues)),
     )
 
+-- a word that is not `Absent`, and `Meets` exactly if the values meet the clues, is determined by a test of that
 by_test : (p : Nonogram) (values : List Bool) (test : Bool) (said : GoalWord) → Decides test (Meets p values) → (said ≡ word.Absent → ⊥)
     → (said ≡ word.Meets) ↔ Meets p values → said ≡ (if test then word.Meets else word.Misses)
 by_test p values true said decides some meets = meets.1 (decides.0 refl)
@@ -49,24 +51,25 @@ by_test p values false word.Absent decides some meets = absurd (some refl)
 by_test p values false word.Meets decides some meets = let bad = decides.1 (meets.0 refl) in cc
 by_test p values false word.Misses decides some meets = refl
 
--- a word that is not Absent, and Meets exactly if the values meet the clues, is the word of these
+-- a word that is not `Absent`, and `Meets` exactly if the values meet the clues, is the word for these values
 pub said_of : (p : Nonogram) (values : List Bool) (said : GoalWord) → (said ≡ word.Absent → ⊥) → (said ≡ word.Meets) ↔ Meets p values
     → said ≡ word_of_goal p (Some values)
 said_of p values said some meets = by_test p values (meets_clues p values) said (meets_decide p values) some meets
 
--- a word that is Absent exactly without a goal, and Meets exactly if it meets the clues, is the goal's word
+-- a word that is `Absent` exactly without a goal, and `Meets` exactly if the goal meets the clues, is the word for the goal
 pub word_of_goal_is : (p : Nonogram) (goal : Option (List Bool)) (said : GoalWord) → (said ≡ word.Absent) ↔ (goal ≡ None)
     → (said ≡ word.Meets) ↔ GivenMeets p goal → said ≡ word_of_goal p goal
 word_of_goal_is p None said absent meets = absent.1 refl
 word_of_goal_is p (Some values) said absent meets = said_of p values said (λ e. let bad = absent.0 e in cc) meets
 
--- the values of a row are the colours of its cells exactly if the goal's are in that row
+-- the slice of `values` for row `y` shows the cells of the row exactly if `values` shows that row
 pub row_shown : (grid : PartialGrid) (values : List Bool) (y first width last : ℕ) (row : List Cell) → row ≡ row_of grid y
     → width ≡ grid.width → first ≡ y * width → last ≡ first + width
     → AreColours row (take (last - first) (drop first values)) ↔ IsRowShown grid values y
 row_shown grid values y first width last row is wide start end =
     let count : length row ≡ grid.width = ap length is ∙ length-row_of grid y in
-    let value : (x : ℕ) → x < grid.width → get_or (take (last - first) (drop first values)) x false ≡ get_or values (y * grid.width + x) false =
+    let value : (x : ℕ) → x < grid.width
+    → get_or (take (last - first) (drop first values)) x false ≡ get_or values (y * grid.width + x) false =
     λ x within.
     get_or-take (last - first) (drop first values) x false (omega arith) ∙ get_or-drop first values x false
     ∙ ap (λ (k : ℕ). get_or values k false) (rw (start, wide) refl) in
@@ -78,15 +81,16 @@ row_shown grid values y first width last row is wide start end =
           value x inside ∙ shown x inside ∙ sym (cell x inside),
     )
 
--- the values of a row are as many as its cells
+-- the slice of `values` for row `y` has as many values as the row has cells
 pub row_count : (values : List Bool) (y first width height last count : ℕ) → y < height → 1 ≤ width → length values ≡ width * height
     → first ≡ y * width → last ≡ first + width → count ≡ width → length (take (last - first) (drop first values)) ≡ count
 row_count values y first width height last count row some size start end is =
-    let inside : y * width + (width - 1) < width * height = omega (arith, mul-add-lt y width (width - 1) height row (omega (arith, some))) in
+    let inside : y * width + (width - 1) < width * height =
+    omega (arith, mul-add-lt y width (width - 1) height row (omega (arith, some))) in
     let left : length (drop first values) ≡ length values - first = length-drop first values in
     length-take-le (last - first) (drop first values) (omega (arith, left, inside)) ∙ omega arith
 
--- values that are the colours of all rows are those of the cells
+-- values that show all rows are the colours of all cells
 shown_values : (grid : PartialGrid) (values : List Bool) → 0 < grid.width → length grid.cells ≡ grid.width * grid.height →
     length values ≡ grid.width * grid.height
     → ((y : ℕ) → y < grid.height → IsRowShown grid values y) → map is_filled grid.cells ≡ values
@@ -97,7 +101,7 @@ shown_values grid values some cells size shown =
     get_or-map is_filled grid.cells i Unknown false inside
     ∙ sym (rw (div-add-mod' i grid.width) at (shown (i / grid.width) row (i % grid.width) (mod-lt i some))))
 
--- the colours of the cells are those of all rows
+-- the colours of all cells show each row
 values_shown : (grid : PartialGrid) (values : List Bool) → length grid.cells ≡ grid.width * grid.height → map is_filled grid.cells ≡ values
     → (y : ℕ) → y < grid.height → IsRowShown grid values y
 values_shown grid values cells same y row = λ x column.
@@ -105,11 +109,13 @@ values_shown grid values cells same y row = λ x column.
     ap (λ (vs : List Bool). get_or vs (y * grid.width + x) false) (sym same)
     ∙ get_or-map is_filled grid.cells (y * grid.width + x) Unknown false inside
 
+-- in a grid drawn from values, exactly the cells with a true value are filled
 colours_filled : (values : List Bool) → map is_filled (map colour values) ≡ values
 colours_filled [] = refl
 colours_filled (true ∷ values) = ap (λ (left : List Bool). true ∷ left) (colours_filled values)
 colours_filled (false ∷ values) = ap (λ (left : List Bool). false ∷ left) (colours_filled values)
 
+-- in a grid drawn from values, all cells are known
 colours_known : (values : List Bool) → list_all is_known (map colour values) ≡ true
 colours_known [] = refl
 colours_known (true ∷ values) = colours_known values
@@ -128,7 +134,7 @@ only_met p solution values only meets =
     } in
     ap (λ (grid : PartialGrid). map is_filled grid.cells) (sym (only.only drawn solves)) ∙ colours_filled values
 
--- the values of a goal meet the clues exactly if they are the colours of the only solution
+-- values meet the clues exactly if they show the only solution
 pub meets_where_shown : (p : Nonogram) (solution : PartialGrid) (values : List Bool) → IsOnlySolution p solution
     → 1 ≤ solution.width → length solution.cells ≡ solution.width * solution.height → length values ≡ p.width * p.height
     → ((y : ℕ) → y < solution.height → IsRowShown solution values y) ↔ Meets p values

@@ -1,4 +1,4 @@
--- Lemmas on the text of a survey: goals, entries listed, totals, and parts.
+-- The modules of lemmas on the text of a survey: goals, sequences of entries, totals, and chunks.
 pub mod NumberedLemmas
 pub mod PrintedLemmas
 pub mod TotalsLemmas

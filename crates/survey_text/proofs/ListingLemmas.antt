@@ -1,4 +1,4 @@
--- Entries that are listed one after another.
+-- Lemmas on sequences of entries: what they list, and how many entries at most.
 use Rattle.std.proofs.Common.{◌≡◌, ◌≤◌, List, [], ◌∷◌, length, map, arith, Option, None, Some, refl}
 use Rattle.puzzle_text.specs.declared.collections.Entry.{Entry}
 use Rattle.puzzle_text.specs.declared.faults.EntryFault.{EntryFault}
@@ -8,7 +8,7 @@ use Rattle.survey_text.specs.Listings.{answered}
 use Rattle.survey_text.specs.steps.Listings.{in_hand}
 use Rattle.survey_text.specs.declared.outcomes.Outcome.{Outcome}
 
--- outcomes that were all listed
+-- if no outcome is missing from the sequence, the entries listed are all outcomes
 pub listed_in_hand : (outcomes : List Outcome) (all : List GradedEntry) → in_hand outcomes ≡ map Some all → all ≡ map shown_outcome outcomes
 listed_in_hand [] [] listed = refl
 listed_in_hand (outcome ∷ outcomes) (entry ∷ all) listed = let others = listed_in_hand outcomes all (cc) in cc

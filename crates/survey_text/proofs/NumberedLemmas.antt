@@ -1,9 +1,9 @@
--- What is made of numbered items, one after the other.
+-- Lemmas on lists that are made from numbered items and joined.
 use Rattle.std.proofs.Common.{◌≡◌, ℕ, suc, zero, ◌+◌, ◌<◌, List, [], ◌∷◌, ◌++◌, length, map, take, get_or, append_assoc, append-nil, arith}
 use Rattle.std.proofs.lemmas.List.{length-map, length-take, map_more}
 use Rattle.std.specs.List.{enumerate_from, flat_map}
 
--- what is made of two lists, of which the second is numbered behind the first
+-- two lists of items, the second numbered on, yield what the first yields, followed by what the second does
 pub numbered-append : {X Y : Type 0} (f : ℕ × X → List Y) (n : ℕ) (xs ys : List X)
     → flat_map f (enumerate_from n (xs ++ ys)) ≡ flat_map f (enumerate_from n xs) ++ flat_map f (enumerate_from (n + length xs) ys)
 numbered-append f n [] ys = let number : n + zero ≡ n = omega arith in rw number
@@ -11,12 +11,12 @@ numbered-append f n (x ∷ xs) ys =
     let number : n + suc (length xs) ≡ n + 1 + length xs = omega arith in
     rw (numbered-append f (n + 1) xs ys, number, append_assoc)
 
--- one more item adds what is made of it and its number
+-- one more item at the end appends what it yields with its number
 pub numbered-push : {X Y : Type 0} (f : ℕ × X → List Y) (n : ℕ) (xs : List X) (x : X)
     → flat_map f (enumerate_from n (xs ++ x ∷ [])) ≡ flat_map f (enumerate_from n xs) ++ f (n + length xs, x)
 numbered-push f n xs x = rw (numbered-append f n xs (x ∷ []), append-nil (f (n + length xs, x)))
 
--- the same if each item comes from another
+-- one more of the first items of `xs`, each mapped by `h`, appends what it yields with its number
 pub made-more : {X Y Z : Type 0} (f : ℕ × Y → List Z) (h : X → Y) (n : ℕ) (xs : List X) (i : ℕ) (d : X) → i < length xs
     → flat_map f (enumerate_from n (map h (take (i + 1) xs))) ≡ flat_map f (enumerate_from n (map h (take i xs))) ++
     f (n + i, h (get_or xs i d))

@@ -1,4 +1,4 @@
--- The text of a survey, in parts.
+-- What the chunks of a survey hold: their texts, and the totals of their entries.
 use Rattle.std.specs.Prelude.{◌≡◌, ℕ, Bool, List, ◌++◌, length, count_by, codes}
 use Rattle.std.specs.List.{enumerate_from, flat_map}
 use Rattle.survey_text.specs.Entries.{GradedEntry, entry_text}
@@ -8,11 +8,12 @@ use Rattle.survey_text.specs.declared.texts.Parts.{Parts}
 use Rattle.survey_text.specs.declared.texts.SurveyText.{SurveyText}
 use Rattle.survey_text.specs.declared.totals.Totals.{Totals}
 
--- the texts of entries, the first of which has this number
+-- the texts of `entries`, numbered from `first`
 abbrev pub texts_from : Bool → ℕ → List GradedEntry → List ℕ
-texts_from show first entries = flat_map (λ numbered. entry_text show numbered.0 numbered.1) (enumerate_from first entries)
+texts_from show first entries =
+    flat_map (λ numbered. entry_text show numbered.0 numbered.1) (enumerate_from first entries)
 
--- each total is the number of entries that are counted under its word
+-- `totals` are those of `entries`: each is the number of entries with its status or grade
 pub record IsTotals (totals : Totals) (entries : List GradedEntry) : Type 0 where
   pub all : totals.entries ≡ length entries
   pub refused : totals.refused ≡ count_by (has_status (codes "refused")) entries
@@ -24,15 +25,16 @@ pub record IsTotals (totals : Totals) (entries : List GradedEntry) : Type 0 wher
   pub by_trials : totals.grades.by_trials ≡ count_by (has_grade (codes "trials")) entries
   pub by_search : totals.grades.by_search ≡ count_by (has_grade (codes "search")) entries
 
--- the text of parts
+-- the texts of all chunks in `parts`, joined
 abbrev pub parts_text : Parts → List ℕ
 parts_text parts = joined parts.front.items ++ parts.last.items
 
--- they are the parts of these entries
-pub record AreParts (show : Bool) (first : ℕ) (parts : Parts) (entries : List GradedEntry) : Type 0 where
+-- `parts` are chunks of `entries`, numbered from `first`: they have their texts and their totals
+pub record AreParts (show : Bool) (first : ℕ) (parts : Parts) (entries : List GradedEntry)
+    : Type 0 where
   pub text : parts_text parts ≡ texts_from show first entries
   pub totals : IsTotals parts.totals entries
 
--- the whole text
+-- the whole text of `survey`
 abbrev pub text_of : SurveyText → List ℕ
 text_of survey = joined survey.front.items ++ survey.last.items

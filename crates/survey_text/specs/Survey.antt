@@ -1,4 +1,4 @@
--- The survey of a collection, and of entries in hand.
+-- The text of the survey of a collection, and of a list of entries.
 use Rattle.std.specs.Prelude.{ℕ, Bool, List, ◌++◌, map, length, nat_lt, if◌then◌else◌, Result, Ok, Err}
 use Rattle.std.specs.List.{enumerate_from, flat_map}
 use Rattle.grid_core.specs.Nonogram.{Nonogram}
@@ -16,42 +16,50 @@ use Rattle.puzzle_text.specs.declared.limits.TheConstants.{MOST_ENTRIES}
 use Rattle.survey_text.specs.Entries.{GradedEntry, entry_text}
 use Rattle.survey_text.specs.Totals.{totals_line}
 
--- the texts of entries, numbered from 1
+-- the texts of `entries`, numbered from 1
 abbrev pub entries_text : Bool → List GradedEntry → List ℕ
-entries_text show entries = flat_map (λ numbered. entry_text show numbered.0 numbered.1) (enumerate_from 1 entries)
+entries_text show entries =
+    flat_map (λ numbered. entry_text show numbered.0 numbered.1) (enumerate_from 1 entries)
 
--- the texts of all entries, and the totals
+-- the text of a survey: the texts of its entries, and the line of totals
 abbrev pub survey_text : Bool → List GradedEntry → List ℕ
 survey_text show entries = entries_text show entries ++ totals_line entries
 
--- the limit on guesses, and the rule for the next one
+-- how a search guesses: the greatest number of guesses for a puzzle, and the rule for the cell of
+-- the next one
 pub record Guessing : Type 0 where
   pub limit : ℕ
   pub pick : Pick
 
--- a puzzle with its report, or the fault
-abbrev pub reported : Guessing → Result Nonogram EntryFault → Result (Nonogram × Findings) EntryFault
+-- the puzzle with the findings of its report, or the fault
+abbrev pub reported :
+    Guessing → Result Nonogram EntryFault → Result (Nonogram × Findings) EntryFault
 reported guesses (Ok p) = Ok (p, report_of (picked guesses.pick p.width) p guesses.limit)
 reported guesses (Err fault) = Err fault
 
--- an entry with the report on the puzzle that it says, or its fault
+-- `entry` with its puzzle and the findings of the report on that, or with its fault
 abbrev pub graded : Guessing → Entry → GradedEntry
-graded guesses entry = record { name = entry.name; result = reported guesses (read_entry LONGEST_SIDE entry) }
+graded guesses entry = record {
+  name = entry.name;
+  result = reported guesses (read_entry LONGEST_SIDE entry);
+}
 
--- the survey of these entries
+-- the text of the survey of `entries`
 abbrev pub survey_of_list : Guessing → Bool → List Entry → List ℕ
 survey_of_list guesses show entries = survey_text show (map (graded guesses) entries)
 
--- the survey of the entries, or a fault in their place
-abbrev pub survey_or_fault : Guessing → Bool → Result (List Entry) CollectionFault → Result (List ℕ) CollectionFault
+-- the text of the survey of the entries, or the fault
+abbrev pub survey_or_fault :
+    Guessing → Bool → Result (List Entry) CollectionFault → Result (List ℕ) CollectionFault
 survey_or_fault guesses show (Ok entries) = Ok (survey_of_list guesses show entries)
 survey_or_fault guesses show (Err fault) = Err fault
 
--- the survey of a collection, or its first fault
+-- the text of the survey of the collection `bytes`, or its first fault
 abbrev pub survey_of : Guessing → Bool → List ℕ → Result (List ℕ) CollectionFault
 survey_of guesses show bytes = survey_or_fault guesses show (cut bytes)
 
--- the survey of entries in hand, or that they are too many
+-- the text of the survey of `entries`, or `TooMany` if they are more than `MOST_ENTRIES`
 abbrev pub survey_of_entries : Guessing → Bool → List Entry → Result (List ℕ) CollectionFault
-survey_of_entries guesses show entries = if nat_lt MOST_ENTRIES (length entries) then Err TooMany else Ok
-    (survey_of_list guesses show entries)
+survey_of_entries guesses show entries =
+    if nat_lt MOST_ENTRIES (length entries) then Err TooMany
+    else Ok (survey_of_list guesses show entries)

@@ -1,4 +1,4 @@
-//! The text of an entry.
+//! Printing the entries of a survey: the line of each, and its solutions if asked for.
 
 ghost use Rattle.std.specs.Prelude.{◌≡◌, ◌++◌, IfOk, IsOk, OnOk, codes, Ok, Err};
 ghost use Rattle.std.specs.List.{flat_map};
@@ -17,9 +17,10 @@ use puzzle_text::{EntryFault, push_bytes, push_number};
 use solve_core::{Findings, Grade, Verdict};
 use std::alloc::Global;
 
-/// Adds the word of a verdict and a space.
+/// Appends the word for `verdict` and a space.
 fn push_verdict_word(text: &mut Vec<u8>, verdict: &Verdict) -> Result<(), NoMemory>
-    ensures { OnOk result (text.new.items ≡ text.old.items ++ verdict_word verdict.now ++ codes " ") }
+    ensures { OnOk result (text.new.items
+        ≡ text.old.items ++ verdict_word verdict.now ++ codes " ") }
 {
     match verdict {
         Verdict::Nothing => push_bytes(text, b"none "),
@@ -29,7 +30,7 @@ fn push_verdict_word(text: &mut Vec<u8>, verdict: &Verdict) -> Result<(), NoMemo
     }
 }
 
-/// Adds the word of a grade and a space.
+/// Appends the word for `grade` and a space.
 fn push_grade_word(text: &mut Vec<u8>, grade: Grade) -> Result<(), NoMemory>
     ensures { OnOk result (text.new.items ≡ text.old.items ++ grade_word grade ++ codes " ") }
 {
@@ -40,7 +41,7 @@ fn push_grade_word(text: &mut Vec<u8>, grade: Grade) -> Result<(), NoMemory>
     }
 }
 
-/// Adds the word for what is said of a goal, and a space.
+/// Appends the word for whether a goal meets its clues, and a space.
 fn push_goal_word(text: &mut Vec<u8>, word: GoalWord) -> Result<(), NoMemory>
     ensures { OnOk result (text.new.items ≡ text.old.items ++ goal_text word ++ codes " ") }
 {
@@ -51,9 +52,11 @@ fn push_goal_word(text: &mut Vec<u8>, word: GoalWord) -> Result<(), NoMemory>
     }
 }
 
-/// Adds the sizes, the verdict and the grade, and a space.
+/// Appends the size of `puzzle`, as `20x15` for width 20 and height 15, its verdict and its grade,
+/// each followed by a space.
 fn push_verdict(text: &mut Vec<u8>, puzzle: &Puzzle, findings: &Findings) -> Result<(), NoMemory>
-    ensures { OnOk result (text.new.items ≡ text.old.items ++ verdict_text puzzle.now findings.now ++ codes " ") }
+    ensures { OnOk result (text.new.items
+        ≡ text.old.items ++ verdict_text puzzle.now findings.now ++ codes " ") }
 {
     push_number(text, u64::from(puzzle.width()))?;
     text.push(b'x')?;
@@ -63,9 +66,11 @@ fn push_verdict(text: &mut Vec<u8>, puzzle: &Puzzle, findings: &Findings) -> Res
     push_grade_word(text, findings.grade)
 }
 
-/// Adds the cells known after lines and after trials, the guesses spent, and what is said of the goal, and a space.
+/// Appends how many cells are known after line deduction and after trials, how many guesses were
+/// spent, and the word for the goal, each followed by a space.
 fn push_counts(text: &mut Vec<u8>, found: &GradedPuzzle<'_>) -> Result<(), NoMemory>
-    ensures { OnOk result (text.new.items ≡ text.old.items ++ counts_text found.now.puzzle.now found.now.findings.now ++ codes " ") }
+    ensures { OnOk result (text.new.items
+        ≡ text.old.items ++ counts_text found.now.puzzle.now found.now.findings.now ++ codes " ") }
 {
     let findings = found.findings;
     push_number(text, u64::from(findings.line_known))?;
@@ -77,17 +82,20 @@ fn push_counts(text: &mut Vec<u8>, found: &GradedPuzzle<'_>) -> Result<(), NoMem
     push_goal_word(text, found.goal)
 }
 
-/// Adds what was found of a puzzle, and a space.
+/// Appends the size of a puzzle and all that was found of it, followed by a space.
 fn push_found(text: &mut Vec<u8>, found: &GradedPuzzle<'_>) -> Result<(), NoMemory>
-    ensures { OnOk result (text.new.items ≡ text.old.items ++ result_text (Ok (found.now.puzzle.now, found.now.findings.now)) ++ codes " ") }
+    ensures { OnOk result (text.new.items
+        ≡ text.old.items ++ result_text (Ok (found.now.puzzle.now, found.now.findings.now))
+        ++ codes " ") }
 {
     push_verdict(text, found.puzzle, found.findings)?;
     push_counts(text, found)
 }
 
-/// Adds why an entry is refused, and a space.
+/// Appends `refused` and the word of `fault`, each followed by a space.
 fn push_refusal(text: &mut Vec<u8>, fault: EntryFault) -> Result<(), NoMemory>
-    ensures { OnOk result (text.new.items ≡ text.old.items ++ codes "refused " ++ word_of fault ++ codes " ") }
+    ensures { OnOk result (text.new.items
+        ≡ text.old.items ++ codes "refused " ++ word_of fault ++ codes " ") }
 {
     push_bytes(text, b"refused ")?;
     fault.word().push(text)?;
@@ -95,9 +103,11 @@ fn push_refusal(text: &mut Vec<u8>, fault: EntryFault) -> Result<(), NoMemory>
     Ok(())
 }
 
-/// Adds what was found, or why the entry is refused, and a space.
+/// Appends what was found of the puzzle of `entry`, or why the entry is refused, followed by a
+/// space.
 fn push_result(text: &mut Vec<u8>, entry: &ListedEntry<'_>) -> Result<(), NoMemory>
-    ensures { OnOk result (text.new.items ≡ text.old.items ++ result_text (shown_listed entry.now).result ++ codes " ") }
+    ensures { OnOk result (text.new.items
+        ≡ text.old.items ++ result_text (shown_listed entry.now).result ++ codes " ") }
 {
     match &entry.result {
         Ok(found) => push_found(text, found),
@@ -105,9 +115,10 @@ fn push_result(text: &mut Vec<u8>, entry: &ListedEntry<'_>) -> Result<(), NoMemo
     }
 }
 
-/// Adds the line of an entry.
+/// Appends the line of `entry`: its number, its result, its name and LF.
 fn push_line(text: &mut Vec<u8>, number: u32, entry: &ListedEntry<'_>) -> Result<(), NoMemory>
-    ensures { OnOk result (text.new.items ≡ text.old.items ++ entry_line number (shown_listed entry.now)) }
+    ensures { OnOk result (text.new.items
+        ≡ text.old.items ++ entry_line number (shown_listed entry.now)) }
 {
     push_number(text, u64::from(number))?;
     text.push(b' ')?;
@@ -117,7 +128,7 @@ fn push_line(text: &mut Vec<u8>, number: u32, entry: &ListedEntry<'_>) -> Result
     Ok(())
 }
 
-/// Adds a solution, and an empty line.
+/// Appends the rows of a solution and an empty line.
 fn push_solution(text: &mut Vec<u8>, grid: &Grid) -> Result<(), NoMemory>
     ensures { OnOk result (text.new.items ≡ text.old.items ++ solution_text grid.now) }
 {
@@ -126,9 +137,10 @@ fn push_solution(text: &mut Vec<u8>, grid: &Grid) -> Result<(), NoMemory>
     Ok(())
 }
 
-/// Adds the solutions that a verdict shows.
+/// Appends the solutions in `verdict`, at most two, in the order in which they were found.
 fn push_solutions(text: &mut Vec<u8>, verdict: &Verdict) -> Result<(), NoMemory>
-    ensures { OnOk result (text.new.items ≡ text.old.items ++ flat_map solution_text (solutions_of verdict.now)) }
+    ensures { OnOk result (text.new.items
+        ≡ text.old.items ++ flat_map solution_text (solutions_of verdict.now)) }
 {
     match verdict {
         Verdict::Nothing => Ok(()),
@@ -142,9 +154,10 @@ fn push_solutions(text: &mut Vec<u8>, verdict: &Verdict) -> Result<(), NoMemory>
     }
 }
 
-/// Adds the solutions of an entry, none if it is refused.
+/// Appends the solutions of `entry`: none if it is refused.
 fn push_shown(text: &mut Vec<u8>, entry: &ListedEntry<'_>) -> Result<(), NoMemory>
-    ensures { OnOk result (text.new.items ≡ text.old.items ++ solutions_text (shown_listed entry.now).result) }
+    ensures { OnOk result (text.new.items
+        ≡ text.old.items ++ solutions_text (shown_listed entry.now).result) }
 {
     match &entry.result {
         Ok(found) => push_solutions(text, &found.findings.verdict),
@@ -152,14 +165,15 @@ fn push_shown(text: &mut Vec<u8>, entry: &ListedEntry<'_>) -> Result<(), NoMemor
     }
 }
 
-/// Adds an entry's line, and its solutions if they are shown.
+/// Appends the line of `entry`, which begins with `number`, and its solutions if `show` is set.
 pub(crate) fn push_entry(
     text: &mut Vec<u8>,
     number: u32,
     entry: &ListedEntry<'_>,
     show: bool,
 ) -> Result<(), NoMemory>
-    ensures { OnOk result (text.new.items ≡ text.old.items ++ entry_text show number (shown_listed entry.now)) }
+    ensures { OnOk result (text.new.items
+        ≡ text.old.items ++ entry_text show number (shown_listed entry.now)) }
 {
     push_line(text, number, entry)?;
     if show {
@@ -168,22 +182,26 @@ pub(crate) fn push_entry(
     Ok(())
 }
 
-/// The line of an entry, and if they are shown, each of its solutions followed by an empty line. An answer
-/// that says `NoMemory` is printed as a refused entry with that word.
+/// Returns the text of an entry: its line, which begins with `number`, and, if `show` is set, each
+/// of its solutions, followed by an empty line. An answer that failed with `NoMemory` is printed as
+/// an entry refused with that word. Fails with `NoMemory` if an allocation for the text does.
 pub fn print_entry(
     alloc: Global,
     number: u32,
     outcome: &Outcome,
     show: bool,
 ) -> Result<Vec<u8>, NoMemory>
-    ensures { IfOk result (λ text. text.items ≡ entry_text show number (shown_outcome outcome.now)) }
+    ensures { IfOk result (λ text.
+        text.items ≡ entry_text show number (shown_outcome outcome.now)) }
 {
     let mut text = Vec::new(alloc);
     push_entry(&mut text, number, &outcome.listed(), show)?;
     Ok(text)
 }
 
-/// The same of an entry whose puzzle was graded. `NoMemory` also if the answer says so.
+/// Returns the text of an entry whose puzzle was graded: its line, which begins with `number`, and,
+/// if `show` is set, each of its solutions, followed by an empty line. Fails with `NoMemory` if the
+/// answer did, or if an allocation for the text does.
 pub fn print_graded(
     alloc: Global,
     number: u32,

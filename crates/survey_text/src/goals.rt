@@ -1,4 +1,4 @@
-//! What is said of goals.
+//! Whether a puzzle's goal meets its clues, given the verdict on the puzzle.
 
 ghost use Rattle.std.specs.Prelude.{◌≡◌, ◌*◌, ◌<◌, ◌≤◌, ◌↔◌, ℕ, IsTrue, false, length, slice_index_or, true};
 ghost use Rattle.place_sets.specs.Masks.{IsMaskOf};
@@ -9,12 +9,15 @@ use grid_core::{GoalWord, Grid, LineOf, Puzzle};
 use place_sets::{PlaceSet, first_places};
 use solve_core::Verdict;
 
-/// The places of the values that are true. They are read from the last one, so that each takes one shift.
+/// Returns the set of the indices at which `values` is true.
 #[tactic(auto, using(std::proofs::lemmas::Bool::cases_eq, place_sets::proofs::Doubling::one_within))]
 fn set_of<W: PlaceSet>(values: &[bool]) -> W
     requires { length values.now ≤ W.WIDTH }
-    ensures { IsMaskOf (λ k. (k < length values.now) × (slice_index_or values.now k false ≡ true)) (W.number result) }
+    ensures { IsMaskOf
+        (λ k. (k < length values.now) × (slice_index_or values.now k false ≡ true))
+        (W.number result) }
 {
+    // From the last value to the first, so that each costs a shift by the constant 1, not by `x`.
     let mut set = W::empty();
     for x in (0..values.len()).rev() {
         set = set.shifted_up(1).marked(0, values[x]);
@@ -22,7 +25,8 @@ fn set_of<W: PlaceSet>(values: &[bool]) -> W
     set
 }
 
-/// Whether values are the colours of a line's cells. All are compared at once, as sets.
+/// Reports whether `values` is true exactly at the filled cells of `line`. Compares all of them at
+/// once, as sets.
 fn is_line_shown<W: PlaceSet>(line: &LineOf<W>, values: &[bool]) -> bool
     requires { length values.now ≡ length line.now }
     ensures { IsTrue result ↔ AreColours line.now values.now }
@@ -32,7 +36,8 @@ fn is_line_shown<W: PlaceSet>(line: &LineOf<W>, values: &[bool]) -> bool
     differing.intersection(cells).is_empty()
 }
 
-/// Whether the values of a goal are the colours of a row. A row that fits a word is compared in one.
+/// Reports whether `values`, which has a value for each cell of `grid` in row order, is true
+/// exactly at the filled cells in row `y`.
 fn is_row_shown(grid: &Grid, y: u16, values: &[bool]) -> bool
     requires row { y < grid.now.height }
     requires cells { length values.now ≡ grid.now.width * grid.now.height }
@@ -42,6 +47,7 @@ fn is_row_shown(grid: &Grid, y: u16, values: &[bool]) -> bool
     let width = usize::from(grid.width());
     let first = usize::from(y) * width;
     let values = &values[first..first + width];
+    // Rows of at most 64 cells are compared in one `u64` instead of 256 bits, which is faster.
     if width <= 64 {
         is_line_shown(&row.resized::<u64>(), values)
     } else {
@@ -49,7 +55,8 @@ fn is_row_shown(grid: &Grid, y: u16, values: &[bool]) -> bool
     }
 }
 
-/// Whether the values of a goal are the colours of a grid.
+/// Reports whether `values`, which has a value for each cell of `grid` in row order, is true
+/// exactly at the filled cells.
 fn is_shown(grid: &Grid, values: &[bool]) -> bool
     requires { length values.now ≡ grid.now.width * grid.now.height }
     ensures { IsTrue result ↔ ((y : ℕ) → y < grid.now.height → IsRowShown grid.now values.now y) }
@@ -62,13 +69,13 @@ fn is_shown(grid: &Grid, values: &[bool]) -> bool
     true
 }
 
-/// What is said of a puzzle's goal if no grid but this one solves the puzzle: it meets the clues exactly if
-/// it shows that grid.
+/// Returns the word for the goal of a puzzle whose only solution is `solution`: the goal meets the
+/// clues exactly if it shows that solution.
 fn goal_word_beside(puzzle: &Puzzle, solution: &Grid) -> GoalWord
     requires { IsOnlySolution puzzle.now solution.now }
     ensures { result ≡ goal_word puzzle.now }
 {
-    // For what it says of the grid: that its cells are as many as its sides tell.
+    // Called for its contract, which the proof needs: the grid has width times height cells.
     solution.width();
     match puzzle.goal() {
         None => GoalWord::Absent,
@@ -82,7 +89,8 @@ fn goal_word_beside(puzzle: &Puzzle, solution: &Grid) -> GoalWord
     }
 }
 
-/// What is said of a puzzle's goal, beside the verdict on the puzzle.
+/// Returns the word for the puzzle's goal. If `verdict` has the only solution, the goal is compared
+/// with that, and otherwise it is checked against the clues.
 pub(crate) fn goal_word(puzzle: &Puzzle, verdict: &Verdict) -> GoalWord
     requires { IsOnlyWhereOne puzzle.now verdict.now }
     ensures { result ≡ goal_word puzzle.now }

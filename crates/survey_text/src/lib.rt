@@ -1,4 +1,4 @@
-//! The texts of surveys: what is printed of an entry and of its puzzle's goal, the totals, and whole surveys.
+//! The text of surveys: grids, entries, totals, and whole surveys, printed at once or in chunks.
 #![tactic(auto)]
 
 mod entries;

@@ -1,4 +1,4 @@
-//! Entries as a survey lists them.
+//! Entries with their results, as a survey prints them.
 
 ghost use Rattle.std.specs.Prelude.{◌≡◌};
 ghost use Rattle.survey_text.specs.Goals.{goal_word};
@@ -9,24 +9,25 @@ use lane_core::Answer;
 use puzzle_text::EntryFault;
 use solve_core::Findings;
 
-/// A puzzle with what was found of it.
+/// A puzzle with the findings of its report, and the word for its goal.
 #[derive(Drop)]
 pub(crate) struct GradedPuzzle<'a> {
     /// The puzzle.
     pub puzzle: &'a Puzzle,
-    /// What was found of it.
+    /// The findings of the report on the puzzle.
     pub findings: &'a Findings,
-    /// What is said of its goal.
+    /// Whether the puzzle has a goal, and whether that meets the clues.
     pub goal: GoalWord,
     pub ghost said: { goal ≡ goal_word puzzle.now },
 }
 
-/// An entry's name, and its puzzle with what was found of it, or why it is refused.
+/// An entry as a survey prints it: its name, with its graded puzzle or the fault for which it is
+/// refused.
 #[derive(Drop)]
 pub(crate) struct ListedEntry<'a> {
     /// The entry's name.
     pub name: &'a [u8],
-    /// What was found of its puzzle, or why it is refused.
+    /// The graded puzzle, or why the entry is refused.
     pub result: Result<GradedPuzzle<'a>, EntryFault>,
 }
 
@@ -35,7 +36,7 @@ impl<'a> ListedEntry<'a> {
     ghost use Rattle.survey_text.specs.Entries.{found_of};
     ghost use Rattle.survey_text.specs.steps.Entries.{shown_listed};
 
-    /// An entry that is refused.
+    /// Returns an entry that is refused for `fault`.
     pub fn refused(name: &'a [u8], fault: EntryFault) -> ListedEntry<'a>
         ensures { shown_listed result ≡ record { name = name.now; result = Err fault } }
     {
@@ -45,7 +46,8 @@ impl<'a> ListedEntry<'a> {
         }
     }
 
-    /// An entry whose puzzle was graded. `NoMemory` if the answer says so.
+    /// Returns an entry whose puzzle was graded, with what `answer` found. Fails with `NoMemory` if
+    /// the answer did.
     pub fn graded(name: &'a [u8], answer: &'a Answer) -> Result<ListedEntry<'a>, NoMemory>
         ensures listed { IfOk result (λ listed. shown_listed listed ≡ record {
           name = name.now;

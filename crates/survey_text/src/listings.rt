@@ -1,4 +1,4 @@
-//! Entries that are listed one after another, with what was found of them.
+//! Sequences of entries with their results, as a survey prints them.
 
 ghost use Rattle.std.specs.Prelude.{◌≡◌, ◌∷◌, [], List, Option, Some, IfOk, MatchOption};
 ghost use Rattle.survey_text.specs.Entries.{GradedEntry};
@@ -12,21 +12,21 @@ use grid_core::NoMemory;
 use lane_core::Answer;
 use puzzle_text::{Entry, EntryFault};
 
-/// Entries as a survey lists them, one after another.
+/// A sequence of entries with their results, in the order in which a survey prints them.
 pub(crate) trait Listing<'a> {
-    /// The entries that are to come, with none in place of one whose answer says `NoMemory`.
+    /// The entries that are left, with `None` for each one whose answer failed with `NoMemory`.
     ghost to_come: { Self → List (Option GradedEntry) };
 
-    /// The next entry, if one is to come. `NoMemory` if its answer says so.
+    /// Returns the next entry, or `None` if none is left. Fails with `NoMemory` if its answer did.
     fn next(&mut self) -> Result<Option<ListedEntry<'a>>, NoMemory>
         ensures { IfOk result (λ next. MatchOption next (to_come self.old ≡ [])
             (λ entry. to_come self.old ≡ Some (shown_listed entry) ∷ to_come self.new)) };
 }
 
-/// Outcomes in hand.
+/// The entries of a list of outcomes.
 #[derive(Drop)]
 pub(crate) struct OutcomeListing<'a> {
-    /// The outcomes that are to come.
+    /// The outcomes that are left.
     pub outcomes: &'a [Outcome],
 }
 
@@ -42,24 +42,26 @@ impl<'a> Listing<'a> for OutcomeListing<'a> {
     }
 }
 
-/// Entries that were read, each with its fault or else with the next of the answers.
+/// Entries that were read, each with its fault or, if it has none, with the next answer.
 #[derive(Drop)]
 pub struct AnswerListing<'a, 'e> {
-    /// The entries that are to come.
+    /// The entries that are left.
     pub entries: &'a [Entry<'e>],
-    /// The fault of each, if it has one.
+    /// For each of the entries its fault, or `None` if it is a puzzle.
     pub faults: &'a [Option<EntryFault>],
-    /// The answers to those without.
+    /// The answers to the puzzles among the entries, in order.
     pub answers: &'a [Answer],
 }
 
 impl<'a, 'e: 'a> Listing<'a> for AnswerListing<'a, 'e> {
-    ghost to_come = { λ listing. answered listing.entries.now listing.faults.now listing.answers.now };
+    ghost to_come = { λ listing.
+        answered listing.entries.now listing.faults.now listing.answers.now };
 
     fn next(&mut self) -> Result<Option<ListedEntry<'a>>, NoMemory> {
         let Some(entry) = self.entries.split_off_first() else {
             return Ok(None);
         };
+        // With too few faults or answers the sequence ends early, as `answered` defines it.
         let Some(fault) = self.faults.split_off_first() else {
             return Ok(None);
         };

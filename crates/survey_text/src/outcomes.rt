@@ -1,15 +1,15 @@
-//! What became of an entry.
+//! The outcome of an entry: the answer to its job, or why it is refused.
 
 use crate::listed::ListedEntry;
 use lane_core::Answer;
 use puzzle_text::{EntryFault, TextFault};
 
-/// An entry's name, and the answer to its job, or why it is refused.
+/// The name of an entry, with the answer to its job or the fault for which it is refused.
 #[derive(Drop)]
 pub struct Outcome {
     /// The entry's name.
     pub name: Vec<u8>,
-    /// The answer to its job, or why the entry was refused.
+    /// The answer to its job, or why the entry is refused.
     pub result: Result<Answer, EntryFault>,
 }
 
@@ -18,7 +18,8 @@ impl Outcome {
     ghost use Rattle.survey_text.specs.Entries.{shown_outcome};
     ghost use Rattle.survey_text.specs.steps.Entries.{shown_listed};
 
-    /// The entry as a survey lists it. `NoMemory` in an answer stands as a fault.
+    /// Returns the entry as a survey prints it. An answer that failed with `NoMemory` becomes an
+    /// entry refused with that fault.
     pub(crate) fn listed(&self) -> ListedEntry<'_>
         ensures { shown_listed result ≡ shown_outcome self.now }
     {

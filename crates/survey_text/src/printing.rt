@@ -1,4 +1,4 @@
-//! The text of a survey, or of a part of it.
+//! Printing a whole survey, or a chunk of one.
 
 ghost use Rattle.std.specs.Prelude.{◌≡◌, ◌++◌, ◌∷◌, ◌+◌, ◌<◌, ◌≤◌, ◌^◌, [], List, Bool, Some, length, IfOk, OnOk, map};
 ghost use Rattle.survey_text.specs.Entries.{GradedEntry, shown_outcome};
@@ -16,18 +16,18 @@ use grid_core::NoMemory;
 use puzzle_text::MOST_ENTRIES;
 use std::alloc::Global;
 
-/// Entries of a survey that follow one another: their text, and their totals.
+/// A chunk of a survey: the text and the totals of consecutive entries.
 #[derive(Drop)]
 pub(crate) struct Part {
-    /// Their text.
+    /// The text of the entries.
     pub text: Vec<u8>,
-    /// Their totals.
+    /// The totals of the entries.
     pub totals: Totals,
 }
 
 impl Part {
-    /// The part of the entries of a list, the first of which has this number. `NoMemory` also if an answer
-    /// says so.
+    /// Prints the entries of `listing`, numbered from `first`, with their solutions if `show` is
+    /// set. Fails with `NoMemory` if an answer did, or if an allocation fails.
     pub fn of<'a, L: Listing<'a> + Drop>(
         alloc: Global,
         first: u32,
@@ -36,7 +36,8 @@ impl Part {
     ) -> Result<Part, NoMemory>
         requires numbers { first + length (L.to_come listing) < 2 ^ 32 }
         requires few { length (L.to_come listing) < 2 ^ 31 }
-        ensures { IfOk result (λ part. (entries : List GradedEntry) × (L.to_come listing ≡ map Some entries) × IsPart show first part entries) }
+        ensures { IfOk result (λ part. (entries : List GradedEntry)
+            × (L.to_come listing ≡ map Some entries) × IsPart show first part entries) }
     {
         let mut listing = listing;
         let mut part = Part {
@@ -49,7 +50,8 @@ impl Part {
         Ok(part)
     }
 
-    /// Adds an entry behind those of a part whose first has this number.
+    /// Appends the text of `entry`, and counts it. `first` is the number of the chunk's first
+    /// entry.
     fn add(&mut self, first: u32, entry: &ListedEntry<'_>, show: bool) -> Result<(), NoMemory>
         requires room { HasRoom self.old.totals }
         requires number { first + self.old.totals.entries < 2 ^ 32 }
@@ -62,10 +64,11 @@ impl Part {
         Ok(())
     }
 
-    /// The text of the entries and the line of totals.
+    /// Returns the text of the survey that consists of this chunk: the text of its entries, and the
+    /// line of totals.
     fn finish(self) -> Result<Vec<u8>, NoMemory>
-        ensures { (show : Bool) (entries : List GradedEntry) → IsPart show 1 self entries →
-            IfOk result (λ text. text.items ≡ survey_text show entries) }
+        ensures { (show : Bool) (entries : List GradedEntry) → IsPart show 1 self entries
+            → IfOk result (λ text. text.items ≡ survey_text show entries) }
     {
         let mut text = self.text;
         self.totals.push(&mut text)?;
@@ -73,8 +76,10 @@ impl Part {
     }
 }
 
-/// The texts of at most 10,000 entries, numbered from 1, and the line of totals. An answer that says
-/// `NoMemory` is printed as a refused entry with that word.
+/// Returns the text of a survey of at most 10,000 entries: the text of each entry, numbered from 1,
+/// with its solutions if `show` is set, and the line of totals. An answer that failed with
+/// `NoMemory` is printed as an entry refused with that word. Fails with `NoMemory` if an allocation
+/// for the text does.
 pub fn print_survey(alloc: Global, outcomes: &[Outcome], show: bool) -> Result<Vec<u8>, NoMemory>
     requires { length outcomes.now ≤ MOST_ENTRIES }
     ensures { IfOk result (λ text. text.items ≡ survey_text show (map shown_outcome outcomes.now)) }

@@ -1,4 +1,4 @@
-//! The texts of the parts of a survey.
+//! The text of a survey in chunks, which are printed apart and never copied into one text.
 
 ghost use Rattle.std.specs.Prelude.{◌≡◌, ◌++◌, ◌^◌, ◌<◌, length};
 ghost use Rattle.streams.specs.Writing.{joined};
@@ -11,15 +11,16 @@ use std::alloc::Global;
 use std::io::Write;
 use streams::{Counted, write_texts};
 
-/// The texts of entries of a survey that follow one another, in parts, and the totals of all.
+/// Chunks of a survey: the texts of consecutive entries, in order, and the totals of all of them.
 #[derive(Drop)]
 pub struct Parts {
-    /// The texts before the last one.
+    /// The texts of all chunks but the last.
     front: Vec<Vec<u8>>,
+    /// The text of the last chunk.
     last: Vec<u8>,
-    /// The bytes of all texts.
+    /// How many bytes all texts have: kept because a `u64` has to count those of a survey.
     bytes: u64,
-    /// The totals of the entries.
+    /// The totals of all entries.
     totals: Totals,
     pub ghost counted: { bytes ≡ length (joined front.items ++ last.items) },
 }
@@ -31,18 +32,23 @@ impl Parts {
     ghost use Rattle.survey_text.specs.Survey.{survey_text};
     ghost use Rattle.survey_text.specs.Parts.{AreParts, text_of};
 
-    /// The part of the entries of a list alone, the first of which has this number. `NoMemory` also if an
-    /// answer says so.
+    /// Prints the entries of `listing` as one chunk, numbered from `first`, with their solutions if
+    /// `show` is set. Fails with `NoMemory` if an answer did, or if an allocation fails.
     pub fn of(
         alloc: Global,
         first: u32,
         listing: AnswerListing<'_, '_>,
         show: bool,
     ) -> Result<Parts, NoMemory>
-        requires numbers { first + length (answered listing.entries.now listing.faults.now listing.answers.now) < 2 ^ 32 }
-        requires few { length (answered listing.entries.now listing.faults.now listing.answers.now) < 2 ^ 31 }
+        requires numbers { first
+            + length (answered listing.entries.now listing.faults.now listing.answers.now)
+            < 2 ^ 32 }
+        requires few { length (answered listing.entries.now listing.faults.now listing.answers.now)
+            < 2 ^ 31 }
         ensures { IfOk result (λ parts. (entries : List GradedEntry)
-            × (answered listing.entry.entries.now listing.entry.faults.now listing.entry.answers.now ≡ map Some entries)
+            × (answered
+            listing.entry.entries.now listing.entry.faults.now listing.entry.answers.now
+            ≡ map Some entries)
             × AreParts show first parts entries) }
     {
         let Part { text, totals } = Part::of(alloc, first, listing, show)?;
@@ -55,10 +61,14 @@ impl Parts {
         })
     }
 
-    /// These parts, and behind them others. `NoMemory` also if no memory has so many bytes.
+    /// Returns these chunks followed by `others`, whose entries are numbered from the next number
+    /// on. Fails with `NoMemory` if an allocation does, or if all texts have more bytes than a
+    /// `u64` counts.
     pub fn followed_by(self, others: Parts) -> Result<Parts, NoMemory>
-        ensures { (show : Bool) (first : ℕ) (entries behind : List GradedEntry) → AreParts show first self entries
-            → AreParts show (first + length entries) others behind → length (entries ++ behind) < 2 ^ 31
+        ensures { (show : Bool) (first : ℕ) (entries behind : List GradedEntry)
+            → AreParts show first self entries
+            → AreParts show (first + length entries) others behind
+            → length (entries ++ behind) < 2 ^ 31
             → IfOk result (λ parts. AreParts show first parts (entries ++ behind)) }
     {
         let Some(bytes) = self.bytes.checked_add(others.bytes) else {
@@ -78,10 +88,11 @@ impl Parts {
         })
     }
 
-    /// The text of a survey: those of its entries, and the line of totals.
+    /// Returns the text of the survey that consists of these chunks: their texts, and the line of
+    /// totals. Fails with `NoMemory` if an allocation does, or if a `u64` can't count the bytes.
     pub fn finish(self) -> Result<SurveyText, NoMemory>
-        ensures { (show : Bool) (entries : List GradedEntry) → AreParts show 1 self entries →
-            IfOk result (λ survey. text_of survey ≡ survey_text show entries) }
+        ensures { (show : Bool) (entries : List GradedEntry) → AreParts show 1 self entries
+            → IfOk result (λ survey. text_of survey ≡ survey_text show entries) }
     {
         let mut last = self.last;
         let printed = last.len();
@@ -97,11 +108,12 @@ impl Parts {
     }
 }
 
-/// The text of a survey, in parts, whose bytes a `u64` counts.
+/// The text of a survey, in chunks. It has fewer than 2^64 bytes.
 #[derive(Drop)]
 pub struct SurveyText {
-    /// The texts before the last one.
+    /// The texts of all chunks but the last.
     front: Vec<Vec<u8>>,
+    /// The text of the last chunk, with the line of totals.
     last: Vec<u8>,
     pub ghost counted: { length (joined front.items ++ last.items) < 2 ^ 64 },
 }
@@ -112,12 +124,17 @@ impl SurveyText {
     ghost use Rattle.streams.specs.Counted.{fault_count};
     ghost use Rattle.survey_text.specs.Parts.{text_of};
 
-    /// Writes the text and flushes. An `Err` has the number of bytes that went out.
+    /// Writes the text to `writer` and flushes it. If the writer fails, the error is the number of
+    /// bytes of the text that were sent.
     pub fn write<W: Write>(&self, writer: &mut Counted<W>) -> Result<(), u64>
         requires { fault_count writer.old < 2 ^ 32 - 1 }
-        ensures ok { OnOk result (Appends (W.contents writer.old.inner) (W.contents writer.new.inner) (text_of self.now)) }
+        ensures ok { OnOk result
+            (Appends (W.contents writer.old.inner) (W.contents writer.new.inner)
+            (text_of self.now)) }
         ensures front { IfErr result (λ sent. sent ≤ length (text_of self.now)) }
-        ensures sent { IfErr result (λ sent. Appends (W.contents writer.old.inner) (W.contents writer.new.inner) (take sent (text_of self.now))) }
+        ensures sent { IfErr result (λ sent.
+            Appends (W.contents writer.old.inner) (W.contents writer.new.inner)
+            (take sent (text_of self.now))) }
         ensures failed { IsErr result ↔ (fault_count writer.old < fault_count writer.new) }
     {
         write_texts(writer, &self.front, &self.last)

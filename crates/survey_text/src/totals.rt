@@ -1,4 +1,4 @@
-//! The last line of a survey.
+//! The totals of a survey, and its last line, which states them.
 
 ghost use Rattle.std.specs.Prelude.{◌≡◌, ◌+◌, ◌++◌, ◌^◌, ◌<◌, [], List, length, OnOk, codes};
 ghost use Rattle.std.specs.Str.{bytes_eq};
@@ -23,13 +23,20 @@ pub(crate) struct VerdictTotals {
 }
 
 impl VerdictTotals {
-    /// Counts a verdict.
+    /// Counts `verdict` once.
     fn count(&mut self, verdict: &Verdict)
         requires { HasVerdictRoom self.old }
-        ensures none { self.new.none ≡ one_more_where (bytes_eq (verdict_word verdict.now) (codes "none")) self.old.none }
-        ensures one { self.new.one ≡ one_more_where (bytes_eq (verdict_word verdict.now) (codes "one")) self.old.one }
-        ensures several { self.new.several ≡ one_more_where (bytes_eq (verdict_word verdict.now) (codes "several")) self.old.several }
-        ensures unsettled { self.new.unsettled ≡ one_more_where (bytes_eq (verdict_word verdict.now) (codes "unsettled"))
+        ensures none { self.new.none
+            ≡ one_more_where (bytes_eq (verdict_word verdict.now) (codes "none"))
+            self.old.none }
+        ensures one { self.new.one
+            ≡ one_more_where (bytes_eq (verdict_word verdict.now) (codes "one"))
+            self.old.one }
+        ensures several { self.new.several
+            ≡ one_more_where (bytes_eq (verdict_word verdict.now) (codes "several"))
+            self.old.several }
+        ensures unsettled { self.new.unsettled
+            ≡ one_more_where (bytes_eq (verdict_word verdict.now) (codes "unsettled"))
             self.old.unsettled }
     {
         match verdict {
@@ -40,7 +47,8 @@ impl VerdictTotals {
         }
     }
 
-    /// Adds the totals of other puzzles.
+    /// Adds the totals of other puzzles. A sum that exceeds the greatest `usize` becomes that one,
+    /// so that callers need no bound.
     fn add(&mut self, others: &VerdictTotals)
         ensures none { self.new.none ≡ sum_of self.old.none others.now.none }
         ensures one { self.new.one ≡ sum_of self.old.one others.now.one }
@@ -63,12 +71,18 @@ pub(crate) struct GradeTotals {
 }
 
 impl GradeTotals {
-    /// Counts a grade.
+    /// Counts `grade` once.
     fn count(&mut self, grade: Grade)
         requires { HasGradeRoom self.old }
-        ensures by_lines { self.new.by_lines ≡ one_more_where (bytes_eq (grade_word grade) (codes "line")) self.old.by_lines }
-        ensures by_trials { self.new.by_trials ≡ one_more_where (bytes_eq (grade_word grade) (codes "trials")) self.old.by_trials }
-        ensures by_search { self.new.by_search ≡ one_more_where (bytes_eq (grade_word grade) (codes "search")) self.old.by_search }
+        ensures by_lines { self.new.by_lines
+            ≡ one_more_where (bytes_eq (grade_word grade) (codes "line"))
+            self.old.by_lines }
+        ensures by_trials { self.new.by_trials
+            ≡ one_more_where (bytes_eq (grade_word grade) (codes "trials"))
+            self.old.by_trials }
+        ensures by_search { self.new.by_search
+            ≡ one_more_where (bytes_eq (grade_word grade) (codes "search"))
+            self.old.by_search }
     {
         match grade {
             Grade::Lines => self.by_lines += 1,
@@ -77,7 +91,8 @@ impl GradeTotals {
         }
     }
 
-    /// Adds the totals of other puzzles.
+    /// Adds the totals of other puzzles. A sum that exceeds the greatest `usize` becomes that one,
+    /// so that callers need no bound.
     fn add(&mut self, others: &GradeTotals)
         ensures by_lines { self.new.by_lines ≡ sum_of self.old.by_lines others.now.by_lines }
         ensures by_trials { self.new.by_trials ≡ sum_of self.old.by_trials others.now.by_trials }
@@ -94,14 +109,14 @@ impl GradeTotals {
 pub(crate) struct Totals {
     /// How many entries there are.
     pub entries: usize,
-    /// How many of them are refused.
+    /// How many entries are refused.
     pub refused: usize,
     verdicts: VerdictTotals,
     grades: GradeTotals,
 }
 
 impl Totals {
-    /// The totals of no entry.
+    /// Returns the totals of no entries: all are 0.
     pub fn none() -> Totals
         ensures { IsTotals result [] }
     {
@@ -122,22 +137,33 @@ impl Totals {
         }
     }
 
-    /// Counts an entry.
+    /// Counts `entry`, and either that it is refused or its verdict and its grade.
     pub fn count(&mut self, entry: &ListedEntry<'_>)
         requires { HasRoom self.old }
         ensures entries { self.new.entries ≡ self.old.entries + 1 }
-        ensures refused { self.new.refused ≡ one_more_where (has_status (codes "refused") (shown_listed entry.now)) self.old.refused }
-        ensures none { self.new.verdicts.none ≡ one_more_where (has_status (codes "none") (shown_listed entry.now)) self.old.verdicts.none }
-        ensures one { self.new.verdicts.one ≡ one_more_where (has_status (codes "one") (shown_listed entry.now)) self.old.verdicts.one }
-        ensures several { self.new.verdicts.several ≡ one_more_where (has_status (codes "several") (shown_listed entry.now))
+        ensures refused { self.new.refused
+            ≡ one_more_where (has_status (codes "refused") (shown_listed entry.now))
+            self.old.refused }
+        ensures none { self.new.verdicts.none
+            ≡ one_more_where (has_status (codes "none") (shown_listed entry.now))
+            self.old.verdicts.none }
+        ensures one { self.new.verdicts.one
+            ≡ one_more_where (has_status (codes "one") (shown_listed entry.now))
+            self.old.verdicts.one }
+        ensures several { self.new.verdicts.several
+            ≡ one_more_where (has_status (codes "several") (shown_listed entry.now))
             self.old.verdicts.several }
-        ensures unsettled { self.new.verdicts.unsettled ≡ one_more_where (has_status (codes "unsettled") (shown_listed entry.now))
+        ensures unsettled { self.new.verdicts.unsettled
+            ≡ one_more_where (has_status (codes "unsettled") (shown_listed entry.now))
             self.old.verdicts.unsettled }
-        ensures by_lines { self.new.grades.by_lines ≡ one_more_where (has_grade (codes "line") (shown_listed entry.now))
+        ensures by_lines { self.new.grades.by_lines
+            ≡ one_more_where (has_grade (codes "line") (shown_listed entry.now))
             self.old.grades.by_lines }
-        ensures by_trials { self.new.grades.by_trials ≡ one_more_where (has_grade (codes "trials") (shown_listed entry.now))
+        ensures by_trials { self.new.grades.by_trials
+            ≡ one_more_where (has_grade (codes "trials") (shown_listed entry.now))
             self.old.grades.by_trials }
-        ensures by_search { self.new.grades.by_search ≡ one_more_where (has_grade (codes "search") (shown_listed entry.now))
+        ensures by_search { self.new.grades.by_search
+            ≡ one_more_where (has_grade (codes "search") (shown_listed entry.now))
             self.old.grades.by_search }
     {
         self.entries += 1;
@@ -150,9 +176,10 @@ impl Totals {
         }
     }
 
-    /// Adds the totals of the entries behind these.
+    /// Adds the totals of the entries that follow.
     pub fn add(&mut self, behind: &Totals)
-        ensures { (entries others : List GradedEntry) → IsTotals self.old entries → IsTotals behind.now others
+        ensures { (entries others : List GradedEntry)
+            → IsTotals self.old entries → IsTotals behind.now others
             → length (entries ++ others) < 2 ^ 31 → IsTotals self.new (entries ++ others) }
     {
         self.entries = self.entries.saturating_add(behind.entries);
@@ -161,7 +188,7 @@ impl Totals {
         self.grades.add(&behind.grades);
     }
 
-    /// Adds the counts of the refused entries and of each verdict.
+    /// Appends the counts of the refused entries and of each verdict, each after its word.
     fn push_statuses(&self, text: &mut Vec<u8>) -> Result<(), NoMemory>
         ensures { OnOk result (text.new.items ≡ text.old.items ++ statuses_text self.now) }
     {
@@ -172,7 +199,7 @@ impl Totals {
         push_count(text, "unsettled", self.verdicts.unsettled)
     }
 
-    /// Adds the count of each grade.
+    /// Appends the count of each grade, after its word.
     fn push_grades(&self, text: &mut Vec<u8>) -> Result<(), NoMemory>
         ensures { OnOk result (text.new.items ≡ text.old.items ++ grades_text self.now) }
     {
@@ -181,8 +208,8 @@ impl Totals {
         push_count(text, "search", self.grades.by_search)
     }
 
-    /// Adds the last line of a survey: how many entries there are, how many are refused, and how many have
-    /// each verdict and each grade.
+    /// Appends the last line of a survey: how many entries there are, how many are refused, and how
+    /// many have each verdict and each grade.
     pub fn push(&self, text: &mut Vec<u8>) -> Result<(), NoMemory>
         ensures { OnOk result (text.new.items ≡ text.old.items ++ totals_text self.now) }
     {
@@ -194,7 +221,7 @@ impl Totals {
     }
 }
 
-/// Adds a word and a count, each after a space.
+/// Appends `word` and `count`, each after a space.
 fn push_count(text: &mut Vec<u8>, word: &str, count: usize) -> Result<(), NoMemory>
     ensures { OnOk result (text.new.items ≡ text.old.items ++ count_text word.now count) }
 {

@@ -1,5 +1,6 @@
-//! Tests of what neither a contract nor a run of the program shows: the greatest puzzle and grid can be
-//! copied with ample memory, each fault has its sentence, and `sweep` reports wrong answers.
+//! Tests of what neither a contract nor a run of the program shows: with ample memory the largest
+//! puzzle and grid can be copied, each fault is displayed as its sentence, and `sweep` reports
+//! wrong results.
 
 use grid_core::*;
 use puzzle_text::{CollectionFault, EntryFault, TextFault, WriteFault};
@@ -18,7 +19,7 @@ pub(crate) fn repeated(alloc: Global, piece: &[u8], count: usize) -> Result<Vec<
     Ok(text)
 }
 
-/// Returns `count` clues, each with these numbers.
+/// Returns `count` clues, each with the numbers `numbers`.
 pub(crate) fn clues(alloc: Global, numbers: &[u16], count: u16) -> Result<Vec<Clue>, Fail> {
     let mut clues = Vec::new(alloc);
     for _ in 0..count {
@@ -27,6 +28,7 @@ pub(crate) fn clues(alloc: Global, numbers: &[u16], count: u16) -> Result<Vec<Cl
     Ok(clues)
 }
 
+/// All fields of a puzzle's texts.
 const FIELDS: [Field; 5] = [
     Field::Catalogue,
     Field::Title,
@@ -35,7 +37,7 @@ const FIELDS: [Field; 5] = [
     Field::License,
 ];
 
-/// Returns whether two puzzles have the same clues, texts and goal.
+/// Reports whether two puzzles have the same clues, texts and goal.
 pub(crate) fn are_same(some: &Puzzle, others: &Puzzle) -> bool {
     for (clues, other_clues) in [
         (some.rows(), others.rows()),
@@ -58,7 +60,8 @@ pub(crate) fn are_same(some: &Puzzle, others: &Puzzle) -> bool {
     some.goal() == others.goal()
 }
 
-/// Returns a puzzle with the most cells, a goal, the longest clues, and a text of the greatest length.
+/// Returns a puzzle at the limits: 256 by 256 cells, a goal, 128 numbers in each clue, and one text
+/// of 65,536 bytes.
 fn greatest_puzzle(alloc: Global) -> Result<Puzzle, Fail> {
     let rows = clues(alloc, &[1; 128], 256)?;
     let columns = clues(alloc, &[1; 128], 256)?;
@@ -87,7 +90,7 @@ fn the_greatest_grid_is_copied(rt: HostRuntime) -> Result<(), Fail> {
     Ok(())
 }
 
-/// Whether a fault is told by this sentence.
+/// Reports whether `fault` is displayed as `sentence`.
 fn is_told<F: Display>(alloc: Global, fault: &F, sentence: &str) -> bool {
     match format!(in alloc; "{fault}") {
         Ok(text) => text.as_str() == sentence,
@@ -95,6 +98,7 @@ fn is_told<F: Display>(alloc: Global, fault: &F, sentence: &str) -> bool {
     }
 }
 
+/// Each fault of a text, with its sentence.
 const TEXT_FAULTS: [(TextFault, &str); 10] = [
     (TextFault::TooLong, "the text has more than 1048576 bytes"),
     (TextFault::NoSize, "the size is missing"),
@@ -170,8 +174,9 @@ fn faults_of_parts_in_sentences(rt: HostRuntime) {
     assert!(rt; is_told(alloc, &TextsFault::NoMemory, refused));
 }
 
-/// What the first call returns, what later calls return, and what a sweep of them returns. No call
-/// allocates, so the result is the same under `tools/sweep.sh`.
+/// What the first call of a sweep returns, what its later calls return, and what `sweep` returns
+/// then. The calls allocate nothing, so the results are the same with and without the failure tool
+/// of `tools/sweep.sh`.
 static SWEPT: [(Told, Told, Result<usize, Unswept>); 4] = [
     (Told::Wanted, Told::Wanted, Ok(0)),
     (
@@ -196,13 +201,13 @@ fn sweeps_report_wrong_answers(rt: HostRuntime) {
     assert!(rt; told_if(true) == Told::Wanted && told_if(false) == Told::Other);
     for (first, afterwards, wanted) in SWEPT {
         let calls = AtomicUsize::new(0);
-        let told = sweep(rt.alloc(), || {
+        let result = sweep(rt.alloc(), || {
             if calls.fetch_add(1, Ordering::Relaxed) == 0 {
                 first
             } else {
                 afterwards
             }
         });
-        assert_eq!(rt; told, wanted);
+        assert_eq!(rt; result, wanted);
     }
 }

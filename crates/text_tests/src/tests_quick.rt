@@ -1,27 +1,29 @@
-//! The quick readers take what they should: every text that a writer gives, with LF and with CR LF.
+//! Tests that the quick readers accept each text that a writer returns, with LF and with CR LF.
+//! Their contracts allow them to accept nothing.
 
 use grid_core::{Clue, Field, LONGEST_SIDE, Puzzle, Texts};
 use puzzle_text::*;
 use std::alloc::Global;
 use std::test::Fail;
 
-/// A generator of pseudorandom numbers.
+/// A linear congruential generator of pseudorandom numbers, with its state.
 #[derive(Drop)]
 struct Draws(u64);
 
 impl Draws {
-    /// Returns a number from 1 to `most`, which is at most 256.
+    /// Returns a pseudorandom number from 1 to `most`, which has to be from 1 to 256.
     fn draw(&mut self, most: u16) -> u16 {
         self.0 = self
             .0
             .wrapping_mul(6_364_136_223_846_793_005)
             .wrapping_add(1_442_695_040_888_963_407);
         let below = ((self.0 >> 33) % u64::from(most.max(1))) as u16;
+        // The remainder changes nothing for such a `most`; with it the sum is seen not to overflow.
         1 + below % LONGEST_SIDE
     }
 }
 
-/// Returns `count` clues, each with up to eleven numbers from 1 to 256.
+/// Returns `count` pseudorandom clues, each with 0 to 11 numbers from 1 to 256.
 fn drawn_clues(alloc: Global, draws: &mut Draws, count: u16) -> Result<Vec<Clue>, Fail> {
     let mut clues = Vec::new(alloc);
     for _ in 0..count {
@@ -34,7 +36,8 @@ fn drawn_clues(alloc: Global, draws: &mut Draws, count: u16) -> Result<Vec<Clue>
     Ok(clues)
 }
 
-/// Returns a random choice of three texts, one of them with double quotes in it.
+/// Returns texts that have each of three fields or not, at random. One text has double quotes in
+/// it, one is empty, and one reads like a keyword line.
 fn drawn_texts(alloc: Global, draws: &mut Draws) -> Result<Texts, Fail> {
     let all: [(Field, &[u8]); 3] = [
         (Field::Title, b" a \"title\" "),
@@ -50,7 +53,7 @@ fn drawn_texts(alloc: Global, draws: &mut Draws) -> Result<Texts, Fail> {
     Ok(texts)
 }
 
-/// Perhaps a goal of so many cells.
+/// Returns a pseudorandom goal of `count` cells, or, in about half of the calls, `None`.
 fn drawn_goal(alloc: Global, draws: &mut Draws, count: u32) -> Result<Option<Vec<bool>>, Fail> {
     if draws.draw(2) == 1 {
         return Ok(None);
@@ -62,7 +65,8 @@ fn drawn_goal(alloc: Global, draws: &mut Draws, count: u32) -> Result<Option<Vec
     Ok(Some(cells))
 }
 
-/// A puzzle, mostly a small one.
+/// Returns a pseudorandom puzzle. Its sizes are drawn from 1 to a limit that is itself drawn from 1
+/// to a drawn limit, so most puzzles are small.
 fn drawn_puzzle(alloc: Global, draws: &mut Draws) -> Result<Puzzle, Fail> {
     let most = draws.draw(LONGEST_SIDE);
     let most = draws.draw(most);
@@ -75,7 +79,7 @@ fn drawn_puzzle(alloc: Global, draws: &mut Draws) -> Result<Puzzle, Fail> {
     Ok(Puzzle::new(width, height, rows, columns, texts, goal)?)
 }
 
-/// The text with CR LF in place of each LF.
+/// Returns `text` with CR LF in place of each LF.
 fn with_returns(alloc: Global, text: &[u8]) -> Result<Vec<u8>, Fail> {
     let mut longer = Vec::new(alloc);
     for byte in text {
@@ -87,7 +91,8 @@ fn with_returns(alloc: Global, text: &[u8]) -> Result<Vec<u8>, Fail> {
     Ok(longer)
 }
 
-/// Returns whether the quick reader of a format accepts a text, as a puzzle whose written text is `written`.
+/// Reports whether the quick reader of `format` accepts `text`, as a puzzle that is written as
+/// `written`.
 fn is_taken(alloc: Global, format: Format, text: &[u8], written: &[u8]) -> Result<bool, Fail> {
     let taken = match format {
         Format::Non => quick_non(alloc, text),
@@ -101,7 +106,8 @@ fn is_taken(alloc: Global, format: Format, text: &[u8], written: &[u8]) -> Resul
     Ok(again.as_slice() == written)
 }
 
-/// Returns whether the quick readers accept each written text of a puzzle, with LF and with CR LF.
+/// Reports whether the quick readers accept each text that a writer returns for `puzzle`, with LF
+/// and with CR LF. A format that has no text for it is skipped.
 fn are_taken(alloc: Global, puzzle: &Puzzle) -> Result<bool, Fail> {
     for format in [Format::Non, Format::Mk, Format::Nin] {
         if let Ok(text) = format.write(alloc, puzzle) {

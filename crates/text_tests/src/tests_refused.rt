@@ -1,5 +1,5 @@
-//! Calls whose growths of memory are refused, each in turn, and calls that take no memory
-//! with every growth refused.
+//! Tests of the calls of `puzzle_text` with failing allocations: each allocation of a call fails in
+//! turn, and calls that allocate nothing are made with every allocation failing.
 
 use crate::tests::{are_same, repeated};
 use grid_core::{NoMemory, Puzzle};
@@ -9,16 +9,20 @@ use std::alloc::Global;
 use std::process::Abort;
 use std::test::Fail;
 
-/// A puzzle with three texts, a clue that takes a growth of its own, a blank line for a clue, and a goal.
+/// A puzzle with three texts, a goal, a blank line as a clue, and a clue of more than 8 numbers,
+/// which needs an allocation of its own.
 const NON: &[u8] =
-    b"title \"a\"\nby b\nlicense\nwidth 2\nheight 3\nrows\n1\n\n1 1 1 1 1 1 1 1 1 1\n\ncolumns\n2\n1\ngoal 101010\n";
+    b"title \"a\"\nby b\nlicense\nwidth 2\nheight 3\nrows\n1\n\n1 1 1 1 1 1 1 1 1 1\n\n\
+    columns\n2\n1\ngoal 101010\n";
 
-/// A puzzle with ornaments of blank lines, and a clue that takes a growth of its own.
+/// A puzzle with blank lines that are no clues, and a clue that needs an allocation of its own.
 const MK: &[u8] = b"2 1\n\n1\n\n1 1 1 1 1 1 1 1 1 1 1 1 1 1 1 1 1 1\n\n#\n\n2\n";
 
+/// A puzzle with blank lines that are no clues, and a clue that needs an allocation of its own.
 const NIN: &[u8] = b"2 1\n1\n\n1 2 3 4 5 6 7 8 9\n\n1\n";
 
-/// These, and a text of each fault that is found after a growth.
+/// The three texts above, and for each format texts with the faults that are found after memory has
+/// been allocated.
 static READ: [(Format, &[u8]); 20] = [
     (Format::Non, NON),
     (Format::Non, b""),
@@ -48,19 +52,23 @@ static READ: [(Format, &[u8]); 20] = [
     (Format::Nin, b"1 1\n1\n1 1 1 1 1 1 1 1 1 1 0\n"),
 ];
 
-/// A call that allocates memory, with its arguments and its expected answer.
+/// A call that allocates memory, with its arguments and its expected result.
 #[derive(Clone, Copy)]
 enum Call<'a> {
+    /// `Format::read`, with its result with ample memory.
     Read(Format, &'a [u8], &'a Result<Puzzle, TextFault>),
+    /// `read_entry`, with the result of the entry's reader with ample memory.
     ReadEntry(Entry<'a>, &'a Result<Puzzle, TextFault>),
-    /// `Format::write`, which is to return this text, or `Ambiguous` if there is none.
+    /// `Format::write`, with the text that it has to return, or `None` if it has to return
+    /// `Ambiguous`.
     Write(&'a Puzzle, Format, Option<&'a [u8]>),
-    /// `entries`, of a collection with two.
+    /// `entries`, for a collection that has two.
     Cut,
+    /// `fault_text`, with the text that it has to return.
     Word(EntryFault, &'a [u8]),
 }
 
-/// Classifies an answer of a reader, given its answer with ample memory.
+/// Classifies the result of a reader, given its result with ample memory.
 fn told_of_read(answer: &Result<Puzzle, TextFault>, usual: &Result<Puzzle, TextFault>) -> Told {
     match (answer, usual) {
         (Err(TextFault::NoMemory), _) => Told::NoMemory,
@@ -70,7 +78,7 @@ fn told_of_read(answer: &Result<Puzzle, TextFault>, usual: &Result<Puzzle, TextF
     }
 }
 
-/// Classifies an answer of `read_entry`.
+/// Classifies the result of `read_entry`, given the reader's result with ample memory.
 fn told_of_entry(answer: Result<Puzzle, EntryFault>, usual: &Result<Puzzle, TextFault>) -> Told {
     match answer {
         Ok(puzzle) => told_of_read(&Ok(puzzle), usual),
@@ -79,6 +87,7 @@ fn told_of_entry(answer: Result<Puzzle, EntryFault>, usual: &Result<Puzzle, Text
     }
 }
 
+/// Classifies the result of a writer. `wanted` is the text, or `None` if the puzzle is ambiguous.
 fn told_of_written(answer: Result<Vec<u8>, WriteFault>, wanted: Option<&[u8]>) -> Told {
     match answer {
         Ok(text) => told_if(wanted == Some(text.as_slice())),
@@ -87,6 +96,7 @@ fn told_of_written(answer: Result<Vec<u8>, WriteFault>, wanted: Option<&[u8]>) -
     }
 }
 
+/// Classifies the result of `entries` for the collection of `Call::Cut`.
 fn told_of_entries(answer: Result<Vec<Entry<'_>>, CollectionFault>) -> Told {
     match answer {
         Ok(found) => match found.as_slice() {
@@ -103,6 +113,7 @@ fn told_of_entries(answer: Result<Vec<Entry<'_>>, CollectionFault>) -> Told {
     }
 }
 
+/// Classifies the result of `fault_text`.
 fn told_of_text(answer: Result<Vec<u8>, NoMemory>, wanted: &[u8]) -> Told {
     match answer {
         Ok(text) => told_if(text.as_slice() == wanted),
@@ -110,7 +121,7 @@ fn told_of_text(answer: Result<Vec<u8>, NoMemory>, wanted: &[u8]) -> Told {
     }
 }
 
-/// Makes the call and classifies its answer.
+/// Makes the call and classifies its result.
 fn told_of(alloc: Global, call: Call<'_>) -> Told {
     match call {
         Call::Read(format, text, usual) => told_of_read(&format.read(alloc, text), usual),
@@ -121,12 +132,12 @@ fn told_of(alloc: Global, call: Call<'_>) -> Told {
     }
 }
 
-/// Makes the call with each of its allocations refused in turn.
+/// Makes the call with each of its allocations failing in turn. Returns how many failed.
 fn sweep_call(alloc: Global, call: Call<'_>) -> Result<usize, Unswept> {
     sweep(alloc, || told_of(alloc, call))
 }
 
-/// Reads the text with each allocation refused in turn.
+/// Reads the text with each allocation failing in turn. Returns how many failed.
 fn sweep_read(alloc: Global, format: Format, text: &[u8]) -> Result<usize, Unswept> {
     let usual = format.read(alloc, text);
     sweep_call(alloc, Call::Read(format, text, &usual))
@@ -140,16 +151,21 @@ fn texts_are_read_or_refused(rt: HostRuntime) -> Result<(), Fail> {
     Ok(())
 }
 
-/// Texts in their usual form, each with a clue of more than eight numbers.
+/// A .non text in its usual form, with a clue of more than 8 numbers.
 const USUAL_NON: &[u8] =
-    b"title \"a\"\nby \"b\"\nwidth 2\nheight 2\n\nrows\n1\n1,1,1,1,1,1,1,1,1,1\n\ncolumns\n2\n1\n\ngoal \"1010\"\n";
+    b"title \"a\"\nby \"b\"\nwidth 2\nheight 2\n\nrows\n1\n1,1,1,1,1,1,1,1,1,1\n\n\
+    columns\n2\n1\n\ngoal \"1010\"\n";
 
+/// An .mk text in its usual form, with a clue of more than 8 numbers.
 const USUAL_MK: &[u8] = b"2 1\n1\n1 1 1 1 1 1 1 1 1 1 1 1 1 1 1 1 1 1\n#\n2\n";
 
+/// A .nin text in its usual form, with a clue of more than 8 numbers.
 const USUAL_NIN: &[u8] = b"2 1\n1\n1 2 3 4 5 6 7 8 9\n1\n";
 
-/// A growth for each list: the clues of the rows and of the columns, those of .nin first in one, the numbers
-/// of the long clue, and in .non the keyword lines, two texts, their place, and the goal.
+/// Counts the allocations for texts in their usual form: one each for the row clues, the column
+/// clues and the numbers of the long clue (.nin reads all clues into one list, which is then
+/// split), and in .non also for the keyword lines, two texts, the box of the texts, and the goal.
+/// Without the failure tool all counts are 0.
 #[test]
 fn usual_texts_grow_by_lists(rt: HostRuntime) -> Result<(), Fail> {
     let alloc = rt.alloc();
@@ -172,11 +188,15 @@ fn entries_are_read_or_refused(rt: HostRuntime) -> Result<(), Fail> {
     Ok(())
 }
 
+/// The puzzle of `NON` as it is written in .non.
 const WRITTEN_NON: &[u8] =
-    b"title \"a\"\nby \"b\"\nlicense \"\"\nwidth 2\nheight 3\n\nrows\n1\n0\n1,1,1,1,1,1,1,1,1,1\n\ncolumns\n2\n1\n\ngoal \"101010\"\n";
+    b"title \"a\"\nby \"b\"\nlicense \"\"\nwidth 2\nheight 3\n\nrows\n1\n0\n1,1,1,1,1,1,1,1,1,1\n\n\
+    columns\n2\n1\n\ngoal \"101010\"\n";
 
+/// The puzzle of `NON` as it is written in .mk.
 const WRITTEN_MK: &[u8] = b"3 2\n1\n0\n1 1 1 1 1 1 1 1 1 1\n#\n2\n1\n";
 
+/// The puzzle of `NON` as it is written in .nin.
 const WRITTEN_NIN: &[u8] = b"2 3\n1\n0\n1 1 1 1 1 1 1 1 1 1\n2\n1\n";
 
 #[test]
@@ -215,14 +235,14 @@ fn words_are_told_or_refused(rt: HostRuntime) -> Result<(), Fail> {
     Ok(())
 }
 
-/// Whether each reader says that a text is too long.
+/// Reports whether each reader returns `TooLong` for `text`.
 fn are_too_long(alloc: Global, text: &[u8]) -> bool {
     matches!(read_non(alloc, text), Err(TextFault::TooLong))
         && matches!(read_mk(alloc, text), Err(TextFault::TooLong))
         && matches!(read_nin(alloc, text), Err(TextFault::TooLong))
 }
 
-/// Whether an entry of this text is refused as too long.
+/// Reports whether `read_entry` returns `TooLong` for an entry with this text.
 fn is_entry_too_long(alloc: Global, body: &[u8]) -> bool {
     let name = b"a.non";
     match read_entry(alloc, &Entry { name, body }) {
@@ -247,7 +267,8 @@ fn long_texts_are_too_long(rt: HostRuntime) -> Result<(), Fail> {
     Ok(())
 }
 
-/// Whether the names and the words of formats and faults are as they should be.
+/// Reports whether formats are found by name and by word, and whether formats and faults have the
+/// expected words.
 fn are_well() -> bool {
     Format::of_name(b"a.Mk") == Some(Format::Mk)
         && Format::of_word("nin") == Some(Format::Nin)
@@ -280,12 +301,13 @@ fn collections_are_refused_without_memory(rt: HostRuntime) -> Result<(), Fail> {
     Ok(())
 }
 
-/// A text that has no room, so that each addition grows it.
+/// Returns a text without spare capacity, so that appending to it allocates.
 fn full_text(alloc: Global) -> Result<Vec<u8>, Fail> {
     Ok(Vec::from_slice(alloc, b"text ").ok().ok_or("memory")?)
 }
 
-/// Asserts that a text is what was wanted, or that a growth was refused and it is as it was before.
+/// Asserts that a call that appends left the text `wanted` if it succeeded, and that it failed only
+/// because an allocation did, and then left the text unchanged.
 fn assert_grown(
     rt: &impl Abort,
     answer: Result<(), NoMemory>,
@@ -325,6 +347,7 @@ fn numbers_are_added_or_refused(rt: HostRuntime) -> Result<(), Fail> {
 #[test]
 fn words_are_added_in_part_or_refused(rt: HostRuntime) -> Result<(), Fail> {
     let wanted = b"text BadNumber:4000000000";
+    // The word is appended in pieces, so a failure may leave the first ones.
     for growth in 1..5 {
         let mut text = full_text(rt.alloc())?;
         refuse(rt.alloc(), growth);

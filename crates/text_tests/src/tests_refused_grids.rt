@@ -1,5 +1,5 @@
-//! Calls whose growths of memory are refused, each in turn, and calls that take no memory with every growth
-//! refused.
+//! Tests of the calls of `grid_core` with failing allocations: each allocation of a call fails in
+//! turn, and calls that allocate nothing are made with every allocation failing.
 
 use crate::tests::{are_same, clues};
 use grid_core::*;
@@ -10,9 +10,11 @@ use std::test::Fail;
 
 /// The demonstration puzzle.
 const DEMO: &[u8] =
-    b"title \"Demo\"\nwidth 5\nheight 10\n\nrows\n2\n2,1\n1,1\n3\n1,1\n1,1\n2\n1,1\n1,2\n2\n\ncolumns\n2,1\n2,1,3\n7\n1,3\n2,1\n\ngoal \"01100011010010101110101001010000110010100101111000\"\n";
+    b"title \"Demo\"\nwidth 5\nheight 10\n\nrows\n2\n2,1\n1,1\n3\n1,1\n1,1\n2\n1,1\n1,2\n2\n\n\
+    columns\n2,1\n2,1,3\n7\n1,3\n2,1\n\n\
+    goal \"01100011010010101110101001010000110010100101111000\"\n";
 
-/// More numbers than a clue keeps in place.
+/// More numbers than a clue stores inline.
 const TWELVE: [u16; 12] = [1, 2, 3, 4, 5, 6, 7, 8, 9, 10, 11, 12];
 
 /// A call that allocates memory, with its arguments.
@@ -20,14 +22,17 @@ const TWELVE: [u16; 12] = [1, 2, 3, 4, 5, 6, 7, 8, 9, 10, 11, 12];
 enum Call<'a> {
     /// `Clue::from_numbers`, and whether the numbers are a clue.
     MakeClue(&'a [u16], bool),
+    /// `Clue::copy`.
     CopyClue(&'a Clue),
+    /// `Puzzle::copy`.
     CopyPuzzle(&'a Puzzle),
+    /// `Grid::unknown`, with 256 by 255 cells.
     MakeGrid,
-    /// `Grid::copy` of the solution of a puzzle.
+    /// `Grid::copy`, for the solution of a puzzle.
     CopyGrid(&'a Grid, &'a Puzzle),
 }
 
-/// Makes the call and returns whether its answer is the expected one.
+/// Makes the call and returns whether its result is the expected one.
 fn is_wanted(alloc: Global, call: Call<'_>) -> Result<bool, NoMemory> {
     match call {
         Call::MakeClue(numbers, fit) => match Clue::from_numbers(alloc, numbers) {
@@ -54,7 +59,7 @@ fn is_wanted(alloc: Global, call: Call<'_>) -> Result<bool, NoMemory> {
     }
 }
 
-/// Makes the call with each of its allocations refused in turn.
+/// Makes the call with each of its allocations failing in turn. Returns how many failed.
 fn sweep_call(alloc: Global, call: Call<'_>) -> Result<usize, Unswept> {
     sweep(alloc, || match is_wanted(alloc, call) {
         Ok(wanted) => told_if(wanted),
@@ -76,6 +81,7 @@ fn clues_are_copied_or_refused(rt: HostRuntime) -> Result<(), Fail> {
     Ok(())
 }
 
+/// Reports whether the title is `title` and the author is `author`.
 fn has_title(texts: &Texts, title: &[u8]) -> bool {
     texts.get(Field::Title) == Some(title) && texts.get(Field::By) == Some(b"author".as_slice())
 }
@@ -83,6 +89,7 @@ fn has_title(texts: &Texts, title: &[u8]) -> bool {
 #[test]
 fn texts_are_set_or_refused(rt: HostRuntime) -> Result<(), Fail> {
     let alloc = rt.alloc();
+    // `set` allocates once: with its second allocation failing it succeeds.
     for growth in [2, 1] {
         let mut texts = Texts::none();
         texts.set(alloc, Field::Title, b"before")?;
@@ -129,7 +136,8 @@ fn grids_are_made_or_refused(rt: HostRuntime) -> Result<(), Fail> {
     Ok(())
 }
 
-/// Returns the grid of the demonstration puzzle's goal, in which each cell is set as the first unknown one.
+/// Returns the goal of the demonstration puzzle as a grid. Sets each cell as the first unknown one,
+/// and returns `None` if `first_unknown` finds no cell of the grid.
 fn solution(alloc: Global, puzzle: &Puzzle) -> Result<Option<Grid>, NoMemory> {
     let Some(goal) = puzzle.goal() else {
         return Ok(None);
@@ -139,6 +147,7 @@ fn solution(alloc: Global, puzzle: &Puzzle) -> Result<Option<Grid>, NoMemory> {
         let Some((x, y)) = grid.first_unknown() else {
             return Ok(None);
         };
+        // `set` requires this, and no invariant of the loop says it.
         if x >= grid.width() || y >= grid.height() {
             return Ok(None);
         }
@@ -156,7 +165,7 @@ fn grids_are_copied_or_refused(rt: HostRuntime) -> Result<(), Fail> {
     Ok(())
 }
 
-/// Returns whether a puzzle has the parts of the demonstration puzzle.
+/// Reports whether sizes, clues, title and goal are those of the demonstration puzzle.
 fn is_demonstration(puzzle: &Puzzle) -> bool {
     puzzle.width() == 5
         && puzzle.height() == 10
@@ -166,8 +175,10 @@ fn is_demonstration(puzzle: &Puzzle) -> bool {
         && puzzle.goal_word() == GoalWord::Meets
 }
 
-/// Clears a cell of a puzzle's solution and sets it again. Returns whether each call on the grid is right.
+/// Makes a cell of the solution `grid` unknown and sets it again. Returns whether each call on the
+/// grid has the expected result.
 fn are_cells_well(puzzle: &Puzzle, grid: &mut Grid) -> bool {
+    // Shows that the cells below are cells of the grid, as its methods require.
     if grid.width() != 5 || grid.height() != 10 {
         return false;
     }
@@ -183,8 +194,8 @@ fn are_cells_well(puzzle: &Puzzle, grid: &mut Grid) -> bool {
         && puzzle.solved_by(grid)
 }
 
-/// Writes the fifth row of a puzzle's solution over the first. Returns whether each call on the grid is
-/// right.
+/// Writes the fifth row of the solution `grid` over the first. Returns whether each call on the
+/// grid has the expected result.
 fn are_rows_well(puzzle: &Puzzle, grid: &mut Grid) -> bool {
     if grid.height() != 10 {
         return false;

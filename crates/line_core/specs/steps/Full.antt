@@ -1,23 +1,24 @@
--- A line whose cells are all known, and runs that are the first of a clue.
+-- Lines whose cells are all known, and runs that are the beginning of a clue.
 use Rattle.std.specs.Prelude.{◌≡◌, ◌≤◌, ℕ, Bool, true, false, List, ◌++◌, length, reverse, slice_index_or, take, Option, Some, None}
 use Rattle.grid_core.specs.declared.cells.Cell.{Cell}
 use Rattle.grid_core.specs.Runs.{runs}
 use Rattle.line_core.specs.steps.Reach.{MayBe}
 
--- no cell may be both blank and filled
+-- each cell of the line is known: none can still take both colours
 abbrev pub IsFull : List Cell → Type 0
 IsFull line = (i : ℕ) → MayBe line false i → MayBe line true i → ⊥
 
--- a cell of a full line is filled
+-- cell `i` of a full line is filled
 abbrev pub IsFilled : List Bool → ℕ → Type 0
 IsFilled cells i = slice_index_or cells i false ≡ true
 
--- a list seen from its other end, or as it is
+-- the list, reversed if the first argument is true
 abbrev pub turned : {A : Type 0} → Bool → List A → List A
 turned true xs = reverse xs
 turned false xs = xs
 
--- the runs of cells are so many of a clue's first numbers, or not how the clue begins
+-- the runs of `cells` are the first `count` numbers of `clue`; for `None`, they are not its
+-- beginning
 abbrev pub ArePassed : List Bool → List ℕ → Option ℕ → Type 0
 ArePassed cells clue (Some count) = (count ≤ length clue) × (runs cells ≡ take count clue)
 ArePassed cells clue None = (others : List ℕ) → runs cells ++ others ≡ clue → ⊥

@@ -1,10 +1,10 @@
--- A run that is alone on its line.
+-- Lines whose clue is a single run.
 use Rattle.std.specs.Prelude.{ℕ, ◌+◌, ◌<◌, ◌≤◌, true, false, List, length}
 use Rattle.grid_core.specs.declared.cells.Cell.{Cell}
 use Rattle.place_sets.specs.Masks.{AllFrom}
 use Rattle.line_core.specs.steps.Reach.{MayBe}
 
--- a run of `number` cells can start here, with every other cell of the line blank
+-- a run of `number` cells can start at `s`, with every other cell of the line blank
 pub record IsLoneStart (line : List Cell) (number s : ℕ) : Type 0 where
   pub window : AllFrom (MayBe line true) number s
   pub blanks : (i : ℕ) → i < length line → (s ≤ i → i < s + number → ⊥) → MayBe line false i

@@ -1,12 +1,12 @@
--- A line as words, and a pass over its runs, from its left.
+-- The domain of a line as bits, and the state of a prefix scan.
 use Rattle.std.specs.Prelude.{◌≡◌, ℕ, ◌-◌, ◌≤◌, true, false, List, ◌++◌, length, replicate}
 use Rattle.grid_core.specs.declared.cells.Cell.TheVariants.{Blank}
 use Rattle.grid_core.specs.declared.cells.Cell.{Cell}
 use Rattle.place_sets.specs.Masks.{IsMaskOf, AreWindows}
 use Rattle.line_core.specs.steps.Reach.{MayBe, IsGapAfter}
 
--- a line's length, and the masks of its cells that may be blank and of those that may be filled,
--- in words of `width` places
+-- `len`, `free` and `room` are the domain of `line`, in sets of `width` indices: its length, its
+-- cells that are not known to be filled, and its cells that are not known to be blank
 pub record IsSpanOf (width : ℕ) (line : List Cell) (len free room : ℕ) : Type 0 where
   pub some : 1 ≤ length line
   pub short : length line ≤ width
@@ -14,10 +14,12 @@ pub record IsSpanOf (width : ℕ) (line : List Cell) (len free room : ℕ) : Typ
   pub free_is : IsMaskOf (MayBe line false) free
   pub room_is : IsMaskOf (MayBe line true) room
 
--- a pass over a line that has passed some runs, the last of them first:
--- it has the mask of the cells that may be blank, windows of those that may be filled,
--- the place at which a run can start with no gap before it, and the mask of the gap after the runs
-pub record IsPassOver (width top : ℕ) (line : List Cell) (runs : List ℕ) (free : ℕ) (windows : List ℕ) (opening gap : ℕ) : Type 0 where
+-- the state of a prefix scan of `line` after `runs`, of which the last one comes first: the cells
+-- that can be blank, the fit table of those that can be filled, the first cell as long as no run
+-- has been passed, and the prefix gap after the runs
+pub record IsPassOver
+    (width top : ℕ) (line : List Cell) (runs : List ℕ)
+    (free : ℕ) (windows : List ℕ) (opening gap : ℕ) : Type 0 where
   pub room : ℕ
   pub short : length line ≤ width
   pub free_is : IsMaskOf (MayBe line false) free
@@ -26,6 +28,6 @@ pub record IsPassOver (width top : ℕ) (line : List Cell) (runs : List ℕ) (fr
   pub opening_is : IsMaskOf (λ i. (i ≡ 0) × (length runs ≡ 0)) opening
   pub gap_is : IsMaskOf (IsGapAfter line runs) gap
 
--- a line with blank cells behind it, up to `width`
+-- the line with blank cells appended up to `width` cells
 abbrev pub padded : ℕ → List Cell → List Cell
 padded width line = line ++ replicate (width - length line) Blank

@@ -1,4 +1,4 @@
--- What the masks of a line mean: which parts of the clue fit which parts of the line.
+-- Prefix gaps, suffix gaps and ends of runs: which parts of a clue fit which parts of a line.
 use Rattle.std.specs.Prelude.{◌≡◌, ℕ, zero, suc, ◌+◌, ◌-◌, ◌<◌, ◌≤◌, Bool, true, false, List, [], ◌∷◌, length, reverse, slice_index, slice_index_or, drop, All}
 use Rattle.grid_core.specs.declared.cells.Cell.{Cell}
 use Rattle.grid_core.specs.declared.cells.Cell.TheVariants.{Unknown}
@@ -6,76 +6,94 @@ use Rattle.grid_core.specs.Cells.{allows, agrees}
 use Rattle.grid_core.specs.Runs.{runs}
 use Rattle.place_sets.specs.Masks.{Has, IsMaskOf, AllFrom, SomeFrom}
 
--- each number is the length of a run, within `width` places
+-- each number is the length of a run: at least 1, and at most `width`
 pub record AreLengths (width : ℕ) (clue : List ℕ) : Type 0 where
   pub positive : All (λ n. 0 < n) clue
   pub short : All (λ n. n ≤ width) clue
 
--- the first elements of a list, the last of them first
+-- the first `n` elements of `xs`, where `n` is the last argument, the last of them first; `default`
+-- stands for missing ones
 abbrev pub behind : {A : Type 0} → A → List A → ℕ → List A
 behind default xs zero = []
 behind default xs (suc i) = slice_index_or xs i default ∷ behind default xs i
 
--- some full line agrees with the cells, and its runs are the clue
+-- some full line agrees with `cells`, and its runs are `clue`
 abbrev pub HasPlacing : List Cell → List ℕ → Type 0
 HasPlacing cells clue = (full : List Bool) × (agrees cells full ≡ true) × (runs full ≡ clue)
 
--- and the first of its cells, if there is one, is blank
+-- some full line agrees with `cells`, its runs are `clue`, and it is empty or begins with a blank
+-- cell
 abbrev pub MayBeginBlank : List Cell → List ℕ → Type 0
-MayBeginBlank cells clue = (full : List Bool) × (agrees cells full ≡ true) × (runs full ≡ clue) × (slice_index_or full 0 false ≡ false)
+MayBeginBlank cells clue =
+    (full : List Bool) × (agrees cells full ≡ true) × (runs full ≡ clue)
+    × (slice_index_or full 0 false ≡ false)
 
--- a cell of the line leaves a colour open
+-- cell `i` of the line can take a colour: it is unknown, or known in that colour
 abbrev pub MayBe : List Cell → Bool → ℕ → Type 0
 MayBe line filled i = (i < length line) × (allows (slice_index_or line i Unknown) filled ≡ true)
 
--- a cell may be blank, and the cells before it, seen from it, can hold exactly `runs`, the last of them first
+-- `i` is a prefix gap after `runs`, of which the last one comes first: the cell can be blank, and
+-- the cells before it can have exactly these runs
 abbrev pub IsGapAfter : List Cell → List ℕ → ℕ → Type 0
 IsGapAfter line runs i = MayBe line false i × HasPlacing (behind Unknown line i) runs
 
--- a run of `number` cells can start here, with exactly `runs`, the last of them first, in the cells before,
--- and a blank one next to it
+-- a run of `number` cells can start at `s`: these cells can be filled, and the cells before, of
+-- which the last one has to be blank, can have exactly `runs`, of which the last one comes first
 abbrev pub IsStartAfter : List Cell → List ℕ → ℕ → ℕ → Type 0
-IsStartAfter line runs number s = MayBeginBlank (behind Unknown line s) runs × AllFrom (MayBe line true) number s
+IsStartAfter line runs number s =
+    MayBeginBlank (behind Unknown line s) runs × AllFrom (MayBe line true) number s
 
--- and end here
+-- a run of `number` cells can end at `e`, with exactly `runs`, of which the last one comes first,
+-- before it
 abbrev pub IsEndAfter : List Cell → List ℕ → ℕ → ℕ → Type 0
 IsEndAfter line runs number e = (number ≤ e + 1) × IsStartAfter line runs number (e + 1 - number)
 
--- the cells up to this one can hold exactly the first j runs of the clue, with this one blank
+-- `i` is a prefix gap after `j` runs: it can be blank, with exactly the first `j` runs of the clue
+-- in the cells before
 abbrev pub IsGap : List Cell → List ℕ → ℕ → ℕ → Type 0
 IsGap line clue j i = IsGapAfter line (behind 0 clue j) i
 
--- masks of the gaps before each run and after the last one,
--- of a line and a clue that are both seen from their other end
+-- `gaps` have the prefix gaps of the mirrored line and clue, before each run and after the last one
 abbrev pub AreReversedGaps : List Cell → List ℕ → List ℕ → Type 0
-AreReversedGaps line clue gaps = (j : ℕ) → j ≤ length clue → IsMaskOf (IsGap (reverse line) (reverse clue) j) (slice_index gaps j)
+AreReversedGaps line clue gaps =
+    (j : ℕ) → j ≤ length clue
+    → IsMaskOf (IsGap (reverse line) (reverse clue) j) (slice_index gaps j)
 
--- masks that are others seen from the other end of a line of `len` cells
+-- each set of `new` is that of `old`, mirrored within a line of `len` cells
 abbrev pub AreReversedMasks : ℕ → List ℕ → List ℕ → Type 0
 AreReversedMasks len old new =
     (length new ≡ length old)
-    × ((k : ℕ) → k < length old → IsMaskOf (λ i. (i < len) × Has (slice_index old k) (len - 1 - i)) (slice_index new k))
+    × ((k : ℕ) → k < length old
+    → IsMaskOf (λ i. (i < len) × Has (slice_index old k) (len - 1 - i)) (slice_index new k))
 
--- run j (the first is run 0) can end here, with exactly the runs before it in the cells before
+-- run `j`, counted from 0, can end at `e`, as far as the cells before allow: these can have exactly
+-- the runs before it
 abbrev pub IsEnd : List Cell → List ℕ → ℕ → ℕ → Type 0
 IsEnd line clue j e = IsEndAfter line (behind 0 clue j) (slice_index_or clue j 0) e
 
--- the cells from this one on can hold exactly the runs from the jth on, with this one blank
+-- `i` is a suffix gap after `j` runs: it can be blank, with exactly the other runs of the clue in
+-- the cells after
 abbrev pub IsGapAhead : List Cell → List ℕ → ℕ → ℕ → Type 0
 IsGapAhead line clue j i = MayBe line false i × HasPlacing (drop (i + 1) line) (drop j clue)
 
--- masks of the gaps before each run and after the last one, as the cells after allow them, the last one first
+-- `gaps` have the suffix gaps before each run and after the last one, the last one first
 abbrev pub AreGapsAhead : List Cell → List ℕ → List ℕ → Type 0
-AreGapsAhead line clue gaps = (j : ℕ) → j ≤ length clue → IsMaskOf (IsGapAhead line clue j) (slice_index gaps (length clue - j))
+AreGapsAhead line clue gaps =
+    (j : ℕ) → j ≤ length clue
+    → IsMaskOf (IsGapAhead line clue j) (slice_index gaps (length clue - j))
 
--- run j ends here in some whole placing
+-- `e` is a feasible end of run `j`: the run ends there in some placing
 abbrev pub IsWholeEnd : List Cell → List ℕ → ℕ → ℕ → Type 0
-IsWholeEnd line clue j e = IsEnd line clue j e × MayBeginBlank (drop (e + 1) line) (drop (j + 1) clue)
+IsWholeEnd line clue j e =
+    IsEnd line clue j e × MayBeginBlank (drop (e + 1) line) (drop (j + 1) clue)
 
--- a cell is blank in some placing
+-- cell `i` is blank in some placing
 abbrev pub IsBlankable : List Cell → List ℕ → ℕ → Type 0
-IsBlankable line clue i = (j : ℕ) × (j ≤ length clue) × IsGap line clue j i × IsGapAhead line clue j i
+IsBlankable line clue i =
+    (j : ℕ) × (j ≤ length clue) × IsGap line clue j i × IsGapAhead line clue j i
 
--- and filled in some
+-- cell `i` is filled in some placing
 abbrev pub IsFillable : List Cell → List ℕ → ℕ → Type 0
-IsFillable line clue i = (j : ℕ) × (j < length clue) × SomeFrom (IsWholeEnd line clue j) (slice_index_or clue j 0) i
+IsFillable line clue i =
+    (j : ℕ) × (j < length clue)
+    × SomeFrom (IsWholeEnd line clue j) (slice_index_or clue j 0) i

@@ -1,4 +1,4 @@
--- Lines in their usual form, as the quick readers take them.
+-- Lines in their usual form, as the fast path accepts them.
 use Rattle.std.specs.Prelude.{◌≡◌, ℕ, ◌+◌, ◌≤◌, ◌⊎◌, true, List, [], ◌∷◌, ◌++◌, length, slice_index, filter, Some, None, Ok}
 use Rattle.std.specs.List.{list_all}
 use Rattle.std.specs.Char.{is_ascii_digit}
@@ -13,75 +13,88 @@ use Rattle.puzzle_text.specs.Keywords.{is_keyword_line}
 use Rattle.puzzle_text.specs.Numbers.{pieces}
 use Rattle.puzzle_text.specs.Sizes.{two_sizes}
 
--- these bytes are the digits of a number from 1 to the limit
+-- `piece` is the digits of `number`, which is from 1 to `LONGEST_SIDE`
 pub record IsNumeral (piece : List ℕ) (number : ℕ) : Type 0 where
   pub digits : list_all is_ascii_digit piece ≡ true
   pub value : number ≡ digits_value 10 piece
   pub positive : 1 ≤ number
   pub within : number ≤ LONGEST_SIDE
 
--- the bytes begin with a number, and `rest` follows its digits
+-- `bytes` begin with the digits of `number`, and `rest` follows them
 abbrev pub BeginsWithNumber : List ℕ → ℕ → List ℕ → Type 0
-BeginsWithNumber bytes number rest = (piece : List ℕ) × (bytes ≡ piece ++ rest) × IsNumeral piece number
+BeginsWithNumber bytes number rest =
+    (piece : List ℕ) × (bytes ≡ piece ++ rest) × IsNumeral piece number
 
--- a comma or a space
+-- `byte` is a comma or a space
 abbrev pub IsSeparator : ℕ → Type 0
 IsSeparator byte = (byte ≡ 44) ⊎ (byte ≡ 32)
 
--- the bytes begin with the ending of a line, and `rest` follows it
+-- `bytes` begin with a line ending, and `rest` follows it
 abbrev pub EndsLine : List ℕ → List ℕ → Type 0
 EndsLine bytes rest = (bytes ≡ 10 ∷ rest) ⊎ (bytes ≡ 13 ∷ 10 ∷ rest)
 
--- the first line has this text, and `rest` has the lines below it
+-- the first line of `bytes` has this `text`, and `rest` are the bytes of the lines below it
 abbrev pub BeginsWith : List ℕ → List ℕ → List ℕ → Type 0
 BeginsWith bytes text rest = (number : ℕ)
-    → numbered_from number (raw_lines bytes) ≡ record { number = number; text = text } ∷ numbered_from (number + 1) (raw_lines rest)
+    → numbered_from number (raw_lines bytes)
+    ≡ record { number = number; text = text } ∷ numbered_from (number + 1) (raw_lines rest)
 
--- the text of a line says this clue, and begins with a digit
+-- `text` is read as `clue`, and begins with a digit
 abbrev pub IsClueText : List ℕ → List ℕ → Type 0
-IsClueText text clue = (clue_of LONGEST_SIDE text ≡ Some clue) × (is_ascii_digit (slice_index text 0) ≡ true)
+IsClueText text clue =
+    (clue_of LONGEST_SIDE text ≡ Some clue) × (is_ascii_digit (slice_index text 0) ≡ true)
 
--- the first line says this clue, and `rest` has the lines below it
+-- the first line of `bytes` is read as `clue` and begins with a digit, and `rest` are the bytes of
+-- the lines below it
 abbrev pub SaysClue : List ℕ → List ℕ → List ℕ → Type 0
 SaysClue bytes clue rest = (text : List ℕ) × BeginsWith bytes text rest × IsClueText text clue
 
--- each of these lines says its clue, and begins with a digit
+-- each line is read as the clue at its index and begins with a digit, and there are as many clues
+-- as lines
 abbrev pub AreClueLines : List Line → List (List ℕ) → Type 0
 AreClueLines [] [] = Unit {0}
 AreClueLines [] (clue ∷ clues) = ⊥
 AreClueLines (line ∷ found) [] = ⊥
 AreClueLines (line ∷ found) (clue ∷ clues) = IsClueText line.text clue × AreClueLines found clues
 
--- the first lines say these clues, and `rest` has the lines below them
+-- the first lines of `bytes` are read as `clues` and begin with digits, and `rest` are the bytes of
+-- the lines below them
 abbrev pub SayClues : List ℕ → List (List ℕ) → List ℕ → Type 0
 SayClues bytes clues rest = (number : ℕ) → (found : List Line)
-    × (numbered_from number (raw_lines bytes) ≡ found ++ numbered_from (number + length clues) (raw_lines rest))
+    × (numbered_from number (raw_lines bytes)
+    ≡ found ++ numbered_from (number + length clues) (raw_lines rest))
     × AreClueLines found clues
 
--- the clues of the section that a keyword opens, if it opens one
+-- the clues of the section that a keyword begins; none if it begins no section
 abbrev pub clues_under : Under → List (List ℕ) → List (List ℕ) → List (List ℕ)
 clues_under Rows rows columns = rows
 clues_under Columns rows columns = columns
 clues_under Other rows columns = []
 
--- the section that a keyword opens had no clues, and the others are as they were
-abbrev pub KeepsOthers : Under → List (List ℕ) → List (List ℕ) → List (List ℕ) → List (List ℕ) → Type 0
+-- the section that a keyword begins had no clues, and the other one is unchanged; if it begins no
+-- section, both are
+abbrev pub KeepsOthers : Under → List (List ℕ) → List (List ℕ) → List (List ℕ)
+    → List (List ℕ) → Type 0
 KeepsOthers Rows rows columns new_rows new_columns = (length rows ≡ 0) × (new_columns ≡ columns)
 KeepsOthers Columns rows columns new_rows new_columns = (length columns ≡ 0) × (new_rows ≡ rows)
 KeepsOthers Other rows columns new_rows new_columns = (new_rows ≡ rows) × (new_columns ≡ columns)
 
--- the first line says these sizes, and `rest` has the lines below it
+-- the first line of `bytes` is read as `sizes` and begins with a digit, and `rest` are the bytes of
+-- the lines below it
 abbrev pub SaysSizes : List ℕ → ℕ × ℕ → List ℕ → Type 0
-SaysSizes bytes sizes rest = (text : List ℕ) × BeginsWith bytes text rest × (two_sizes LONGEST_SIDE (pieces text) ≡ Ok sizes)
+SaysSizes bytes sizes rest =
+    (text : List ℕ) × BeginsWith bytes text rest × (two_sizes LONGEST_SIDE (pieces text) ≡ Ok sizes)
     × (is_ascii_digit (slice_index text 0) ≡ true)
 
--- no line is stray, and the lines of both sections that aren't blank say these clues
-pub record HaveClues (sections : Sections) (rows : List (List ℕ)) (columns : List (List ℕ)) : Type 0 where
+-- no line is stray, and the non-blank lines of both sections are read as these clues
+pub record HaveClues (sections : Sections) (rows : List (List ℕ))
+    (columns : List (List ℕ)) : Type 0 where
   pub stray : sections.stray ≡ None
   pub rows_said : AreClueLines (filter is_full sections.rows) rows
   pub columns_said : AreClueLines (filter is_full sections.columns) columns
 
--- the keyword lines of a text, and the clues of its sections
-pub record HasParts (bytes : List ℕ) (kept : List Line) (rows : List (List ℕ)) (columns : List (List ℕ)) : Type 0 where
+-- `kept` are the keyword lines of a text, and `rows` and `columns` the clues of its sections
+pub record HasParts (bytes : List ℕ) (kept : List Line) (rows : List (List ℕ))
+    (columns : List (List ℕ)) : Type 0 where
   pub keywords : kept ≡ filter is_keyword_line (lines bytes)
   pub sections : HaveClues (sections_of (placed (lines bytes))) rows columns

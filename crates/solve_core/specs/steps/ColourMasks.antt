@@ -1,23 +1,23 @@
--- Places of a line, by colour.
+-- A set of indices for each colour.
 use Rattle.std.specs.Prelude.{ℕ, Bool, true, false}
 use Rattle.grid_core.specs.declared.cells.Cell.{Cell}
 use Rattle.grid_core.specs.declared.cells.Cell.TheVariants.{Unknown, Filled, Blank}
 
--- the places for filled and those for blank, each as a mask
+-- the indices for filled and those for blank, each set as a mask
 pub record ColourMasks : Type 0 where
   pub filled : ℕ
   pub blank : ℕ
 
--- no places
+-- no index for either colour
 abbrev pub no_colours : ColourMasks
 no_colours = record { filled = 0; blank = 0 }
 
--- the places for filled, or else for blank
+-- the indices for filled if the flag is true, and otherwise those for blank
 abbrev pub mask_if : Bool → ColourMasks → ℕ
 mask_if true masks = masks.filled
 mask_if false masks = masks.blank
 
--- the places for a colour
+-- the indices for a colour; none for unknown
 abbrev pub mask_of : Cell → ColourMasks → ℕ
 mask_of Unknown masks = 0
 mask_of Filled masks = masks.filled

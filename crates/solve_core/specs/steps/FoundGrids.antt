@@ -1,8 +1,8 @@
--- The grids that a search keeps.
+-- The solutions that a search has found.
 use Rattle.std.specs.Prelude.{ℕ, List}
 use Rattle.grid_core.specs.PartialGrid.{PartialGrid}
 
--- the grids that were found, and the size that each of them has
+-- the solutions found, and the width and the height of each
 pub record FoundGrids : Type 0 where
   pub width : ℕ
   pub height : ℕ

@@ -6,7 +6,7 @@ use Rattle.grid_core.specs.declared.sides.Side.TheVariants.{Rows, Columns}
 use Rattle.grid_core.specs.Nonogram.{places_on, cells_at}
 use Rattle.grid_core.specs.PartialGrid.{IsSize}
 
--- each row and each column has its cells
+-- `rows` and `columns` are the lines of the grid `cells`
 pub record AreLinesOf (cells : List Cell) (rows columns : List (List Cell)) : Type 0 where
   pub size : IsSize (length columns) (length rows)
   pub count : length cells ≡ length columns * length rows

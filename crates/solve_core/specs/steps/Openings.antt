@@ -1,4 +1,4 @@
--- Openings: colours of a grid's cells that are known to be open.
+-- The record of consistent colours: those of a grid's cells that are known not to be refuted.
 use Rattle.std.specs.Prelude.{◌≡◌, ℕ, ◌/◌, ◌%◌, ◌<◌, ◌≤◌, false, List, Option, Some, None, slice_index_or}
 use Rattle.grid_core.specs.declared.cells.Cell.{Cell}
 use Rattle.grid_core.specs.declared.cells.Cell.TheVariants.{Filled, Blank}
@@ -9,21 +9,25 @@ use Rattle.solve_core.specs.Trials.{is_refuted}
 use Rattle.solve_core.specs.steps.Trails.{CanSettle}
 use Rattle.solve_core.specs.steps.ColourMasks.{ColourMasks, mask_of, no_colours}
 
--- a colour is noted at column x of row y
+-- `colour` is recorded as consistent at column `x` of row `y`
 abbrev pub IsNoted : List ColourMasks → ℕ → ℕ → Cell → Type 0
 IsNoted rows x y colour = Has (mask_of colour (slice_index_or rows y no_colours)) x
 
--- both colours are
+-- both colours are recorded as consistent at column `x` of row `y`
 abbrev pub AreBothNoted : List ColourMasks → ℕ → ℕ → Type 0
 AreBothNoted rows x y = IsNoted rows x y Filled × IsNoted rows x y Blank
 
--- each colour noted at an unknown cell isn't refuted
+-- the record is correct: no colour that is recorded at an unknown cell is refuted
 pub record AreOpenings (p : Nonogram) (rows : List ColourMasks) (cells : List Cell) : Type 0 where
-  pub each : (k : ℕ) (colour : Cell) → CanSettle cells k colour → IsNoted rows (k % p.width) (k / p.width) colour →
+  pub each : (k : ℕ) (colour : Cell) → CanSettle cells k colour →
+      IsNoted rows (k % p.width) (k / p.width) colour →
       is_refuted (lines_of p) cells k colour ≡ false
 
--- both colours are noted at each unknown cell from a place on, and before another one, if there is one
+-- both colours are recorded at each unknown cell from index `from` on, and before `place` if it is
+-- given
 abbrev pub AreTriedFrom : List ColourMasks → ℕ → List Cell → ℕ → Option ℕ → Type 0
-AreTriedFrom rows width cells from None = (k : ℕ) → from ≤ k → IsUnknownCell cells k → AreBothNoted rows (k % width) (k / width)
+AreTriedFrom rows width cells from None =
+    (k : ℕ) → from ≤ k → IsUnknownCell cells k → AreBothNoted rows (k % width) (k / width)
 AreTriedFrom rows width cells from (Some place) =
-    (k : ℕ) → from ≤ k → k < place → IsUnknownCell cells k → AreBothNoted rows (k % width) (k / width)
+    (k : ℕ) → from ≤ k → k < place → IsUnknownCell cells k →
+    AreBothNoted rows (k % width) (k / width)

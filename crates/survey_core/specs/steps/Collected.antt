@@ -1,4 +1,4 @@
--- Jobs and answers lane by lane.
+-- The jobs and the answers of a collection, lane by lane.
 use Rattle.std.specs.Prelude.{List, [], ◌∷◌, map}
 use Rattle.lane_core.specs.Answers.{AreAnswersTo}
 use Rattle.lane_core.specs.declared.jobs.Job.{Job}
@@ -7,19 +7,19 @@ use Rattle.survey_core.specs.declared.lanes.OpenLane.{OpenLane}
 use Rattle.survey_core.specs.declared.lanes.RunningLane.{RunningLane}
 use Rattle.survey_core.specs.declared.lanes.CompleteLane.{CompleteLane}
 
--- what each lane was dealt, while its worker runs
+-- the jobs dealt to each of the running lanes
 abbrev pub dealt_jobs : List RunningLane → List (List Job)
 dealt_jobs lanes = map (λ lane. lane.dealt.value.items) lanes
 
--- what each lane was dealt, once it is complete
+-- the jobs dealt to each of the complete lanes
 abbrev pub complete_jobs : List CompleteLane → List (List Job)
 complete_jobs lanes = map (λ lane. lane.dealt.value.items) lanes
 
--- what waits at each lane
+-- the jobs that wait at each of the open lanes
 abbrev pub waiting_jobs : List OpenLane → List (List Job)
 waiting_jobs lanes = map (λ lane. lane.waiting.items) lanes
 
--- as many lists of answers as of jobs, and each answers the one at its place
+-- there are as many lists of answers as of jobs, and each has the answers to the jobs at its index
 abbrev pub EachAnswered : List (List Job) → List (List Answer) → Type 0
 EachAnswered [] [] = Unit {0}
 EachAnswered (jobs ∷ rest) (answers ∷ more) = AreAnswersTo jobs answers × EachAnswered rest more

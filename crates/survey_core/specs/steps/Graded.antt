@@ -1,4 +1,4 @@
--- Answers beside the entries that were read.
+-- Answers to the puzzles among entries that were read.
 use Rattle.std.specs.Prelude.{◌≡◌, ◌≤◌, ◌+◌, ◌++◌, ℕ, List, [], ◌∷◌, length, map, take, drop, count_by, is_none, Option, Result, Ok, Err}
 use Rattle.grid_core.specs.Nonogram.{Nonogram}
 use Rattle.puzzle_text.specs.declared.faults.EntryFault.{EntryFault}
@@ -13,25 +13,26 @@ use Rattle.survey_text.specs.Survey.{Guessing, graded}
 use Rattle.survey_core.specs.steps.Readings.{fault_of, readings}
 use Rattle.survey_core.specs.declared.grading.Printing.{Printing}
 
--- the answers are those to the puzzles that were read, in order
+-- the answers are those to the puzzles among what was read, in order
 abbrev pub AreGraded : Guessing → List (Result Nonogram EntryFault) → List Answer → Type 0
 AreGraded guesses [] [] = Unit {0}
 AreGraded guesses [] (answer ∷ answers) = ⊥
 AreGraded guesses (Err fault ∷ readings) answers = AreGraded guesses readings answers
 AreGraded guesses (Ok p ∷ readings) [] = ⊥
-AreGraded guesses (Ok p ∷ readings) (answer ∷ answers) = (answer.puzzle ≡ p) × (IsOutcome p guesses.limit guesses.pick answer.outcome) ×
-    (AreGraded guesses readings answers)
+AreGraded guesses (Ok p ∷ readings) (answer ∷ answers) = (answer.puzzle ≡ p)
+    × (IsOutcome p guesses.limit guesses.pick answer.outcome)
+    × (AreGraded guesses readings answers)
 
--- how many entries have no fault
+-- how many of the entries with these `faults` have none, and so are puzzles
 abbrev pub puzzle_count : List (Option EntryFault) → ℕ
 puzzle_count faults = count_by is_none faults
 
--- these entries, graded
+-- `entries`, graded by the settings of `printing`
 abbrev pub graded_of : Printing → List Entry → List GradedEntry
 graded_of printing entries = map (graded (guessing printing.settings.now)) (map shown_entry entries)
 
--- the faults from this place on are those of these entries and others behind them, and the answers from there
--- on are those to the puzzles among them
+-- in `printing`, the faults from index `first` on are those of `entries` and of some others after
+-- them, and the answers from there on are those to the puzzles among all of these
 pub record AreAnswersAt (printing : Printing) (first : ℕ) (entries : List Entry) : Type 0 where
   pub behind : List Entry
   pub few : first + length entries ≤ MOST_ENTRIES

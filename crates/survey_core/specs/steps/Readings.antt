@@ -1,4 +1,4 @@
--- What reading entries gives.
+-- The result of reading entries: jobs and faults.
 use Rattle.std.specs.Prelude.{◌≡◌, ◌≤◌, ℕ, List, [], ◌∷◌, length, map, vec_len, Option, Some, None, Result, Ok, Err}
 use Rattle.std.specs.List.{enumerate_from, flat_map}
 use Rattle.grid_core.specs.Nonogram.{Nonogram}
@@ -12,41 +12,45 @@ use Rattle.solve_core.specs.declared.picks.Pick.{Pick}
 use Rattle.survey_text.specs.Survey.{Guessing}
 use Rattle.survey_core.specs.declared.readings.Readings.{Readings}
 
--- what an entry says
+-- the puzzle of `entry`, or its fault
 abbrev pub reading : Entry → Result Nonogram EntryFault
 reading entry = read_entry LONGEST_SIDE (shown_entry entry)
 
--- what entries say
+-- the puzzle or the fault of each of `entries`
 abbrev pub readings : List Entry → List (Result Nonogram EntryFault)
 readings entries = map reading entries
 
--- the fault of an entry, if it has one
+-- the fault of an entry, or none if it is a puzzle
 abbrev pub fault_of : Result Nonogram EntryFault → Option EntryFault
 fault_of (Ok p) = None
 fault_of (Err fault) = Some fault
 
--- a job's number, puzzle, limit on guesses and rule for them
+-- the number, the puzzle, the limit on guesses and the pick of a job
 pub record NumberedPuzzle : Type 0 where
   pub number : ℕ
   pub puzzle : Nonogram
   pub guesses : ℕ
   pub pick : Pick
 
--- a job as the definitions see it
+-- `job` as a numbered puzzle
 abbrev pub shown_job : Job → NumberedPuzzle
-shown_job job = record { number = job.number; puzzle = job.puzzle; guesses = job.guesses; pick = job.pick }
+shown_job job =
+    record { number = job.number; puzzle = job.puzzle; guesses = job.guesses; pick = job.pick }
 
--- the job of an entry of this number, if it is a puzzle
+-- the job of the entry with this number, if it is a puzzle
 abbrev pub job_of : Guessing → ℕ → Result Nonogram EntryFault → List NumberedPuzzle
-job_of guesses number (Ok p) = record { number = number; puzzle = p; guesses = guesses.limit; pick = guesses.pick } ∷ []
+job_of guesses number (Ok p) =
+    record { number = number; puzzle = p; guesses = guesses.limit; pick = guesses.pick } ∷ []
 job_of guesses number (Err fault) = []
 
--- the jobs of entries, numbered from `first` on. A refused entry keeps its number, and makes no job
+-- the jobs of entries, which are numbered from `first`. A refused entry has a number, but no job
 abbrev pub jobs_from : Guessing → ℕ → List (Result Nonogram EntryFault) → List NumberedPuzzle
-jobs_from guesses first readings = flat_map (λ numbered. job_of guesses numbered.0 numbered.1) (enumerate_from first readings)
+jobs_from guesses first readings =
+    flat_map (λ numbered. job_of guesses numbered.0 numbered.1) (enumerate_from first readings)
 
--- what reading these entries gives, the first of which has this number
-pub record IsReadingOf (guesses : Guessing) (first : ℕ) (entries : List Entry) (read : Readings) : Type 0 where
+-- `read` is the result of reading `entries`, which are numbered from `first`
+pub record IsReadingOf (guesses : Guessing) (first : ℕ) (entries : List Entry) (read : Readings)
+    : Type 0 where
   pub jobs : map shown_job read.jobs.items ≡ jobs_from guesses first (readings entries)
   pub few : vec_len read.jobs ≤ length entries
   pub faults : read.faults.items ≡ map fault_of (readings entries)

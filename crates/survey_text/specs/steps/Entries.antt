@@ -1,4 +1,4 @@
--- A listed entry as the definitions see it.
+-- An entry with borrowed results, as a graded entry.
 use Rattle.std.specs.Prelude.{Result, Ok, Err}
 use Rattle.grid_core.specs.Nonogram.{Nonogram}
 use Rattle.solve_core.specs.declared.findings.Findings.{Findings}
@@ -7,11 +7,11 @@ use Rattle.survey_text.specs.declared.listed.GradedPuzzle.{GradedPuzzle}
 use Rattle.survey_text.specs.declared.listed.ListedEntry.{ListedEntry}
 use Rattle.survey_text.specs.Entries.{GradedEntry}
 
--- a graded puzzle, or the fault, as the definitions see it
+-- the puzzle and the findings that are borrowed, or the fault
 abbrev pub shown_found : Result GradedPuzzle EntryFault → Result (Nonogram × Findings) EntryFault
 shown_found (Ok found) = Ok (found.puzzle.now, found.findings.now)
 shown_found (Err fault) = Err fault
 
--- a listed entry as the definitions see it
+-- `entry` as a graded entry
 abbrev pub shown_listed : ListedEntry → GradedEntry
 shown_listed entry = record { name = entry.name.now; result = shown_found entry.result }

@@ -1,4 +1,4 @@
--- A goal beside the solution that is shown.
+-- When the values of a goal show a grid, and when a solution is the only one.
 use Rattle.std.specs.Prelude.{◌≡◌, ℕ, ◌+◌, ◌*◌, ◌<◌, Bool, List, length, slice_index_or, false}
 use Rattle.grid_core.specs.declared.cells.Cell.{Cell}
 use Rattle.grid_core.specs.declared.cells.Cell.TheVariants.{Unknown}
@@ -8,20 +8,22 @@ use Rattle.grid_core.specs.PartialGrid.{PartialGrid, cell_at}
 use Rattle.solve_core.specs.declared.findings.Verdict.{Verdict}
 use Rattle.solve_core.specs.declared.findings.Verdict.TheVariants.{Nothing, One, Several, Unsettled}
 
--- the values are the colours of these cells
+-- `values` is true exactly at the filled ones of `cells`
 abbrev pub AreColours : List Cell → List Bool → Type 0
-AreColours cells values = (x : ℕ) → x < length cells → slice_index_or values x false ≡ is_filled (slice_index_or cells x Unknown)
+AreColours cells values = (x : ℕ) → x < length cells
+    → slice_index_or values x false ≡ is_filled (slice_index_or cells x Unknown)
 
--- the values of a goal are the colours of a row
+-- in row `y` of `grid`, `values`, which are in row order, is true exactly at the filled cells
 abbrev pub IsRowShown : PartialGrid → List Bool → ℕ → Type 0
-IsRowShown grid values y = (x : ℕ) → x < grid.width → slice_index_or values (y * grid.width + x) false ≡ is_filled (cell_at grid x y)
+IsRowShown grid values y = (x : ℕ) → x < grid.width
+    → slice_index_or values (y * grid.width + x) false ≡ is_filled (cell_at grid x y)
 
--- a grid solves the puzzle, and no other does
+-- `solution` solves `p`, and no other grid does
 pub record IsOnlySolution (p : Nonogram) (solution : PartialGrid) : Type 0 where
   pub solves : Solves p solution
   pub only : (grid : PartialGrid) → Solves p grid → grid ≡ solution
 
--- if a verdict shows one solution, it is the only one
+-- if the verdict on `p` is `One`, its grid is the only solution of `p`
 abbrev pub IsOnlyWhereOne : Nonogram → Verdict → Type 0
 IsOnlyWhereOne p Nothing = Unit {0}
 IsOnlyWhereOne p (One solution) = IsOnlySolution p solution

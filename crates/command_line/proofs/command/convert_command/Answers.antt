@@ -1,4 +1,4 @@
--- `convert_command`: its rules are those of its arguments, one after the other.
+-- `convert_command`: its rules are those of its arguments, in order.
 use Rattle.command_line.proofs.WordLemmas.{added, added_if_ok}
 use Rattle.command_line.proofs.command.convert_command.Goals as goal
 

@@ -1,4 +1,4 @@
--- `files_of`: the words that were copied, up to the last, are those that name files.
+-- `files_of`: the copied words are those that name files.
 use Rattle.std.proofs.Common.{ap, ◌∙◌, refl, map, List, ℕ, ◌≡◌, take}
 use Rattle.std.specs.Borrow.{Bor}
 use Rattle.clap.specs.Words.{found_of}

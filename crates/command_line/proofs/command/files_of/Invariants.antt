@@ -1,4 +1,4 @@
--- What the loop of `files_of` keeps: the words passed are copied.
+-- The invariant of the loop of `files_of`: the words passed are copied.
 use Rattle.std.proofs.Common.{◌≡◌, map, take, string_bytes}
 use Rattle.command_line.proofs.command.files_of.Given as goal
 

@@ -1,4 +1,4 @@
--- `guesses_of`: the number that `clap` read stays the same if it lies within the limit.
+-- `guesses_of`: clamping doesn't change a number within the limit.
 use Rattle.std.proofs.Common.{lit<}
 use Rattle.clap.specs.Words.{found_of}
 use Rattle.lane_core.specs.declared.jobs.TheConstants.{MOST_GUESSES}

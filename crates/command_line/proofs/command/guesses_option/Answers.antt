@@ -1,4 +1,4 @@
--- `guesses_option`: the default's text is the constant's.
+-- `guesses_option`: the text of the default writes the constant.
 use Rattle.std.proofs.Common.{codes, rules}
 use Rattle.std.specs.Fmt.{digits}
 use Rattle.lane_core.specs.declared.jobs.TheConstants.{MOST_GUESSES}

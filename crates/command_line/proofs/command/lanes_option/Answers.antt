@@ -1,4 +1,4 @@
--- `lanes_option`: the default's text is the constant's.
+-- `lanes_option`: the text of the default writes the constant.
 use Rattle.std.proofs.Common.{codes, rules}
 use Rattle.std.specs.Fmt.{digits}
 use Rattle.survey_core.specs.declared.settings.TheConstants.{MOST_LANES}

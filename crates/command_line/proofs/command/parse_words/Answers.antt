@@ -1,4 +1,4 @@
--- `parse_words`: the words ask for what they ask of the program with all commands.
+-- `parse_words`: the request is what the words ask the program with all commands for.
 use Rattle.std.proofs.Common.{ap, map, refl, string_bytes}
 use Rattle.command_line.proofs.command.parse_words.Goals as goal
 
@@ -8,5 +8,6 @@ returns-in-Some-clause-asked c = record {
   picks = _;
   format_words = c.words-formats.ensures;
   pick_words = refl;
-  asks = rw (ap (map string_bytes) c.as_slice.ensures.value) at (rw c.in-Some.is at c.in_ok-request.ensures.asked _ _ c.in_ok-program.ensures);
+  asks =
+      rw (ap (map string_bytes) c.as_slice.ensures.value) at (rw c.in-Some.is at c.in_ok-request.ensures.asked _ _ c.in_ok-program.ensures);
 }

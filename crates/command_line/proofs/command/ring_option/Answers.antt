@@ -1,4 +1,4 @@
--- `ring_option`: the default's text is the constant's.
+-- `ring_option`: the text of the default writes the constant.
 use Rattle.std.proofs.Common.{codes, rules}
 use Rattle.std.specs.Fmt.{digits}
 use Rattle.survey_core.specs.declared.settings.TheConstants.{LARGEST_RING}

@@ -1,4 +1,4 @@
--- `settings_of`: each setting is what its entry says; a number in its range stays the same.
+-- `settings_of`: each setting is its argument's value; clamping doesn't change a number in range.
 use Rattle.std.proofs.Common.{codes, false, lit<, true}
 use Rattle.clap.specs.Words.{found_of}
 use Rattle.survey_core.specs.declared.settings.TheConstants.{LARGEST_RING, MOST_LANES}

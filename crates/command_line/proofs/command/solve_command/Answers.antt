@@ -1,4 +1,4 @@
--- `solve_command`: its rules are those of its arguments, one after the other.
+-- `solve_command`: its rules are those of its arguments, in order.
 use Rattle.command_line.proofs.WordLemmas.{added, added_if_ok}
 use Rattle.command_line.proofs.command.solve_command.Goals as goal
 

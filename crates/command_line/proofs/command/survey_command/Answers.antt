@@ -1,4 +1,4 @@
--- `survey_command`: its rules are those of its arguments, one after the other.
+-- `survey_command`: its rules are those of its arguments, in order.
 use Rattle.command_line.proofs.WordLemmas.{added, added_if_ok}
 use Rattle.command_line.proofs.command.survey_command.Goals as goal
 

@@ -1,4 +1,4 @@
--- `survey_of`: the settings, the flag and the files are those of the command's entries.
+-- `survey_of`: the settings, the flag and the files are those of the command's values.
 use Rattle.std.proofs.Common.{codes, false, true}
 use Rattle.clap.specs.Words.{found_of}
 use Rattle.command_line.proofs.WordLemmas.{flag_of_entry}

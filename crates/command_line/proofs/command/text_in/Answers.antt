@@ -1,4 +1,4 @@
--- `text_in`: the text that `clap` read, or else the empty one, is that of the entry.
+-- `text_in`: the text that `clap` returned, or else the empty one, is the argument's value.
 use Rattle.std.proofs.Common.{ap, ◌∙◌, refl, List, ℕ}
 use Rattle.std.specs.Borrow.{Bor}
 use Rattle.clap.specs.Words.{found_of}

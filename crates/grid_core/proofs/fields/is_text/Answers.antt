@@ -1,4 +1,4 @@
--- `is_text`: a text that is short enough is one exactly if it holds no line feed.
+-- `is_text`: a text that is short enough is admissible exactly if it contains no line feed.
 use Rattle.std.proofs.Common.{rules}
 use Rattle.grid_core.proofs.fields.is_text.Goals as goal
 

@@ -1,4 +1,4 @@
--- What the loop of `fill_up` keeps: rows of which nothing is known were added, in the room that was there.
+-- The loop invariant of `fill_up`: one unknown row was appended in each iteration, and the capacity is as it was.
 use Rattle.grid_core.proofs.Names.{◌≡◌, ◌++◌, replicate, vec_capacity, unknown_row}
 use Rattle.grid_core.proofs.grids.fill_up.Given as goal
 

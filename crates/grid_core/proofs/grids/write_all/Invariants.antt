@@ -1,4 +1,4 @@
--- What the loop of `write_all` keeps: the lines passed have their rows, in the room that was there.
+-- The loop invariant of `write_all`: the rows so far store the lines so far, and the capacity is as it was.
 use Rattle.grid_core.proofs.Names.{◌≡◌, ◌<◌, ℕ, [], length, get_or, vec_capacity, Row, IsRow, row_cells}
 use Rattle.grid_core.proofs.grids.write_all.Given as goal
 

@@ -1,4 +1,4 @@
--- `are_columns_met`: the columns passed are all at the end of the loop.
+-- `are_columns_met`: when the loop ends, the invariant covers all columns.
 use Rattle.std.proofs.Common.{refl, arith}
 use Rattle.grid_core.proofs.pictures.are_columns_met.Goals as goal
 

@@ -1,4 +1,4 @@
--- What the loop of `are_columns_met` keeps: the picture meets the clues of the columns passed.
+-- The loop invariant of `are_columns_met`: the picture meets the clue of each column before column `x`.
 use Rattle.grid_core.proofs.Names.{◌<◌, ℕ, Columns, MeetsLine, line_on, values_of}
 use Rattle.grid_core.proofs.pictures.are_columns_met.Given as goal
 

@@ -1,4 +1,4 @@
--- What the loop of `are_rows_met` keeps: the picture meets the clues of the rows passed.
+-- The loop invariant of `are_rows_met`: the picture meets the clue of each row before row `y`.
 use Rattle.grid_core.proofs.Names.{◌<◌, ℕ, Rows, MeetsLine, line_on, values_of}
 use Rattle.grid_core.proofs.pictures.are_rows_met.Given as goal
 

@@ -1,4 +1,4 @@
--- `is_met`: the clues of all lines are met exactly if those of all rows and of all columns are.
+-- `is_met`: the clues of all lines are met exactly if those of all rows and those of all columns are.
 use Rattle.grid_core.proofs.Names.{MeetsLine, Rows, Columns, values_of}
 use Rattle.grid_core.proofs.LineLaws.{all_lines, each_line}
 use Rattle.grid_core.proofs.pictures.is_met.Goals as goal

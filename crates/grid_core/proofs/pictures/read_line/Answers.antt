@@ -1,4 +1,4 @@
--- `read_line`: a list that has the cells of a line, place by place, is the cells along it.
+-- `read_line`: a list that has, at each index, the cell at that position of a line is the list of the line's cells.
 use Rattle.grid_core.proofs.Names.{false, length, arith, values_of}
 use Rattle.grid_core.proofs.LineLaws.{cells-along}
 use Rattle.grid_core.proofs.pictures.read_line.Goals as goal

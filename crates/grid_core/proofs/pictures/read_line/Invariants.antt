@@ -1,4 +1,4 @@
--- What the loop of `read_line` keeps: the length of the line; the cells passed are read.
+-- The loop invariant of `read_line`: the line has its old length, and its first `i` elements are the picture's cells.
 use Rattle.grid_core.proofs.Names.{◌≡◌, ◌<◌, ◌+◌, ◌*◌, ℕ, false, get_or, length, values_of}
 use Rattle.grid_core.proofs.pictures.read_line.Given as goal
 

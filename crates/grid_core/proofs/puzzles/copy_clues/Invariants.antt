@@ -1,4 +1,4 @@
--- What the loop of `copy_clues` keeps: the clues passed are copied.
+-- The loop invariant of `copy_clues`: the copies are the clues so far.
 use Rattle.std.proofs.Common.{◌≡◌, take}
 use Rattle.grid_core.proofs.puzzles.copy_clues.Given as goal
 

@@ -1,4 +1,4 @@
--- `has_runs`: at the end the numbers passed are all runs.
+-- `has_runs`: when the loop ends, the first `next` numbers are all runs.
 use Rattle.grid_core.proofs.Names.{arith, common_steps}
 use Rattle.grid_core.proofs.runs.has_runs.Goals as goal
 

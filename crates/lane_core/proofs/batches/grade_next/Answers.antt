@@ -1,4 +1,4 @@
--- `grade_next`: the step, in the words from before the look at both ends of the ring.
+-- `grade_next`: the step is one of the lane as it was before `has_work` looked at both ends of the ring.
 use Rattle.lane_core.proofs.Names.{refl, front_lists, back_lists, back_capacity}
 use Rattle.lane_core.proofs.WorkLemmas.{graded_more, work_last}
 use Rattle.lane_core.proofs.batches.grade_next.Goals as goal

@@ -1,4 +1,4 @@
--- `send_waiting`: the job at the front is sent.
+-- `send_waiting`: each turn of the loop sends the job at the front.
 use Rattle.std.proofs.Common.{rules}
 use Rattle.lane_core.proofs.DealingLemmas.{SentSoFar-more}
 use Rattle.lane_core.proofs.dealing.send_waiting.Goals as goal

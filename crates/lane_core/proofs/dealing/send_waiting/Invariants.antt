@@ -1,4 +1,4 @@
--- What the loop of `send_waiting` keeps: what was sent so far, and what is left, is what waited.
+-- The invariant of the loop of `send_waiting`: the jobs sent so far, followed by those left, are those that waited.
 use Rattle.lane_core.proofs.Names.{◌≡◌, ◌↔◌, IsTrue, Grows}
 use Rattle.std.specs.VecDeque.{deque_capacity, deque_len}
 use Rattle.lane_core.proofs.DealingLemmas.{SentSoFar}

@@ -1,4 +1,4 @@
--- What the loop of `take_answers` keeps: what was received so far stands at the end of `got`.
+-- The invariant of the loop of `take_answers`: the answers received so far are at the end of `got`.
 use Rattle.std.proofs.Common.{◌≡◌, ◌<◌, ◌↔◌, IsTrue, vec_capacity}
 use Rattle.lane_core.proofs.DealingLemmas.{TakenSoFar}
 use Rattle.lane_core.proofs.dealing.take_answers.Given as goal

@@ -1,4 +1,4 @@
--- `grade_by`: the answer has the parts of the job, and its outcome is the report of these.
+-- `grade_by`: the answer has the number, puzzle, limit and pick of the job, and their report as its outcome.
 use Rattle.std.proofs.Common.{rules}
 use Rattle.lane_core.proofs.grading.grade_by.Goals as goal
 

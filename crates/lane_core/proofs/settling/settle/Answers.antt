@@ -1,4 +1,4 @@
--- `settle`: a look at both ends of a ring shows that nothing lies in it, and so the lane is drained.
+-- `settle`: looking at both ends of each ring shows what is in it; so a lane that is settled is drained.
 use Rattle.lane_core.proofs.Names.{arith, known_items, IsDrained, front_lists, back_lists}
 use Rattle.lane_core.proofs.AnswersLemmas.{back_is_answered}
 use Rattle.lane_core.proofs.SettlingLemmas.{first_are_answered, finished_is_drained, drained_answers}
@@ -14,6 +14,7 @@ returns-then-waiting-gt0-clause-answers c =
     first_are_answered (front_lists c.args.front) (back_lists c.args.back)
     (known_items c.slots_beside.new.self, cc) (known_items c.slots_beside-waiting.new.self, cc) (back_is_answered c.args.back)
 
+-- where `settle` succeeds, the lane is drained
 is_drained : (c : goal.After-drop-front-2) → IsDrained (front_lists c.args.front) (back_lists c.args.back)
 is_drained c =
     finished_is_drained (front_lists c.args.front) (back_lists c.args.back)

@@ -1,4 +1,4 @@
--- `colours_before`: what the run gives is added.
+-- `colours_before`: the cells that go with the run before the gap are added.
 use Rattle.line_core.proofs.Names.{rules, arith, ◌≡◌, ◌+◌, ◌-◌, true_has, ◌∙◌, sym}
 use Rattle.line_core.proofs.ColourMasks.{masks_are, more_same}
 use Rattle.line_core.proofs.befores.colours_before.Goals as goal

@@ -1,4 +1,4 @@
--- `write_before`: row by row the table is told.
+-- `write_before`: each turn of the loop writes the row for one more run.
 use Rattle.line_core.proofs.Names.{rules, ℕ, Has, ◌+◌, length-append, length-take-le, arith, ◌*◌}
 use Rattle.line_core.proofs.GapRows.{kept_is, part_long, put_back, row_at, rows_more, rows_none}
 use Rattle.line_core.proofs.befores.write_before.Goals as goal

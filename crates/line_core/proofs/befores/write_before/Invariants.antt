@@ -1,4 +1,4 @@
--- What the loop of `write_before` keeps: the rows of the runs so far are told.
+-- The invariant of the loop of `write_before`: the rows for up to `j` runs hold their prefix supports.
 use Rattle.line_core.proofs.Names.{◌≡◌, nat_eq, not, length}
 use Rattle.line_core.proofs.GapRows.{AreRowsTo}
 use Rattle.line_core.proofs.befores.write_before.Given as goal
@@ -10,4 +10,5 @@ abbrev pub ghost-write_row : goal.ghost-write_row
 ghost-write_row g a = g.line
 
 abbrev pub invariant-loop-j : goal.invariant-loop-j
-invariant-loop-j g l = record { size : length l.table ≡ length l.fn.table; told : AreRowsTo (not (nat_eq g.row.TURNED 0)) g.line l.clue l.j l.table }
+invariant-loop-j g l =
+    record { size : length l.table ≡ length l.fn.table; told : AreRowsTo (not (nat_eq g.row.TURNED 0)) g.line l.clue l.j l.table }

@@ -11,16 +11,19 @@ offset_bounds-row-from g c =
 
 pub seen_cells-requires-clause-count : goal.seen_cells-requires-clause-count
 seen_cells-requires-clause-count g c =
-    let gap = c.requires.1.1.1.1.1.0 _ (c.loop-left.invariant.within _ c.first_place-place.ensures.in_mask) in (omega arith, omega (arith, gap.0.0, c.requires.1.1.1.0.0))
+    let gap = c.requires.1.1.1.1.1.0 _ (c.loop-left.invariant.within _ c.first_place-place.ensures.in_mask) in
+    (omega arith, omega (arith, gap.0.0, c.requires.1.1.1.0.0))
 
 pub loop-left-preserved : goal.loop-left-preserved
 loop-left-preserved g c =
     let place = c.first_place-place.result in
     let gap = c.requires.1.1.1.1.1.0 place (c.loop-left.invariant.within place c.first_place-place.ensures.in_mask) in
-    walk_more _ _ _ place _ _ _ _ _ (omega (arith, gap.0.0, c.requires.1.1.1.1.1.1, c.loop-left.auto.row)) c.from.ensures c.marked-left.ensures
-    (record {
+    walk_more _ _ _ place _ _ _ _ _ (omega (arith, gap.0.0, c.requires.1.1.1.1.1.1, c.loop-left.auto.row)) c.from.ensures
+    c.marked-left.ensures (record {
       fillable_is = none_is _ _ c.empty.ensures (λ k h. true≢false (first_to g.line place true _ h.1).1);
-      blankable_is = mask_same _ _ _ (rw c.requires.1.1.1.0.0 at c.seen_cells.ensures) (λ k h. (h.0, first_from g.line place _ gap (omega (arith, h.2))))
+      blankable_is =
+          mask_same _ _ _ (rw c.requires.1.1.1.0.0 at c.seen_cells.ensures)
+          (λ k h. (h.0, first_from g.line place _ gap (omega (arith, h.2))))
           (λ k h. (h.0, omega arith, omega (arith, (first_to g.line place false _ h.1).0)));
     }) c.loop-left.invariant
 

@@ -1,4 +1,4 @@
--- `write_row`: one more gap is written, and is the last one.
+-- `write_row`: each turn of the loop writes the prefix support of one more gap, which is then the last one.
 use Rattle.line_core.proofs.Names.{AreColoursBefore, ColourMasks, ◌+◌, rules, ◌∙◌, ◌<◌, length, sym, arith, one_within, behind, get_or-append-add, no_colours}
 use Rattle.line_core.proofs.GapRows.{last_more, left_inside, next_told, walk_last, walk_more}
 use Rattle.line_core.proofs.befores.write_row.Goals as goal

@@ -1,4 +1,5 @@
--- What the loop of `write_row` keeps: the gaps that are not left are written, the last one too.
+-- The invariant of the loop of `write_row`: the prefix supports of the gaps that are no longer left are written, and
+-- `last` is that of the last one.
 use Rattle.line_core.proofs.Names.{◌+◌, nat_eq, not, behind, no_colours, AreColoursBefore}
 use Rattle.line_core.proofs.GapRows.{IsLast, IsWalk}
 use Rattle.line_core.proofs.befores.write_row.Given as goal

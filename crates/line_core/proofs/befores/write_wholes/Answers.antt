@@ -1,4 +1,5 @@
--- `write_wholes`: run by run the pass gives the ends and the next gap, and those ahead tell which are whole.
+-- `write_wholes`: each turn scans one more run; of its ends and the gaps after it those are feasible that the suffix
+-- gaps allow.
 use Rattle.line_core.proofs.Names.{rules, add-one, ◌+◌, ◌∙◌, map, arith, length-set, map-set, length-map, IsMaskOf, behind, IsGap, IsWholeEnd, meet_of, written_more, IsWholeGap}
 use Rattle.line_core.proofs.befores.write_wholes.Goals as goal
 
@@ -41,7 +42,9 @@ loop-j-preserved g c =
       gap_count = length-set gaps _ _ ∙ before.gap_count;
       end_count = length-set ends _ _ ∙ before.end_count;
       gaps = λ k h. rw map-set (written_more (λ k m. IsMaskOf (IsWholeGap g.line clue k) m) (map number gaps) (j + 1) _
-          (omega (arith, length-map gaps number, before.gap_count, c.requires.1.1.1.1.1)) whole (λ k h. before.gaps k (omega arith)) k (omega arith));
+          (omega (arith, length-map gaps number, before.gap_count, c.requires.1.1.1.1.1)) whole (λ k h. before.gaps k (omega arith)) k
+          (omega arith));
       ends = λ k h. rw map-set (written_more (λ k m. IsMaskOf (IsWholeEnd g.line clue k) m) (map number ends) j _
-          (omega (arith, length-map ends number, before.end_count, c.requires.1.1.1.1.1)) end (λ k h. before.ends k (omega arith)) k (omega arith));
+          (omega (arith, length-map ends number, before.end_count, c.requires.1.1.1.1.1)) end (λ k h. before.ends k (omega arith)) k
+          (omega arith));
     }

@@ -1,4 +1,4 @@
--- What the loop of `write_wholes` keeps: the pass over the runs so far, and their gaps and ends.
+-- The invariant of the loop of `write_wholes`: the prefix scan over the runs so far, and their feasible gaps and ends.
 use Rattle.line_core.proofs.Names.{◌≡◌, ℕ, ◌<◌, ◌≤◌, length, get_or, map, IsMaskOf, behind, IsWholeEnd, IsPassOver, IsWholeGap}
 use Rattle.line_core.proofs.befores.write_wholes.Given as goal
 

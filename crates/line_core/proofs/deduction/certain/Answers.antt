@@ -1,4 +1,5 @@
--- `certain`: what one mask has and the other lacks; dead if the first cell can have no colour.
+-- `certain`: a cell is deduced if it is in one mask and not in the other; the line is dead if its first cell is in
+-- neither.
 use Rattle.line_core.proofs.Names.{◌∙◌, List, Some, ap, sym, Cell}
 use Rattle.line_core.proofs.Telling.{told_dead, told_some}
 use Rattle.line_core.proofs.deduction.certain.Goals as goal

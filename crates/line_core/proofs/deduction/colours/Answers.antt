@@ -1,4 +1,4 @@
--- `colours`: of the padded line the cells of the line alone count.
+-- `colours`: the support of the padded line, limited to the cells of the line.
 use Rattle.line_core.proofs.Names.{rules, recursion_from_All}
 use Rattle.line_core.proofs.Padding.{blankable_alone, fillable_alone}
 use Rattle.line_core.proofs.deduction.colours.Goals as goal

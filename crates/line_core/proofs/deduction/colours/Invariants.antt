@@ -1,4 +1,4 @@
--- The line that `colours` is about, as it is told to the functions that it calls: padded where it is.
+-- The ghost arguments of the calls in `colours`: the line, or the padded line for the general case.
 use Rattle.line_core.proofs.Names.{padded}
 use Rattle.line_core.proofs.deduction.colours.Given as goal
 

@@ -1,4 +1,4 @@
--- `deduce`: neither the line nor a number is longer than the longest side.
+-- `deduce`: neither the line nor a number of the clue is longer than the greatest side.
 use Rattle.line_core.proofs.Names.{rules, arith, All, ◌≤◌}
 use Rattle.std.proofs.lemmas.List.Sums.{AllPass-from_list_all}
 use Rattle.line_core.proofs.deduction.deduce.Goals as goal

@@ -1,4 +1,4 @@
--- `deduce_numbers`: the masks of both colours tell the deduction.
+-- `deduce_numbers`: the support masks determine the deduced line.
 use Rattle.line_core.proofs.Names.{rules, recursion_from_All}
 use Rattle.line_core.proofs.Telling.{told-deduced}
 use Rattle.line_core.proofs.deduction.deduce_numbers.Goals as goal

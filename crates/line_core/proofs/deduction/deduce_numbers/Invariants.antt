@@ -1,4 +1,4 @@
--- The line that `deduce_numbers` is about, as it is told to `colours`.
+-- The ghost argument of the call of `colours` in `deduce_numbers`: the line.
 use Rattle.line_core.proofs.deduction.deduce_numbers.Given as goal
 
 abbrev pub ghost-colours : goal.ghost-colours

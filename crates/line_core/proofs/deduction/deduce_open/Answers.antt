@@ -1,4 +1,4 @@
--- `deduce_open`: what is certain of the open cells is certain of the line.
+-- `deduce_open`: what is deduced of the cells between the known ends is deduced of the line.
 use Rattle.line_core.proofs.Names.{rules, ◌-◌}
 use Rattle.line_core.proofs.SettledEnds.{lengths_part, open_dead, open_more, open_none, open_some, open_within}
 use Rattle.line_core.proofs.deduction.deduce_open.Goals as goal

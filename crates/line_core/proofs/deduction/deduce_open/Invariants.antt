@@ -1,4 +1,4 @@
--- The cells of the line, as they are told to `deduce_numbers`.
+-- The ghost argument of the call of `deduce_numbers` in `deduce_open`: the cells of the line.
 use Rattle.line_core.proofs.deduction.deduce_open.Given as goal
 
 abbrev pub ghost-deduce_numbers : goal.ghost-deduce_numbers

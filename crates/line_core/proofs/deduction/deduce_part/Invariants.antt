@@ -1,4 +1,4 @@
--- The cells of the part, as they are told to `deduce_numbers`.
+-- The ghost argument of the call of `deduce_numbers` in `deduce_part`: the cells of the part.
 use Rattle.line_core.proofs.deduction.deduce_part.Given as goal
 
 abbrev pub ghost-deduce_numbers : goal.ghost-deduce_numbers

@@ -1,4 +1,4 @@
--- The line that `deduce_within` is about, as it is told to `deduce_numbers`.
+-- The ghost argument of the call of `deduce_numbers` in `deduce_within`: the line.
 use Rattle.line_core.proofs.deduction.deduce_within.Given as goal
 
 abbrev pub ghost-deduce_numbers : goal.ghost-deduce_numbers

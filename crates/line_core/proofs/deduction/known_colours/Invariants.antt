@@ -1,4 +1,4 @@
--- The line that `known_colours` is about, as it is told to the functions that it calls.
+-- The ghost arguments of the calls in `known_colours`: the line.
 use Rattle.line_core.proofs.deduction.known_colours.Given as goal
 
 abbrev pub ghost-write_gaps_ahead : goal.ghost-write_gaps_ahead

@@ -1,4 +1,4 @@
--- `possible_colours`: run by run the pass goes on, and each run and the gap after it join the masks.
+-- `possible_colours`: each turn scans one more run, and adds its cells and the gap after it to the support masks.
 use Rattle.line_core.proofs.Names.{rules, IsBlankable, add-one, ◌-◌, ◌∙◌, ◌≡◌, ◌+◌, ◌<◌, length, arith, sym, eqb-true, eqb-false, IsMaskOf, behind, IsGap, mask_same, levels_none, none_at}
 use Rattle.line_core.proofs.Composing.{blank_first, blank_more, fill_more}
 use Rattle.line_core.proofs.deduction.possible_colours.Goals as goal
@@ -67,6 +67,8 @@ returns-clause-blank g c =
     let all : length clue ≡ last + 1 = grind (arith, eqb-false) in
     let e : c.loop-j.j ≡ last = omega (arith, c.loop-j-test.false) in
     let passed = c.step-last_ends.ensures.passed g.line (behind 0 clue last) (rw e at c.loop-j.invariant.pass) in
-    let gap : IsMaskOf (IsGap g.line clue (last + 1)) (g.W.PlaceSet.number c.gap-2.result) = rw (c.gap-2.ensures, add-one last) passed.gap_is in
-    rw (all, IsBlankable) (blank_more g.line clue last _ _ _ _ _ gap (rw all at c.gap_ahead-after.ensures) (rw e at c.loop-j.invariant.blank)
+    let gap : IsMaskOf (IsGap g.line clue (last + 1)) (g.W.PlaceSet.number c.gap-2.result) =
+    rw (c.gap-2.ensures, add-one last) passed.gap_is in
+    rw (all, IsBlankable) (blank_more g.line clue last _ _ _ _ _ gap (rw all at c.gap_ahead-after.ensures)
+    (rw e at c.loop-j.invariant.blank)
     c.intersection-2.ensures c.union-blankable-2.ensures)

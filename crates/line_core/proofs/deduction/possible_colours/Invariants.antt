@@ -1,4 +1,5 @@
--- What the loop of `possible_colours` keeps: the pass over the runs so far, and the cells that they colour.
+-- The invariant of the loop of `possible_colours`: the prefix scan over the runs so far, and the support by these runs
+-- and their gaps.
 use Rattle.line_core.proofs.Names.{ℕ, ◌<◌, ◌≤◌, get_or, map, IsMaskOf, SomeFrom, AreLevelsOf, behind, IsGap, IsGapAhead, IsWholeEnd, IsPassOver}
 use Rattle.line_core.proofs.deduction.possible_colours.Given as goal
 

@@ -1,4 +1,4 @@
--- The line that `write_pairs_within` is about, as it is told to `PairRoom::write_pairs`.
+-- The ghost argument of the call of `PairRoom::write_pairs` in `write_pairs_within`: the line.
 use Rattle.line_core.proofs.deduction.write_pairs_within.Given as goal
 
 abbrev pub ghost-write_pairs : goal.ghost-write_pairs

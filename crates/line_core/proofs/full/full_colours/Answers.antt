@@ -1,4 +1,4 @@
--- `full_colours`: the line is its own placing, or has none.
+-- `full_colours`: a line without unknown cells is its own placing, or has none.
 use Rattle.line_core.proofs.Names.{true, false, recursion_from_All}
 use Rattle.line_core.proofs.FullLines.{full_told, dead_told}
 use Rattle.line_core.proofs.full.full_colours.Goals as goal

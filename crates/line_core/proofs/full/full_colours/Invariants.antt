@@ -1,4 +1,4 @@
--- The line that `full_colours` is about, as the cells that are told to `has_runs`.
+-- The ghost argument of the call of `has_runs` in `full_colours`: the cells of the line.
 use Rattle.line_core.proofs.Names.{map, is_filled}
 use Rattle.line_core.proofs.full.full_colours.Given as goal
 

@@ -1,4 +1,4 @@
--- `has_runs`: runs that aren't how the clue begins aren't the clue.
+-- `has_runs`: the runs are the clue if they are all of its first numbers.
 use Rattle.line_core.proofs.Names.{[], ◌∙◌, append-nil}
 use Rattle.line_core.proofs.full.has_runs.Goals as goal
 

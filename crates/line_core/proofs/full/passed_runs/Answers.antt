@@ -1,12 +1,14 @@
--- `passed_runs`: run by run the walk goes on, up to a number that has no run, or a run that has another length.
+-- `passed_runs`: each turn removes one more run, until a number has no run or a run has another length.
 use Rattle.line_core.proofs.Names.{◌∙◌, ◌≡◌, length, sym, eqb-true, eqb-false, arith, not, nat_eq, width_most}
 use Rattle.line_core.proofs.FullLines.{walk_more, walk_near, walk_none, walk_last, length-turned, number_seen}
 use Rattle.line_core.proofs.full.passed_runs.Goals as goal
 
 pub returns-then-is_empty : goal.returns-then-is_empty
 returns-then-is_empty g c = λ cells mask.
-    let none = eqb-true _ 0 (sym c.is_empty.ensures ∙ c.if-is_empty.true) in
-    (omega (arith, length-turned (not (nat_eq g.row.TURNED 0)) c.args.clue.now), walk_none cells _ _ _ _ (c.loop-j.invariant cells mask) none)
+    let none = eqb-true _ 0 (sym c.is_empty.ensures ∙ c.if-is_empty.true) in (
+      omega (arith, length-turned (not (nat_eq g.row.TURNED 0)) c.args.clue.now),
+      walk_none cells _ _ _ _ (c.loop-j.invariant cells mask) none,
+    )
 
 pub returns-then-start-least : goal.returns-then-start-least
 returns-then-start-least g c = λ cells mask.
@@ -34,7 +36,8 @@ loop-j-preserved g c = λ cells mask.
 pub returns-then-not-is_empty : goal.returns-then-not-is_empty
 returns-then-not-is_empty g c = λ cells mask.
     let some = eqb-false _ 0 (sym c.is_empty-2.ensures ∙ c.if-not-is_empty.true) in
-    walk_last cells _ _ _ _ (c.loop-j.invariant cells mask) (omega (arith, length-turned (not (nat_eq g.row.TURNED 0)) c.args.clue.now)) (omega arith)
+    walk_last cells _ _ _ _ (c.loop-j.invariant cells mask) (omega (arith, length-turned (not (nat_eq g.row.TURNED 0)) c.args.clue.now))
+    (omega arith)
 
 pub returns : goal.returns
 returns g c = λ cells mask.

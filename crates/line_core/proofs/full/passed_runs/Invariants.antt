@@ -1,4 +1,4 @@
--- What the loop of `passed_runs` keeps: what is left of the cells has the runs that come after those passed.
+-- The invariant of the loop of `passed_runs`: the cells that are left have the runs that come after those removed.
 use Rattle.line_core.proofs.Names.{Bool, List, IsMaskOf, nat_eq, not}
 use Rattle.line_core.specs.steps.Full.{IsFilled, turned}
 use Rattle.line_core.proofs.FullLines.{IsWalked}

@@ -1,4 +1,4 @@
--- `first_gap`: a flood from the first place over the free ones.
+-- `first_gap`: a flood from the first cell over the cells that can be blank.
 use Rattle.line_core.proofs.Names.{Has, flood_from, meet_of, has_of}
 use Rattle.line_core.proofs.gaps.first_gap.Goals as goal
 

@@ -1,4 +1,4 @@
--- `gap_after`: a flood over the free places from those after the ends.
+-- `gap_after`: a flood from the cells after the run's ends over the cells that can be blank.
 use Rattle.line_core.proofs.Names.{Has, flood_from, meet_of, has_of}
 use Rattle.line_core.proofs.gaps.gap_after.Goals as goal
 

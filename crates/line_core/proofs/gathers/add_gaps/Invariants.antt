@@ -1,4 +1,4 @@
--- What the loop of `add_gaps` keeps: what goes with the places that are not left is added.
+-- The invariant of the loop of `add_gaps`: what goes with the gaps that are no longer left is added.
 use Rattle.line_core.proofs.Names.{◌+◌, ◌<◌, ◌≤◌, false, CanBeBesideGap}
 use Rattle.line_core.proofs.Gathering.{ArePairsAdded}
 use Rattle.line_core.proofs.gathers.add_gaps.Given as goal

@@ -1,4 +1,4 @@
--- `add_run`: what goes with one more end of the run is added.
+-- `add_run`: each turn adds what goes with one more end of the run.
 use Rattle.line_core.proofs.Names.{rules, arith, ◌∙◌, sym, eqb-true, none_has}
 use Rattle.line_core.proofs.ColourMasks.{masks_are}
 use Rattle.line_core.proofs.Gathering.{end_left, pairs_more, pairs_same}
@@ -26,7 +26,8 @@ pub loop-left-preserved : goal.loop-left-preserved
 loop-left-preserved g c =
     pairs_more _ _ _ _ c.first_place-end.result _ _ _ _ c.loop-left.invariant c.first_place-end.ensures.in_mask c.marked-left.ensures
     (pairs_same _ _ _ _ _ c.add_to_each.ensures (λ x d k.
-    let are = masks_are _ _ c.colours_with_run-colours.ensures d k in (λ (low, high, h). (low, high, are.0 h), λ (low, high, h). (low, high, are.1 h))))
+    let are = masks_are _ _ c.colours_with_run-colours.ensures d k in
+    (λ (low, high, h). (low, high, are.0 h), λ (low, high, h). (low, high, are.1 h))))
 
 pub returns : goal.returns
 returns g c =

@@ -1,4 +1,4 @@
--- What the loop of `add_run` keeps: what goes with the places that are not left is added.
+-- The invariant of the loop of `add_run`: what goes with the ends that are no longer left is added.
 use Rattle.line_core.proofs.Names.{◌+◌, ◌-◌, get_or, ◌<◌, ◌≤◌, true, CanBeBesideRun}
 use Rattle.line_core.proofs.Gathering.{ArePairsAdded}
 use Rattle.line_core.proofs.gathers.add_run.Given as goal

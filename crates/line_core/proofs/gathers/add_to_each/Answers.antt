@@ -1,4 +1,4 @@
--- `add_to_each`: one more cell gets the colours.
+-- `add_to_each`: each turn adds the support to the lookahead of one more cell.
 use Rattle.line_core.proofs.Names.{rules, arith}
 use Rattle.line_core.proofs.Gathering.{pairs_one, pairs_same}
 use Rattle.line_core.proofs.gathers.add_to_each.Goals as goal

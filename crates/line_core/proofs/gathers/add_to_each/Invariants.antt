@@ -1,4 +1,4 @@
--- What the loop of `add_to_each` keeps: the cells up to a place have got the colours.
+-- The invariant of the loop of `add_to_each`: the support is added to the lookaheads of the cells before an index.
 use Rattle.line_core.proofs.Names.{◌<◌, ◌≤◌, ArePairsMore, HasColour}
 use Rattle.line_core.proofs.gathers.add_to_each.Given as goal
 

@@ -1,4 +1,4 @@
--- What the loop of `clear` keeps: the pairs up to a place are cleared.
+-- The invariant of the loop of `clear`: the lookaheads before an index are empty.
 use Rattle.line_core.proofs.Names.{◌≡◌, ℕ, ◌<◌, length, get_or, no_pair}
 use Rattle.line_core.proofs.gathers.clear.Given as goal
 

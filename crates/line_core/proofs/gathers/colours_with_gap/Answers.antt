@@ -1,4 +1,4 @@
--- `colours_with_gap`: what is told before the gap, and what after it.
+-- `colours_with_gap`: the prefix support and the suffix support at the gap.
 use Rattle.line_core.proofs.Names.{rules}
 use Rattle.line_core.proofs.ColourMasks.{masks_same}
 use Rattle.line_core.proofs.Gathering.{far_are, near_are}

@@ -1,4 +1,5 @@
--- `colours_with_run`: the run, what is told before the gap before it, and what after the gap after it.
+-- `colours_with_run`: the cells of the run, the prefix support at the gap before it, and the suffix support at the gap
+-- after it.
 use Rattle.line_core.proofs.Names.{arith, inl, inr}
 use Rattle.line_core.proofs.ColourMasks.{masks_same}
 use Rattle.line_core.proofs.Gathering.{beside_is, up_to_is}
@@ -17,4 +18,7 @@ returns-else-next-len g c =
     let (line, (are, (count, (jl, (whole, told))))) = c.requires.1.1 in
     let up = up_to_is g.line _ _ _ _ _ line told _ _ are jl whole _ _ _ c.first_places.ensures
     c.shifted_up-run.ensures c.run_and_before-colours.ensures in
-    masks_same _ _ _ up (λ d k. (λ h. inl h, λ h. elim h [ inl x ↦ x | inr x ↦ absurd (omega (arith, x.0, c.if-next-len.false, line.len_is)) ]))
+    masks_same _ _ _ up (λ d k. (
+      λ h. inl h,
+      λ h. elim h [ inl x ↦ x | inr x ↦ absurd (omega (arith, x.0, c.if-next-len.false, line.len_is)) ],
+    ))

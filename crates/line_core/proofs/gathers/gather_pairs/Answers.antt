@@ -1,4 +1,4 @@
--- `gather_pairs`: gap by gap and run by run, and at last the gap after all runs.
+-- `gather_pairs`: each turn adds one more gap and the run after it; the gap after the last run is added at the end.
 use Rattle.line_core.proofs.Names.{rules, arith, ◌≡◌, length, recursion_from_All}
 use Rattle.line_core.proofs.GapRows.{kept_is}
 use Rattle.line_core.proofs.Gathering.{gathered_all, gathered_gaps, gathered_run}

@@ -1,4 +1,4 @@
--- What the loop of `gather_pairs` keeps: what can be with the first j gaps and runs is gathered.
+-- The invariant of the loop of `gather_pairs`: the lookaheads hold what goes with the first `j` gaps and runs.
 use Rattle.line_core.proofs.Names.{◌≡◌, length}
 use Rattle.line_core.proofs.Gathering.{AreGathered}
 use Rattle.line_core.proofs.gathers.gather_pairs.Given as goal

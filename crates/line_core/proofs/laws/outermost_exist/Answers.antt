@@ -1,4 +1,4 @@
--- The law `outermost_exist` holds: the least starts of each run lay the clue, and so do the greatest.
+-- The law `outermost_exist`: the least starts of all runs lay out the clue, and so do the greatest.
 use Rattle.line_core.proofs.Names.{Left, Right}
 use Rattle.line_core.proofs.EndLaws.{outermost-exists}
 use Rattle.line_core.proofs.DeductionLaws.{test_is}

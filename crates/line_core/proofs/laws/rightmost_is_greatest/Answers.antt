@@ -1,4 +1,4 @@
--- The law `rightmost_is_greatest` holds: the definition's search finds the greatest starts.
+-- The law `rightmost_is_greatest`: the search of the definition finds the greatest starts.
 use Rattle.line_core.proofs.Names.{Right}
 use Rattle.line_core.proofs.EndLaws.{outermost-furthest}
 use Rattle.line_core.proofs.laws.rightmost_is_greatest.Goals as goal

@@ -1,4 +1,4 @@
--- `lone_colours`: the run fills a cell from some start, or leaves it blank from some start.
+-- `lone_colours`: a cell is fillable if the run covers it from some start, and blankable if some start leaves it blank.
 use Rattle.line_core.proofs.Names.{true, false, rules, arith, eqb-true, recursion_from_All, ArePositive}
 use Rattle.line_core.proofs.Joining.{positive_at}
 use Rattle.line_core.proofs.LoneRuns.{lone_none, lone_fillable, lone_blankable}

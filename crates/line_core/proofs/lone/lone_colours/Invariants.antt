@@ -1,4 +1,4 @@
--- The line that `lone_colours` is about, as it is told to `lone_starts`.
+-- The ghost argument of the call of `lone_starts` in `lone_colours`: the line.
 use Rattle.line_core.proofs.lone.lone_colours.Given as goal
 
 abbrev pub ghost-lone_starts : goal.ghost-lone_starts

@@ -1,5 +1,5 @@
--- `lone_starts`: the run has the first and the last cell that must be filled,
--- or starts anywhere if none must be.
+-- `lone_starts`: the run covers the first and the last cell that are known to be filled, or starts anywhere if there is
+-- none.
 use Rattle.line_core.proofs.Names.{sym, ◌∙◌, eqb-true}
 use Rattle.line_core.proofs.LoneRuns.{starts_anywhere, starts_about}
 use Rattle.line_core.proofs.lone.lone_starts.Goals as goal

@@ -1,4 +1,4 @@
--- What the loop of `cells_needed` keeps: what the runs passed need.
+-- The invariant of the loop of `cells_needed`: the sum is what the runs so far need.
 use Rattle.line_core.proofs.Names.{◌≡◌, least_start}
 use Rattle.line_core.proofs.overlaps.cells_needed.Given as goal
 

@@ -1,4 +1,4 @@
--- `is_unknown`: nothing is known exactly if the masks of both colours are the same.
+-- `is_unknown`: no cell is known exactly if the masks of both colours are equal.
 use Rattle.line_core.proofs.Names.{◌∙◌, sym, eqb-true, eq-eqb}
 use Rattle.line_core.proofs.Packing.{unknown_is}
 use Rattle.line_core.proofs.overlaps.is_unknown.Goals as goal

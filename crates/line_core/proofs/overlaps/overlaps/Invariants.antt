@@ -1,4 +1,4 @@
--- What the loop of `overlaps` keeps: the greatest start of the next run, and the overlaps of the runs passed.
+-- The invariant of the loop of `overlaps`: the greatest start of the next run, and the overlaps of the runs so far.
 use Rattle.line_core.proofs.Names.{◌≡◌, ◌+◌, IsMaskOf, least_start, IsOverlapBefore}
 use Rattle.line_core.proofs.overlaps.overlaps.Given as goal
 

@@ -1,4 +1,4 @@
--- `unknown_colours`: a cell that is no overlap can be blank; each can be filled if a run can move.
+-- `unknown_colours`: each cell but the overlaps can be blank, and each cell can be filled if some run can move.
 use Rattle.line_core.proofs.Names.{true, false, rules, ◌≡◌, ◌+◌, ◌-◌, ◌<◌, ◌⊎◌, length, replicate, arith, sym, true≢false, eqb-true, eqb-false, eq-eqb, length-replicate, recursion_from_All, Unknown, needed, ArePositive}
 use Rattle.line_core.proofs.Packing.{unknown_any, unfit, blankable_is, all_fillable, overlaps_fillable}
 use Rattle.line_core.proofs.overlaps.unknown_colours.Goals as goal
@@ -28,8 +28,12 @@ returns-clause-filled g c =
           rw w.fillable-is (overlaps_fillable line clue slack (unknown_any len) pos fits _ still c.overlaps-certain.ensures))
       | else-is_empty w ↦
           (let moves : (0 < slack) × (0 < length clue) =
-          elim c.if-slack-eq0.branch [ then-slack-eq0 v ↦ search (rules, true≢false, eq-eqb) | else-slack-eq0 v ↦ search (rules, eqb-false) ] in
-          rw w.fillable-is (all_fillable line clue slack (unknown_any len) pos fits _ moves.0 moves.1 (rw (sym long) at c.first_places-line.ensures)))
+          elim c.if-slack-eq0.branch [
+            | then-slack-eq0 v ↦ search (rules, true≢false, eq-eqb)
+            | else-slack-eq0 v ↦ search (rules, eqb-false)
+          ] in
+          rw w.fillable-is (all_fillable line clue slack (unknown_any len) pos fits _ moves.0 moves.1
+          (rw (sym long) at c.first_places-line.ensures)))
     ]
 
 pub returns-clause-blank : goal.returns-clause-blank

@@ -1,4 +1,5 @@
--- What the loop of `make_rows` keeps: the room.
+-- The loop of `make_rows`: its invariant is that the capacity stays, and its measure is the number of entries still
+-- missing.
 use Rattle.line_core.proofs.Names.{◌≡◌, ◌+◌, ◌-◌}
 use Rattle.std.specs.Prelude.{◌*◌, vec_capacity, vec_len}
 use Rattle.line_core.proofs.pair_rooms.make_rows.Given as goal

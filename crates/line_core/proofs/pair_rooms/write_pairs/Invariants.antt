@@ -1,4 +1,4 @@
--- The line that `write_pairs` is about, as it is told to the functions that it calls.
+-- The ghost arguments of the calls in `write_pairs`: the line.
 use Rattle.line_core.proofs.pair_rooms.write_pairs.Given as goal
 
 abbrev pub ghost-write_told : goal.ghost-write_told

@@ -1,4 +1,4 @@
--- The line that `write_told` is about, as it is told to the functions that it calls.
+-- The ghost arguments of the calls in `write_told`: the line.
 use Rattle.line_core.proofs.pair_rooms.write_told.Given as goal
 
 abbrev pub ghost-write_wholes : goal.ghost-write_wholes

@@ -1,4 +1,4 @@
--- `write_told_turned`: what is told of the line and the clue that are seen from their other end.
+-- `write_told_turned`: the prefix supports of the mirrored line and clue.
 use Rattle.line_core.proofs.Names.{rules, ◌∙◌, ◌≡◌, ap, sym, reverse, length-reverse, lengths_turned}
 use Rattle.line_core.proofs.pair_rooms.write_told_turned.Goals as goal
 

@@ -1,4 +1,4 @@
--- The line that `write_told_turned` is about, and the line seen from its other end, as `write_told` is told it.
+-- The ghost arguments of the calls in `write_told_turned`: the line, and the mirrored line for `write_told`.
 use Rattle.line_core.proofs.Names.{reverse}
 use Rattle.line_core.proofs.pair_rooms.write_told_turned.Given as goal
 

@@ -1,4 +1,5 @@
--- What the loop of `make_entries` keeps: the room.
+-- The loop of `make_entries`: its invariant is that the capacity stays, and its measure is the number of entries still
+-- missing.
 use Rattle.line_core.proofs.Names.{◌≡◌, ◌-◌}
 use Rattle.std.specs.Prelude.{vec_capacity, vec_len}
 use Rattle.line_core.proofs.pair_tables.make_entries.Given as goal

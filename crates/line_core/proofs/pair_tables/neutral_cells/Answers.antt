@@ -1,4 +1,4 @@
--- `neutral_cells`: with the colour at one more cell each other unknown one is open, if that cell is found.
+-- `neutral_cells`: a cell is inert if with its colour each other unknown cell can have both colours.
 use Rattle.line_core.proofs.Names.{true≢false, sym, inl, inr}
 use Rattle.line_core.proofs.Pairing.{nothing_else, told_at}
 use Rattle.line_core.proofs.pair_tables.neutral_cells.Goals as goal

@@ -1,4 +1,4 @@
--- What the loop of `neutral_cells` keeps: those that are left are unknown, those that were found are neutral.
+-- The invariant of the loop of `neutral_cells`: the cells that are left are unknown, and those found so far are inert.
 use Rattle.line_core.proofs.Names.{ℕ, List, Has}
 use Rattle.grid_core.specs.Lines.{IsUnknownCell}
 use Rattle.line_core.specs.Pairs.{AreNeutral, TellOf}

@@ -1,4 +1,4 @@
--- `only_place`: a set that has just one place has its first one, and nothing without it.
+-- `only_place`: a set of a single index is empty without its first index.
 use Rattle.line_core.proofs.Names.{refl, sym, ◌∙◌, inl, inr, none_has, none_in, eqb-true, rules}
 use Rattle.line_core.proofs.pair_tables.only_place.Goals as goal
 

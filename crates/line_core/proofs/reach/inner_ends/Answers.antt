@@ -1,4 +1,4 @@
--- `inner_ends`: a run that isn't the last ends before a gap ahead.
+-- `inner_ends`: a run that is not the last ends right before a suffix gap.
 use Rattle.line_core.proofs.Names.{◌≡◌, ◌+◌, inl, inr, length, arith, bit_at-zero, recursion_from_All, Has, mask_same, meet_of, has_of, none_is, refl}
 use Rattle.line_core.proofs.Joining.{positive_at}
 use Rattle.line_core.proofs.Composing.{whole_is}

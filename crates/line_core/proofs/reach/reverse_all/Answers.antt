@@ -1,4 +1,4 @@
--- `reverse_all`: one more mask is reversed.
+-- `reverse_all`: each turn reverses one more mask.
 use Rattle.line_core.proofs.Names.{◌-◌, ◌∙◌, ◌<◌, length, get_or, map, ap, arith, length-set, map-set, length-map, Has, IsMaskOf, written_more, get_or-set_other, number_at}
 use Rattle.line_core.proofs.reach.reverse_all.Goals as goal
 

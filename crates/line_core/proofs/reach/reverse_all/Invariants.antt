@@ -1,4 +1,4 @@
--- What the loop of `reverse_all` keeps: the masks passed are reversed, the others as they were.
+-- The invariant of the loop of `reverse_all`: the masks so far are reversed, and the others unchanged.
 use Rattle.line_core.proofs.Names.{◌≡◌, ◌-◌, ℕ, ◌<◌, ◌≤◌, length, get_or, map, Has, IsMaskOf}
 use Rattle.line_core.proofs.reach.reverse_all.Given as goal
 

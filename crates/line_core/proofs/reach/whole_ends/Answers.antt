@@ -1,4 +1,4 @@
--- `whole_ends`: a run ends before a gap ahead, or with the line if it is the last.
+-- `whole_ends`: a run ends right before a suffix gap, or at the end of the line if it is the last run.
 use Rattle.line_core.proofs.Names.{◌≡◌, ◌+◌, ◌-◌, length, arith, eqb-true, eq-eqb, recursion_from_All, Has, IsMaskOf, mask_same, meet_of, join_of, has_of}
 use Rattle.line_core.proofs.Joining.{positive_at}
 use Rattle.line_core.proofs.Composing.{whole_is}

@@ -1,4 +1,4 @@
--- `write_reversed_gaps`: run by run the pass over the reversed line gives the next gap.
+-- `write_reversed_gaps`: each turn scans one more run of the mirrored line, and writes the gap after it.
 use Rattle.line_core.proofs.Names.{add-one, ◌+◌, ◌∙◌, map, reverse, sym, arith, length-set, map-set, length-map, get_or-reverse, IsMaskOf, behind, IsGap, written_more}
 use Rattle.line_core.proofs.reach.write_reversed_gaps.Goals as goal
 

@@ -1,4 +1,4 @@
--- What the loop of `write_reversed_gaps` keeps: the pass over the reversed line, and the gaps so far.
+-- The invariant of the loop of `write_reversed_gaps`: the prefix scan over the mirrored line, and the gaps so far.
 use Rattle.line_core.proofs.Names.{◌≡◌, ℕ, ◌≤◌, length, get_or, reverse, map, IsMaskOf, behind, IsGap, IsPassOver}
 use Rattle.line_core.proofs.reach.write_reversed_gaps.Given as goal
 

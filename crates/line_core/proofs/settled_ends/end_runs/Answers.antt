@@ -1,4 +1,4 @@
--- `end_runs`: the filled ones among the first cells, or the last ones.
+-- `end_runs`: the runs of the first cells, or of the last cells from the other end, are compared with the clue.
 use Rattle.line_core.proofs.Names.{arith, is_filled, not, nat_eq}
 use Rattle.line_core.specs.steps.Full.{turned}
 use Rattle.line_core.proofs.FullLines.{length-turned}

@@ -1,4 +1,4 @@
--- `open_numbers`: no run goes on between settled cells and those beside them.
+-- `open_numbers`: no run continues from a known end into the inner cells.
 use Rattle.line_core.proofs.Names.{length, ◌-◌}
 use Rattle.line_core.proofs.SettledEnds.{none_front, none_back, some_left, lengths_part}
 use Rattle.line_core.proofs.settled_ends.open_numbers.Goals as goal
@@ -13,8 +13,8 @@ end_runs-requires-2-clause-clue g c =
 
 pub returns-in_err-runs : goal.returns-in_err-runs
 returns-in_err-runs g c =
-    rw c.from_residual-in_err-runs.ensures (none_back c.args.line.now _ _ c.requires.front c.requires.back c.args.clue.now _ c.in_ok-from.ensures
-    c.in_err-runs.ensures)
+    rw c.from_residual-in_err-runs.ensures (none_back c.args.line.now _ _ c.requires.front c.requires.back c.args.clue.now _
+    c.in_ok-from.ensures c.in_err-runs.ensures)
 
 pub returns : goal.returns
 returns g c = some_left c.args.line.now _ _ c.requires.front c.requires.back c.args.clue.now _ _ c.in_ok-from.ensures c.in_ok-runs.ensures

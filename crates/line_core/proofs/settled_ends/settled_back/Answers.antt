@@ -1,4 +1,4 @@
--- `settled_back`: the first blank one of known cells, seen from the line's other end.
+-- `settled_back`: the known end reaches to the first blank cell of the known cells at the right.
 use Rattle.line_core.proofs.Names.{◌∙◌, sym, has_true, arith}
 use Rattle.line_core.proofs.SettledEnds.{settled_behind}
 use Rattle.line_core.proofs.settled_ends.settled_back.Goals as goal

@@ -1,4 +1,4 @@
--- `settled_ends`: the cells before the first unknown one, and after the last one, are known.
+-- `settled_ends`: the cells before the first unknown cell, and those after the last one, are known.
 use Rattle.line_core.proofs.SettledEnds.{known_before, known_after}
 use Rattle.line_core.proofs.settled_ends.settled_ends.Goals as goal
 

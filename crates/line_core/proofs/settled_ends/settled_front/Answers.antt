@@ -1,4 +1,4 @@
--- `settled_front`: the last blank one of known cells.
+-- `settled_front`: the known end reaches to the last blank cell of the known cells at the left.
 use Rattle.line_core.proofs.Names.{◌∙◌, sym, has_true, arith}
 use Rattle.line_core.proofs.SettledEnds.{settled_is}
 use Rattle.line_core.proofs.settled_ends.settled_front.Goals as goal

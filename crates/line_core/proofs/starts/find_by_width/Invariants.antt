@@ -1,4 +1,4 @@
--- The line that `find_by_width` is about, as it is told to `find_starts` at each width.
+-- The ghost arguments of the calls of `find_starts` in `find_by_width`, one for each width: the line.
 use Rattle.line_core.proofs.starts.find_by_width.Given as goal
 
 abbrev pub ghost-find_starts : goal.ghost-find_starts

@@ -1,4 +1,4 @@
--- `find_starts`: the starts that were written are those of the outermost placing, or there is none.
+-- `find_starts`: the starts written are those of the outermost placing, or there is no placing.
 use Rattle.line_core.proofs.Names.{rules, ◌<◌, ℕ, length, get_or, arith, sym, ◌∙◌, eqb-true, eqb-false, recursion_from_All, HasPlacing, IsOuterStart, ArePositive}
 use Rattle.line_core.proofs.Outermost.{match_more, answered}
 use Rattle.line_core.proofs.WholeEnds.{placing_with}

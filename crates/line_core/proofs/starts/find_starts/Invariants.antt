@@ -1,4 +1,4 @@
--- The line that `find_starts` is about, as it is told to the functions that it calls.
+-- The ghost arguments of the calls in `find_starts`: the line.
 use Rattle.line_core.proofs.starts.find_starts.Given as goal
 
 abbrev pub ghost-write_gaps_ahead : goal.ghost-write_gaps_ahead

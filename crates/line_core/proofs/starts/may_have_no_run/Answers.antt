@@ -1,4 +1,4 @@
--- `may_have_no_run`: the first cell is blank in a placing exactly if there is a placing with no run.
+-- `may_have_no_run`: for the empty clue, the first cell is a feasible gap exactly if there is a placing.
 use Rattle.line_core.proofs.Names.{◌↔◌, ◌≡◌, Bool, true, false, ℕ, sym, ◌∙◌, true≢false, MatchBool, Has, has, has_true, true_has, HasPlacing}
 use Rattle.line_core.proofs.Composing.{gap_none_is}
 use Rattle.line_core.proofs.Outermost.{no_run_is}

@@ -1,4 +1,4 @@
--- The line that `may_have_no_run` is about, as it is told to `gap_ahead`.
+-- The ghost argument of the call of `gap_ahead` in `may_have_no_run`: the line.
 use Rattle.line_core.proofs.starts.may_have_no_run.Given as goal
 
 abbrev pub ghost-gap_ahead : goal.ghost-gap_ahead

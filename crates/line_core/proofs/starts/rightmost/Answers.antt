@@ -1,4 +1,4 @@
--- `rightmost`: the outermost placing of the right side.
+-- `rightmost`: the outermost starts in the direction `Right`.
 use Rattle.line_core.proofs.starts.rightmost.Goals as goal
 
 pub returns : goal.returns

@@ -1,4 +1,4 @@
--- `write_starts`: run by run, the outermost of its ends in whole placings tells its start.
+-- `write_starts`: each turn scans one more run; its outermost feasible end determines its start.
 use Rattle.line_core.proofs.Names.{rules, IsOuterStart, written_more, add-one, refl, sym, ◌∙◌, arith, eqb-true, recursion_from_All, behind, none_has, length-set}
 use Rattle.line_core.proofs.Outermost.{some_end}
 use Rattle.line_core.proofs.starts.write_starts.Goals as goal

@@ -1,4 +1,4 @@
--- What the loop of `write_starts` keeps: the pass over the runs so far, and their outermost starts.
+-- The invariant of the loop of `write_starts`: the prefix scan over the runs so far, and their outermost starts.
 use Rattle.line_core.proofs.Names.{◌≡◌, ℕ, ◌<◌, get_or, length, map, behind, IsPassOver, IsOuterStart}
 use Rattle.line_core.proofs.starts.write_starts.Given as goal
 

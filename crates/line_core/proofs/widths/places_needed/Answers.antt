@@ -1,4 +1,4 @@
--- `places_needed`: the greatest so far, with one more number.
+-- `places_needed`: each turn takes the greater of the result so far and one more number.
 use Rattle.line_core.proofs.Names.{rules, ◌≤◌, arith, take_all, All-more}
 use Rattle.line_core.proofs.widths.places_needed.Goals as goal
 

@@ -1,4 +1,4 @@
--- What the loop of `places_needed` keeps: the greatest of the length and of the numbers passed.
+-- The invariant of the loop of `places_needed`: the greatest of the line's length and of the numbers so far.
 use Rattle.line_core.proofs.Names.{◌≤◌, ℕ, take, All}
 use Rattle.line_core.proofs.widths.places_needed.Given as goal
 

@@ -1,4 +1,4 @@
--- `lines_answer`: the report's text or fault is that of the call.
+-- `lines_answer`: the call answers the report's text or fault.
 use Rattle.std.proofs.Common.{ap}
 use Rattle.nonograde_c.specs.Calls.{of_entry}
 use Rattle.nonograde_c.proofs.AnswerLemmas.{entry_refused}

@@ -1,4 +1,4 @@
--- `leave_at_line`: the three pieces lie one behind another.
+-- `leave_at_line`: the three pieces stand one after another.
 use Rattle.std.proofs.Common.{◌≡◌, ◌∙◌, ℕ, ◌+◌, List, ◌++◌, ◌∷◌, [], ap, length, drop, refl, sym, arith, length-append}
 use Rattle.puzzle_text.specs.Words.{at_line}
 use Rattle.nonograde_c.specs.declared.replies.Reply.{Reply}

@@ -1,4 +1,4 @@
--- `add_spread`: the mask, spread over the rest of the length, joins the level of the length.
+-- `add_spread`: the mask, spread by the rest of the length, is joined to the level of the length.
 use Rattle.std.proofs.Common.{◌≤◌, arith}
 use Rattle.place_sets.proofs.Doubling.{level_within}
 use Rattle.place_sets.proofs.LevelSteps.{level_set}

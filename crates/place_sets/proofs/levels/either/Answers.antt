@@ -1,4 +1,4 @@
--- `either`: a place is in the mask, or in what it was shifted to.
+-- `either`: an index is in the mask, or in the mask shifted down.
 use Rattle.place_sets.proofs.Uses.{join_of, has_of}
 use Rattle.place_sets.proofs.levels.either.Goals as goal
 

@@ -1,4 +1,4 @@
--- `spread`: each turn spreads over twice as many places, and the last step over what is left.
+-- `spread`: each iteration doubles the length, and the last step adds what is left.
 use Rattle.std.proofs.Common.{arith}
 use Rattle.place_sets.proofs.LevelSteps.{spread_more}
 use Rattle.place_sets.proofs.levels.spread.Goals as goal

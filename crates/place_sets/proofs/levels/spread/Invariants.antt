@@ -1,4 +1,4 @@
--- What the loop of `spread` keeps: the mask is spread over `have` places.
+-- The loop invariant of `spread`, by which the mask is spread by length `have`, and its measure.
 use Rattle.std.proofs.Common.{◌-◌, ◌≤◌}
 use Rattle.place_sets.specs.Masks.{Has, IsMaskOf, SomeFrom}
 use Rattle.place_sets.proofs.levels.spread.Given as goal

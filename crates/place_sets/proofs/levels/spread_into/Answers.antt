@@ -1,4 +1,4 @@
--- `spread_into`: a level spread by half of its places is what the level below holds of it.
+-- `spread_into`: extended by half of its length, the level above is spread in full by the level that it is joined to.
 use Rattle.std.proofs.Common.{◌≡◌, ◌+◌, ◌^◌, inl, inr, arith}
 use Rattle.std.proofs.lemmas.Bool.{cases_lt}
 use Rattle.std.proofs.lemmas.Nat.{one_shl}

@@ -1,4 +1,4 @@
--- `spread_levels`: level after level goes into the one below, and the lowest is spread already.
+-- `spread_levels`: each level is joined to the one below, and level 0 needs no spreading.
 use Rattle.std.proofs.Common.{◌≡◌, ◌+◌, ◌-◌, map, arith}
 use Rattle.std.proofs.lemmas.List.{get_or-map}
 use Rattle.place_sets.proofs.LevelSteps.{lowest_is}

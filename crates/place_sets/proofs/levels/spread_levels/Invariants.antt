@@ -1,4 +1,4 @@
--- What the loop of `spread_levels` keeps: the levels that are left say what all said at first.
+-- The loop invariant of `spread_levels`: the levels that are left have together the indices that all had at first.
 use Rattle.std.proofs.Common.{◌-◌, map}
 use Rattle.place_sets.specs.Masks.{SomeLevel, AreLevelsOf}
 use Rattle.place_sets.proofs.levels.spread_levels.Given as goal

@@ -1,4 +1,4 @@
--- `swap_pairs`: the low half of each pair comes from the high one, and the high half from the low one.
+-- `swap_pairs`: the lower group of each pair gets the bits of the upper one, and the upper group those of the lower one.
 use Rattle.std.proofs.Common.{◌≡◌, ℕ, ◌+◌, ◌-◌, ◌*◌, ◌/◌, ◌%◌, ◌^◌, ◌<◌, ◌≤◌, inl, inr, sym, ◌∙◌, arith, bit_and, bit_or}
 use Rattle.std.specs.Int.{bit_at}
 use Rattle.std.proofs.lemmas.Nat.{or_lt, and_le_r}
@@ -9,7 +9,7 @@ use Rattle.place_sets.proofs.Reversing.{Pairing, pairing}
 use Rattle.place_sets.proofs.Steps.{bit_at_shr, up_is}
 use Rattle.place_sets.proofs.narrow.swap_pairs.Goals as goal
 
--- what is at a place after the swap
+-- the bit at index `i` after the swap
 swapped : (x low by i : ℕ) → i < 64 → Pairing low by i → (by ≤ i → Pairing low by (i - by))
     → bit_at (bit_or (bit_and (x / 2 ^ by) low) (bit_and x low * 2 ^ by % 2 ^ 64)) i ≡ bit_at x (swapped_place low by i)
 swapped x low by i l here before =

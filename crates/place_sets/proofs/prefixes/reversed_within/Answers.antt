@@ -1,4 +1,4 @@
--- `reversed_within`: the places reversed in their word end with the word, and are shifted down to the first one.
+-- `reversed_within`: mirrored in the whole width, the first `len` indices are the last ones, and are shifted down.
 use Rattle.std.proofs.Common.{arith}
 use Rattle.place_sets.proofs.Reversing.{within_first}
 use Rattle.place_sets.proofs.prefixes.reversed_within.Goals as goal

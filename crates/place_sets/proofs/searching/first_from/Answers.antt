@@ -1,4 +1,4 @@
--- `first_from`: the first place of those from there on has none of them before it.
+-- `first_from`: the least of the indices from `from` on is the first one.
 use Rattle.std.proofs.Common.{arith}
 use Rattle.place_sets.proofs.searching.first_from.Goals as goal
 

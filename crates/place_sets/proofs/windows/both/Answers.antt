@@ -1,4 +1,4 @@
--- `both`: a place is in the mask, and in what it was shifted to.
+-- `both`: an index is in the mask, and in the mask shifted down.
 use Rattle.place_sets.proofs.Uses.{meet_of, has_of}
 use Rattle.place_sets.proofs.windows.both.Goals as goal
 

@@ -1,4 +1,4 @@
--- `starts_within`: each turn doubles the windows, and the last step adds what is left of the length.
+-- `starts_within`: each iteration doubles the length of the fits, and the last step adds what is left.
 use Rattle.std.proofs.Common.{arith}
 use Rattle.place_sets.proofs.Steps.{widen}
 use Rattle.place_sets.proofs.windows.starts_within.Goals as goal

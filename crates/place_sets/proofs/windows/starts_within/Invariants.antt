@@ -1,4 +1,4 @@
--- What the loop of `starts_within` keeps: the starts of windows of `have` places.
+-- The loop invariant of `starts_within`, by which `starts` has the fits for length `have`, and its measure.
 use Rattle.std.proofs.Common.{◌-◌, ◌≤◌}
 use Rattle.place_sets.specs.Masks.{Has, IsMaskOf, AllFrom}
 use Rattle.place_sets.proofs.windows.starts_within.Given as goal

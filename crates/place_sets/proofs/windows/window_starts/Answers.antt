@@ -1,4 +1,4 @@
--- `window_starts`: two windows of the length's level, the second shifted to the end, make the window.
+-- `window_starts`: two stretches of the length's level, the second one ending at the end, make one of the length.
 use Rattle.std.proofs.Common.{◌≤◌, arith}
 use Rattle.std.proofs.lemmas.List.{get_or-map}
 use Rattle.place_sets.proofs.Doubling.{level_within}

@@ -1,4 +1,4 @@
--- `windows_within`: the windows of each level are two of the level below, side by side.
+-- `windows_within`: a stretch of each level is two of the level below, one directly after the other.
 use Rattle.std.proofs.Common.{◌<◌, ◌∙◌, arith}
 use Rattle.std.proofs.Math.ListN.{length-set}
 use Rattle.std.proofs.lemmas.Nat.{one_shl}

@@ -1,4 +1,4 @@
--- What the loop of `windows_within` keeps: the table is right up to the level.
+-- The loop invariant of `windows_within`: the table is correct up to the current level.
 use Rattle.std.proofs.Common.{◌≡◌, ℕ, ◌≤◌, ◌^◌, length, map, get_or}
 use Rattle.place_sets.specs.Masks.{Has, IsMaskOf, AllFrom}
 use Rattle.place_sets.proofs.windows.windows_within.Given as goal

@@ -1,4 +1,4 @@
--- `entries_of`: one more entry has the name and the bytes of one more file.
+-- `entries_of`: the next entry has the name and the bytes of the next file.
 use Rattle.std.proofs.Common.{arith}
 use Rattle.program.proofs.FilesLemmas.{more_entries}
 use Rattle.program.proofs.files.entries_of.Goals as goal

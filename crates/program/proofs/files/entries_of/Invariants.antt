@@ -1,4 +1,4 @@
--- What the loop of `entries_of` keeps: the files passed have their entries.
+-- The invariant of the loop of `entries_of`: the entries are those of the files passed.
 use Rattle.std.proofs.Common.{◌≡◌, map, take, string_bytes}
 use Rattle.puzzle_text.specs.Shown.{shown_entry}
 use Rattle.program.specs.Printing.{named_texts}

@@ -1,4 +1,4 @@
--- What the loop of `read_files` keeps: each file passed has its bytes.
+-- The invariant of the loop of `read_files`: there are bytes for each file passed.
 use Rattle.std.proofs.Common.{◌≡◌, vec_len}
 use Rattle.program.proofs.files.read_files.Given as goal
 

@@ -1,4 +1,4 @@
--- `read_front`: what was read of a reader's front is that front.
+-- `read_front`: the bytes read are the first ones of the file.
 use Rattle.program.proofs.FilesLemmas.{front_read}
 use Rattle.program.proofs.files.read_front.Goals as goal
 

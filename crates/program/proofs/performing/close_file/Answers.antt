@@ -1,4 +1,4 @@
--- `close_file`: the text went out, or the file's text was refused.
+-- `close_file`: the answer was printed, or the file's text was refused.
 use Rattle.reports.specs.Reports.{lines_text}
 use Rattle.program.proofs.PrintingLemmas.{report_printed, refused_of}
 use Rattle.program.proofs.performing.close_file.Goals as goal

@@ -1,4 +1,4 @@
--- `convert_file`: the text went out, or the file's text was refused.
+-- `convert_file`: the answer was printed, or the file's text was refused.
 use Rattle.program.proofs.PrintingLemmas.{conversion_printed, unconverted_of}
 use Rattle.program.proofs.performing.convert_file.Goals as goal
 

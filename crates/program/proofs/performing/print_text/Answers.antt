@@ -1,4 +1,4 @@
--- `print_text`: why a text didn't go out is that the writer failed.
+-- `print_text`: if the text wasn't sent, the writer failed.
 use Rattle.std.proofs.Common.{refl}
 use Rattle.program.proofs.performing.print_text.Goals as goal
 

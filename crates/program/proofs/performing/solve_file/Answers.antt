@@ -1,4 +1,4 @@
--- `solve_file`: the text went out, or the file's text was refused.
+-- `solve_file`: the answer was printed, or the file's text was refused.
 use Rattle.reports.specs.Reports.{solve_text}
 use Rattle.program.proofs.PrintingLemmas.{report_printed, refused_of}
 use Rattle.program.proofs.performing.solve_file.Goals as goal

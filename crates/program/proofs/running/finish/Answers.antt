@@ -1,4 +1,4 @@
--- `finish`: without room for its words the program prints nothing on the output, and ends at that.
+-- `finish`: if an allocation failed while the words were parsed, nothing is printed to the output.
 use Rattle.std.proofs.Common.{rules}
 use Rattle.program.proofs.running.finish.Goals as goal
 

@@ -1,4 +1,4 @@
--- `print_shown`: if there is no room for the text, nothing is printed.
+-- `print_shown`: if an allocation fails, nothing is printed.
 use Rattle.program.proofs.PrintingLemmas.{unprinted}
 use Rattle.program.proofs.running.print_shown.Goals as goal
 

@@ -1,4 +1,4 @@
--- `print_stop`: the line is its pieces, one behind another.
+-- `print_stop`: the pieces that are sent make up the line.
 use Rattle.program.proofs.PrintingLemmas.{stop_printed}
 use Rattle.program.proofs.running.print_stop.Goals as goal
 

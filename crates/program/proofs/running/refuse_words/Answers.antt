@@ -1,4 +1,4 @@
--- `refuse_words`: the status of words that can't be read is 2.
+-- `refuse_words`: for words that aren't UTF-8 the status is 2.
 use Rattle.std.proofs.Common.{refl}
 use Rattle.program.proofs.running.refuse_words.Goals as goal
 

@@ -1,4 +1,4 @@
--- `tell_words`: if a text is for the output, it is help or the version, and the program ends by its printing.
+-- `tell_words`: a message for the output is help or the version, and the program ends by the result of printing it.
 use Rattle.program.proofs.running.tell_words.Goals as goal
 
 pub returns-clause-ends : goal.returns-clause-ends

@@ -1,4 +1,4 @@
--- `clues_of`: with no line passed, what is to come is what comes of all.
+-- `clues_of`: before the first line, the result for the lines to come is that for all.
 use Rattle.puzzle_text.proofs.Names.{shown_line, each_begins}
 use Rattle.puzzle_text.proofs.clue_lines.clues_of.Goals as goal
 

@@ -1,4 +1,4 @@
--- What the loop of `clues_of` keeps: the clues so far, and then those of the lines to come, are those of all lines.
+-- The loop of `clues_of`: the clues so far, followed by those of the lines to come, are those of all lines.
 use Rattle.puzzle_text.proofs.Names.{◌≡◌, drop, length, map, vec_capacity, vec_len, LONGEST_SIDE, BadNumber, or_fault, each, clue_of, clues_of, shown_line, with_front}
 use Rattle.puzzle_text.proofs.clue_lines.clues_of.Given as goal
 

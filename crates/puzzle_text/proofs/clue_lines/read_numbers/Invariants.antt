@@ -1,4 +1,4 @@
--- What the loop of `read_numbers` keeps: the numbers so far, and then those of the rest, are those of the line.
+-- The loop of `read_numbers`: the numbers so far, followed by those in `rest`, are the numbers of the line.
 use Rattle.puzzle_text.proofs.Names.{◌≡◌, ◌<◌, false, get_or, length, LONGEST_SIDE, is_separator, pieces, numbers_within, some_with_front}
 use Rattle.puzzle_text.proofs.clue_lines.read_numbers.Given as goal
 

@@ -1,4 +1,4 @@
--- `before_at`: no byte before the first `@` is one.
+-- `before_at`: no byte before the first `@` is one, and without it no byte is.
 use Rattle.puzzle_text.proofs.Names.{arith, length}
 use Rattle.puzzle_text.proofs.CollectionLemmas.{no_at_before}
 use Rattle.puzzle_text.proofs.collections.before_at.Goals as goal

@@ -1,4 +1,4 @@
--- What the loop of `entry_count` keeps: the count so far, and the entries of the rest, are all entries.
+-- The loop of `entry_count`: the count so far and the number of entries in `rest` add up to the number of all entries.
 use Rattle.puzzle_text.proofs.Names.{◌≡◌, ◌+◌, ◌≤◌, length, raw_lines, entries_of}
 use Rattle.puzzle_text.proofs.collections.entry_count.Given as goal
 

@@ -1,4 +1,4 @@
--- What the loop of `first_stray` keeps: the first stray line stands in the rest, if there is one.
+-- The loop of `first_stray`: no line so far is stray, so that the first stray line is in `rest`, if there is one.
 use Rattle.puzzle_text.proofs.Names.{◌≡◌, ◌+◌, ◌≤◌, length, raw_lines, first_stray}
 use Rattle.puzzle_text.proofs.CollectionLemmas.{stray_from}
 use Rattle.puzzle_text.proofs.collections.first_stray.Given as goal

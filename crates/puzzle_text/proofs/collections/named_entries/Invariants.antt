@@ -1,4 +1,4 @@
--- What the loop of `named_entries` keeps: the entries so far, then those of the rest; each has a name.
+-- The loop of `named_entries`: the entries so far, followed by those in `rest`, are all entries, and each so far has a name.
 use Rattle.puzzle_text.proofs.Names.{◌≡◌, ◌++◌, ◌≤◌, map, length, raw_lines, entries_of, are_named}
 use Rattle.puzzle_text.specs.declared.limits.TheConstants.{MOST_ENTRIES}
 use Rattle.puzzle_text.specs.Shown.{shown_entry}

@@ -1,4 +1,4 @@
--- `past_plain`: nothing follows the front without `@`, or a line does, or the end of one and then others.
+-- `past_plain`: after the bytes before the first `@`, there is nothing, or a line, or the end of a line and then others.
 use Rattle.puzzle_text.proofs.Names.{rules, sym}
 use Rattle.puzzle_text.proofs.CollectionLemmas.{follows_amid, follows_line, follows_none}
 use Rattle.puzzle_text.proofs.collections.past_plain.Goals as goal

@@ -1,4 +1,4 @@
--- `split_body`: one more line that begins no entry goes into the body.
+-- `split_body`: one more line that begins no entry is part of the body.
 use Rattle.puzzle_text.proofs.Names.{sym}
 use Rattle.puzzle_text.proofs.CollectionLemmas.{follow_on, past_line}
 use Rattle.puzzle_text.proofs.collections.split_body.Goals as goal

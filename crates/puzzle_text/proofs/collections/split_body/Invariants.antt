@@ -1,4 +1,4 @@
--- What the loop of `split_body` keeps: what it passed goes into the body.
+-- The loop of `split_body`: all text before `rest` is part of the body.
 use Rattle.puzzle_text.proofs.Names.{length, FollowsPlain}
 use Rattle.puzzle_text.proofs.collections.split_body.Given as goal
 

@@ -1,4 +1,4 @@
--- What the loop of `set_fields` keeps: the texts so far, with the fields to come set, are the texts with all set.
+-- The loop of `set_fields`: the texts so far, with the fields to come set, are the texts with all fields set.
 use Rattle.puzzle_text.proofs.Names.{◌≡◌, drop, map, shown_keyword}
 use Rattle.puzzle_text.specs.steps.Non.{with_all_found}
 use Rattle.puzzle_text.proofs.descriptions.set_fields.Given as goal

@@ -1,4 +1,4 @@
--- What the loop of `sum_within` keeps: each clue passed fits; their sum, and its bound.
+-- The loop of `sum_within`: each clue so far fits, and `sum` is the sum of their numbers, at most 32,768 for each.
 use Rattle.puzzle_text.proofs.Names.{◌≡◌, ◌*◌, ◌≤◌, take, true, list_all, fits, sum_all}
 use Rattle.puzzle_text.proofs.fitting.sum_within.Given as goal
 

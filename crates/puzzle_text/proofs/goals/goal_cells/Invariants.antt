@@ -1,4 +1,4 @@
--- What the loop of `goal_cells` keeps: the cells so far, and then those of the bytes to come, are those of the text.
+-- The loop of `goal_cells`: the cells so far, followed by those of the bytes to come, are those of the text.
 use Rattle.puzzle_text.proofs.Names.{◌≡◌, None, cond, drop, vec_len, each_some, cell_of, some_with_front}
 use Rattle.puzzle_text.proofs.goals.goal_cells.Given as goal
 

@@ -1,4 +1,4 @@
--- What the loop of `after_quote` keeps: no quote was passed, so the rest says what all bytes say.
+-- The loop of `after_quote`: no byte so far is a quote, so `rest` has the same result as all bytes.
 use Rattle.puzzle_text.proofs.Names.{◌≡◌, length, after_quote}
 use Rattle.puzzle_text.proofs.keywords.after_quote.Given as goal
 

@@ -1,4 +1,4 @@
--- What the loop of `before_quote` keeps: no quote was dropped, so the rest says what all bytes say.
+-- The loop of `before_quote`: no byte dropped so far is a quote, so `rest` has the same result as all bytes.
 use Rattle.puzzle_text.proofs.Names.{◌≡◌, length, before_quote}
 use Rattle.puzzle_text.proofs.keywords.before_quote.Given as goal
 

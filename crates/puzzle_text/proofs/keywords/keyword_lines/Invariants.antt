@@ -1,4 +1,4 @@
--- What the loop of `keyword_lines` keeps: the keyword lines so far, and then those to come, are all of them.
+-- The loop of `keyword_lines`: the keyword lines so far, followed by those to come, are all keyword lines.
 use Rattle.puzzle_text.proofs.Names.{◌≡◌, ◌++◌, drop, filter, map, is_keyword_line, shown_keyword, shown_line}
 use Rattle.puzzle_text.proofs.keywords.keyword_lines.Given as goal
 

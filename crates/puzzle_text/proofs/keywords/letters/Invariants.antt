@@ -1,4 +1,4 @@
--- What the loop of `letters` keeps: the letters passed and those at the start of the rest are those of the text.
+-- The loop of `letters`: the letters so far, and those at the start of the remaining text, are those at the start of all.
 use Rattle.puzzle_text.proofs.Names.{◌≡◌, ◌+◌, drop, prefix_len, is_ascii_alphabetic}
 use Rattle.puzzle_text.proofs.keywords.letters.Given as goal
 

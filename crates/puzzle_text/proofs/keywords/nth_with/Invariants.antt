@@ -1,4 +1,4 @@
--- What the loop of `nth_with` keeps: the line is among those to come, at the place that is left.
+-- The loop of `nth_with`: the line is among those to come, at the index `left`.
 use Rattle.puzzle_text.proofs.Names.{◌≡◌, length, map, slice_get, str_to_ascii_lowercase, with_keyword, shown_keyword}
 use Rattle.puzzle_text.proofs.keywords.nth_with.Given as goal
 

@@ -1,4 +1,4 @@
--- The law `greater_limit_keeps` holds: each step of a reader keeps its answer, in each format.
+-- The law `greater_limit_keeps`: each check of a reader keeps its result with a greater limit, in each format.
 use Rattle.puzzle_text.proofs.GreaterLimit.{keeps}
 use Rattle.puzzle_text.proofs.laws.greater_limit_keeps.Goals as goal
 

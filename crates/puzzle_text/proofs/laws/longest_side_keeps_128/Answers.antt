@@ -1,4 +1,4 @@
--- The law `longest_side_keeps_128` holds: 128 is no more than the limit.
+-- The law `longest_side_keeps_128`: 128 is at most `LONGEST_SIDE`.
 use Rattle.puzzle_text.proofs.Names.{arith}
 use Rattle.puzzle_text.proofs.GreaterLimit.{keeps}
 use Rattle.puzzle_text.proofs.laws.longest_side_keeps_128.Goals as goal

@@ -1,4 +1,4 @@
--- What the loop of `all_lines` keeps: the lines so far, and then those of the rest, are those of the text.
+-- The loop of `all_lines`: the lines so far, followed by those of `rest`, are the lines of the text.
 use Rattle.puzzle_text.proofs.Names.{◌≡◌, ◌+◌, ◌++◌, ◌≤◌, length, map, raw_lines, numbered_from, lines, shown_line}
 use Rattle.puzzle_text.proofs.lines.all_lines.Given as goal
 

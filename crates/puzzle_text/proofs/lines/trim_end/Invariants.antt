@@ -1,4 +1,4 @@
--- What the loop of `trim_end` keeps: what it dropped was blank.
+-- The loop of `trim_end`: all bytes dropped so far are blank.
 use Rattle.puzzle_text.proofs.Names.{◌≡◌, length, trim_end}
 use Rattle.puzzle_text.proofs.lines.trim_end.Given as goal
 

@@ -1,4 +1,4 @@
--- What the loop of `trim_start` keeps: what it dropped was blank.
+-- The loop of `trim_start`: all bytes dropped so far are blank.
 use Rattle.puzzle_text.proofs.Names.{◌≡◌, length, trim_start}
 use Rattle.puzzle_text.proofs.lines.trim_start.Given as goal
 

@@ -1,4 +1,4 @@
--- What gets less with each call of `least_of` by itself: the numbers that are left.
+-- Each call of `least_of` within itself has one number less.
 use Rattle.puzzle_text.proofs.Names.{length}
 use Rattle.puzzle_text.proofs.non.+least_of.Given as goal
 

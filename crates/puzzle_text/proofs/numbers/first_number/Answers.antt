@@ -1,4 +1,4 @@
--- `first_number`: a piece ends at a separator or with the line; a value past the limit refuses it.
+-- `first_number`: a piece ends at a separator or with the line; a value over the limit is refused.
 use Rattle.puzzle_text.proofs.Names.{◌+◌, arith, sym, drop_all, take_rest, rules}
 use Rattle.puzzle_text.proofs.NumbersLemmas.{next_digits, next_value, number_ends, number_past}
 use Rattle.puzzle_text.proofs.numbers.first_number.Goals as goal

@@ -1,4 +1,4 @@
--- What the loop of `first_number` keeps: the bytes passed are digits, and their value is within the limit.
+-- The loop of `first_number`: all bytes so far are digits, and their value is within the limit.
 use Rattle.puzzle_text.proofs.Names.{◌≡◌, ◌≤◌, true, take, list_all, is_ascii_digit, digits_value}
 use Rattle.puzzle_text.proofs.numbers.first_number.Given as goal
 

@@ -1,4 +1,4 @@
--- What the loop of `from_piece` keeps: what it dropped were separators, so the pieces are the same.
+-- The loop of `from_piece`: all bytes dropped so far are separators, so that the pieces are unchanged.
 use Rattle.puzzle_text.proofs.Names.{◌≡◌, ◌≤◌, length, pieces}
 use Rattle.puzzle_text.proofs.numbers.from_piece.Given as goal
 

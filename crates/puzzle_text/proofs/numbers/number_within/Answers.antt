@@ -1,4 +1,4 @@
--- `number_within`: a front that is past the limit makes a number past it.
+-- `number_within`: if the first digits are over the limit, so is the number.
 use Rattle.puzzle_text.proofs.Names.{sym, ◌+◌, arith}
 use Rattle.puzzle_text.proofs.NumbersLemmas.{next_value, past_limit}
 use Rattle.puzzle_text.proofs.numbers.number_within.Goals as goal

@@ -1,4 +1,4 @@
--- What the loop of `number_within` keeps: the bytes passed are digits, and their value is within the limit.
+-- The loop of `number_within`: all bytes so far are digits, and their value is within the limit.
 use Rattle.puzzle_text.proofs.Names.{◌≡◌, ◌≤◌, true, take, list_all, is_ascii_digit, digits_value}
 use Rattle.puzzle_text.proofs.numbers.number_within.Given as goal
 

@@ -1,4 +1,4 @@
--- `sections_of`: each of the three kinds of lines leaves the sections of the text as they are to be.
+-- `sections_of`: each of the three kinds of lines keeps the invariant: keyword lines, comments and content lines.
 use Rattle.puzzle_text.proofs.Names.{rules}
 use Rattle.puzzle_text.proofs.SectionsLemmas.{next_comment, next_content, next_keyword}
 use Rattle.puzzle_text.proofs.places.sections_of.Goals as goal

@@ -1,4 +1,4 @@
--- What the loop of `sections_of` keeps: the sections so far, and then those of the lines to come.
+-- The loop of `sections_of`: the sections so far, followed by those of the lines to come, are those of all lines.
 use Rattle.puzzle_text.proofs.Names.{◌≡◌, drop, map, placed, sections_of, shown_line, shown_sections}
 use Rattle.puzzle_text.proofs.SectionsLemmas.{below, join}
 use Rattle.puzzle_text.proofs.places.sections_of.Given as goal

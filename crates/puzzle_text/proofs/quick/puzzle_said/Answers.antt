@@ -1,4 +1,4 @@
--- `puzzle_said`: the parts say the puzzle, if there are as many clues as the sizes say.
+-- `puzzle_said`: keyword lines and clues that fit the sizes are a puzzle of the sections that have these clues.
 use Rattle.puzzle_text.proofs.Names.{map, rules, LONGEST_SIDE, shown_keyword}
 use Rattle.puzzle_text.proofs.SaidLines.{non_lines}
 use Rattle.puzzle_text.proofs.UsualLines.{say_all, ok_of_gives}

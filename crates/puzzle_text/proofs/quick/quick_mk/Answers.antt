@@ -1,4 +1,4 @@
--- `quick_mk`: what the size line, the rows, the line `#` and the columns say, the text says.
+-- `quick_mk`: the puzzle of the size line, the rows, the line `#` and the columns is that of the text.
 use Rattle.puzzle_text.proofs.Names.{arith, rules}
 use Rattle.puzzle_text.proofs.UsualLines.{mk_said}
 use Rattle.puzzle_text.proofs.quick.quick_mk.Goals as goal

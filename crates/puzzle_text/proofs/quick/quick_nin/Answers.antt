@@ -1,4 +1,4 @@
--- `quick_nin`: what the size line and the clues say, the text says.
+-- `quick_nin`: the puzzle of the size line and the clues is that of the text.
 use Rattle.puzzle_text.proofs.Names.{arith, rules, ◌≡◌}
 use Rattle.puzzle_text.proofs.UsualLines.{nin_said, some_of_ok}
 use Rattle.puzzle_text.proofs.quick.quick_nin.Goals as goal

@@ -1,4 +1,4 @@
--- `quick_non`: what the parts of the text say, the text says.
+-- `quick_non`: the puzzle of the keyword lines and the clues collected from the text is that of the text.
 use Rattle.puzzle_text.proofs.Names.{arith}
 use Rattle.puzzle_text.proofs.UsualLines.{non_said, some_of_ok}
 use Rattle.puzzle_text.proofs.quick.quick_non.Goals as goal

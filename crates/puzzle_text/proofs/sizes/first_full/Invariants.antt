@@ -1,4 +1,4 @@
--- What the loop of `first_full` keeps: the lines passed are blank.
+-- The loop of `first_full`: all lines so far are blank.
 use Rattle.puzzle_text.proofs.Names.{◌≡◌, length, map, first_full, shown_line}
 use Rattle.puzzle_text.proofs.sizes.first_full.Given as goal
 

@@ -1,4 +1,4 @@
--- `read_clue_line`: a number, and then a separator or the end of the line; or a 0 alone.
+-- `read_clue_line`: a number, and then a separator or the end of the line; or a single 0.
 use Rattle.puzzle_text.proofs.Names.{◌≡◌, [], ◌∷◌, ◌++◌, ◌∙◌, ap, arith, inl, length, rules, length_push, nil_from_length, IfSome_then}
 use Rattle.puzzle_text.proofs.UsualLines.{clue_ends, headed, number_and_more, zero_ends}
 use Rattle.puzzle_text.proofs.usual_lines.read_clue_line.Goals as goal

@@ -1,4 +1,4 @@
--- What the loop of `read_clue_line` keeps: the line has said the numbers so far, and goes on; with none it is at its start.
+-- The loop of `read_clue_line`: the line begins with the numbers so far and goes on with `rest`; without a number, `rest` is all of it.
 use Rattle.puzzle_text.proofs.Names.{◌≡◌, ◌≤◌, [], length}
 use Rattle.puzzle_text.proofs.UsualLines.{PassesNumbers}
 use Rattle.puzzle_text.proofs.usual_lines.read_clue_line.Given as goal

@@ -1,4 +1,4 @@
--- `read_clue_lines`: one line more says one clue more.
+-- `read_clue_lines`: one more line is read as one more clue.
 use Rattle.puzzle_text.proofs.Names.{ap, arith, length, rules, length-append}
 use Rattle.puzzle_text.proofs.UsualLines.{one_said}
 use Rattle.puzzle_text.proofs.usual_lines.read_clue_lines.Goals as goal

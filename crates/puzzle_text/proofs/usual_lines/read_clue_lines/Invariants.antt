@@ -1,4 +1,4 @@
--- What the loop of `read_clue_lines` keeps: the lines passed say the clues so far.
+-- The loop of `read_clue_lines`: the lines so far are read as the clues so far.
 use Rattle.puzzle_text.proofs.Names.{◌≡◌, ◌+◌, ◌-◌, ◌≤◌, length, vec_capacity, vec_len, SayClues}
 use Rattle.puzzle_text.proofs.usual_lines.read_clue_lines.Given as goal
 

@@ -1,4 +1,4 @@
--- `size_line`: two numbers, with a separator between them.
+-- `size_line`: two numbers with a separator between them, and a line ending.
 use Rattle.puzzle_text.proofs.Names.{rules}
 use Rattle.puzzle_text.proofs.UsualLines.{sizes_end}
 use Rattle.puzzle_text.proofs.usual_lines.size_line.Goals as goal

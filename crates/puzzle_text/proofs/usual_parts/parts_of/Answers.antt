@@ -1,4 +1,4 @@
--- `parts_of`: past a blank line, a comment, or a keyword line with the clues below it.
+-- `parts_of`: the invariant holds after a blank line, a comment, and a keyword line with the clue lines below it.
 use Rattle.puzzle_text.proofs.Names.{◌≡◌, ◌+◌, arith, length, rules, sym, ◌∙◌, clues_under}
 use Rattle.puzzle_text.proofs.SectionsLemmas.{none_is}
 use Rattle.puzzle_text.proofs.UsualLines.{above_all, kept_one, past_blank, past_section}

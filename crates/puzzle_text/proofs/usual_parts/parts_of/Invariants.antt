@@ -1,4 +1,4 @@
--- What the loop of `parts_of` keeps: the parts so far, and then those of the lines to come, are those of the text.
+-- The loop of `parts_of`: the keyword lines and clues so far, followed by those of the lines to come, are those of the text.
 use Rattle.puzzle_text.proofs.Names.{◌≡◌, ◌+◌, ◌++◌, ◌≤◌, filter, length, map, Under, is_keyword_line, lines, numbered_from, raw_lines, shown_keyword}
 use Rattle.puzzle_text.proofs.UsualLines.{IsAbove}
 use Rattle.puzzle_text.proofs.usual_parts.parts_of.Given as goal

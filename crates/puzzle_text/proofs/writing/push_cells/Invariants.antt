@@ -1,4 +1,4 @@
--- What the loop of `push_cells` keeps: the bytes of the cells passed are written.
+-- The loop of `push_cells`: the bytes of the cells so far are written.
 use Rattle.puzzle_text.proofs.Names.{◌≡◌, ◌++◌, map, take, goal_byte}
 use Rattle.puzzle_text.proofs.writing.push_cells.Given as goal
 

@@ -1,8 +1,8 @@
--- `push_clue`: the first number, and then each other with the separator before it.
+-- `push_clue`: the first number is written, and then each other with the separator before it.
 use Rattle.puzzle_text.proofs.Names.{ℕ, ◌++◌, arith, decimal, ◌≡◌, ◌-◌, ◌<◌, ◌≤◌, List, ◌∷◌, length, take, drop, get_or, append_assoc, flat_map, take_all, take_rest, clue_text, rules}
 use Rattle.puzzle_text.proofs.writing.push_clue.Goals as goal
 
--- what a loop over all numbers but the first has written
+-- After a loop over all numbers but the first, the whole clue is written.
 clue_is_written : (separator : ℕ) (numbers before first after : List ℕ) (i : ℕ) → 0 < length numbers
     → first ≡ before ++ decimal (get_or numbers 0 0)
     → after ≡ first ++ flat_map (λ other. separator ∷ decimal other) (take i (take (length numbers - 1) (drop 1 numbers)))

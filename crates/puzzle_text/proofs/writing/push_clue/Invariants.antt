@@ -1,4 +1,4 @@
--- What the loop of `push_clue` keeps: the numbers passed are written, each with the separator before it.
+-- The loop of `push_clue`: the numbers so far are written, each with the separator before it.
 use Rattle.puzzle_text.proofs.Names.{◌≡◌, ◌++◌, ◌∷◌, take, decimal, flat_map}
 use Rattle.puzzle_text.proofs.writing.push_clue.Given as goal
 

@@ -1,4 +1,4 @@
--- What the loop of `push_clues` keeps: the lines of the clues passed are written.
+-- The loop of `push_clues`: the lines of the clues so far are written.
 use Rattle.puzzle_text.proofs.Names.{◌≡◌, ◌++◌, take, clue_lines}
 use Rattle.puzzle_text.proofs.writing.push_clues.Given as goal
 

@@ -1,4 +1,4 @@
--- What the loop of `push_fields` keeps: the lines of the fields passed are written.
+-- The loop of `push_fields`: the lines of the fields so far are written.
 use Rattle.puzzle_text.proofs.Names.{◌≡◌, ◌++◌, take, flat_map, text_of, field_word, quoted_line}
 use Rattle.puzzle_text.proofs.writing.push_fields.Given as goal
 

@@ -1,4 +1,4 @@
--- `text_in_format`: the answer of the writing in this format is that of the conversion.
+-- `text_in_format`: the result of the writer, mapped to faults of the conversion, is the one of the definition.
 use Rattle.std.proofs.Common.{ap, arith}
 use Rattle.reports.specs.Converting.{in_conversion}
 use Rattle.reports.proofs.converting.text_in_format.Goals as goal

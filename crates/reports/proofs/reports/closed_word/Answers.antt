@@ -1,4 +1,4 @@
--- `closed_word`: a grid is `one` if it is full, else `open`.
+-- `closed_word`: the word is `one` if the grid is full, and `open` if not.
 use Rattle.reports.proofs.reports.closed_word.Goals as goal
 
 pub returns-then-is_full : goal.returns-then-is_full

@@ -1,4 +1,4 @@
--- `is_full`: there is no first unknown cell exactly if all cells are known.
+-- `is_full`: a grid has no first unknown cell exactly if all cells are known.
 use Rattle.std.proofs.Common.{ap, ◌∙◌, is_none, position}
 use Rattle.grid_core.specs.Cells.{is_unknown}
 use Rattle.reports.proofs.FullLemmas.{none_unknown, is_none-from, is_none-option_map}

@@ -1,4 +1,4 @@
--- `solve_text`: the text of the answer to the puzzle's job is that of the puzzle.
+-- `solve_text`: the text printed of the answer to the job is that of its puzzle.
 use Rattle.reports.proofs.FoundLemmas.{answer_printed}
 use Rattle.reports.proofs.reports.solve_text.Goals as goal
 

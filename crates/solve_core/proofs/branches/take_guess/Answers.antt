@@ -1,4 +1,4 @@
--- `take_guess`: a branch that is made, or gone back to, leaves what is still to happen as it was.
+-- `take_guess`: making a branch, or undoing to the last one, doesn't change the events still to come.
 use Rattle.solve_core.proofs.Names.{ap, TrailedGrid, rules}
 use Rattle.solve_core.proofs.BranchLaws.{fork-work, fork-events, back-work, back-events, back-ready}
 use Rattle.solve_core.proofs.TrailSteps.{length-cleared}

@@ -1,4 +1,4 @@
--- `learn_line`: what is certain of a line is written, and the lines that cross where it changes are marked.
+-- `learn_line`: the deduced line is written, and the crossing lines that may deduce more are added to the worklist.
 use Rattle.solve_core.proofs.Names.{AreFresh, bit_at, cases_eq, is_filled, true≢false, ◌≡◌, ◌∙◌, ◌*◌, ◌<◌, ◌⊎◌, inl, inr, ℕ, sym, arith, ap, subst, length, get_or, refl, List, Cell, Unknown, Side, Nonogram, cells_at, crossing, line_on, count_on, place_on, IsSize, Has, IsMaskOf, deduced, IsChanged, same_cells, same_without_change, length-cells_at, get_or-cells_at, length-places_on, get_or-places_on, deduced-above, length-deduced, marks_on, IsWritten, rules}
 use Rattle.solve_core.proofs.ClosureLaws.{length-with_cells}
 use Rattle.solve_core.proofs.GridSteps.{seen}
@@ -26,7 +26,7 @@ learn-requires-clause-some g c = λ e.
 pub returns-then-is_empty-clause-learned : goal.returns-then-is_empty-clause-learned
 returns-then-is_empty-clause-learned g c = search (rules, seen, same_without_change, length-deduced)
 
--- a cell at a place that isn't among the changes of a line stays as it was
+-- a cell of a line that isn't among the line's changes keeps its value
 unchanged : (p : Nonogram) (old new certain : List Cell) (side : Side) (i k m : ℕ) → 0 < p.width → i < count_on side p.width p.height →
     length old ≡ p.width * p.height → (w : IsWritten (line_on side p i) old new) → w.certain ≡ certain →
     IsMaskOf (IsChanged (cells_at Unknown old ((line_on side p i).places)) certain) m → k < count_on (crossing side) p.width p.height →
@@ -73,7 +73,8 @@ returns g c =
     } in
     let size : IsSize p.width p.height = rw (← c.requires.board.0, ← c.requires.board.1) c.line-old.ensures.whole.0 in
     let same = same_without_change c.line-old.result.now certain m
-    (length-deduced c.line-old.result.now certain line.clue (sym c.in-Some.is ∙ c.deduce.ensures.answer)) c.changes-changes.ensures.changes in
+    (length-deduced c.line-old.result.now certain line.clue (sym c.in-Some.is ∙ c.deduce.ensures.answer))
+    c.changes-changes.ensures.changes in
     let left = c.open_changes-open.ensures in
     let marked = g.W.PlaceSet.number c.open_changes-open.result in
     let added = subst (λ (s : Side). IsMaskOf (λ k. Has (marks_on s before) k ⊎ Has marked k) (marks_on s after)) c.crossing.ensures

@@ -1,4 +1,4 @@
--- What the loop of `fill_with_none` keeps: no place is in the sets so far, and there is room for all.
+-- Invariant of the loop of `fill_with_none`: all sets so far are empty, and the capacity suffices for all.
 use Rattle.solve_core.proofs.Names.{◌≡◌, ◌≤◌, replicate, vec_capacity, no_colours}
 use Rattle.solve_core.proofs.colour_sets.fill_with_none.Given as goal
 

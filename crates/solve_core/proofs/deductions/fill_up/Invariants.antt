@@ -1,4 +1,4 @@
--- What the loop of `fill_up` keeps: the room; the groups that are missing get fewer.
+-- Invariant of the loop of `fill_up`: the capacity is unchanged. Each turn leaves fewer groups missing.
 use Rattle.solve_core.proofs.Names.{◌≡◌, ◌-◌, vec_len, vec_capacity}
 use Rattle.solve_core.proofs.deductions.fill_up.Given as goal
 

@@ -1,4 +1,4 @@
--- `most_remembered`: the quotient is at least 1, since sets have no more than 256 places.
+-- `most_remembered`: the quotient is at least 1, since sets have at most 256 indices.
 use Rattle.solve_core.proofs.Names.{◌≡◌, ℕ, ◌+◌, ◌*◌, ◌<◌, ◌≤◌, arith, one_within, width_most}
 use Rattle.solve_core.proofs.deductions.most_remembered.Goals as goal
 

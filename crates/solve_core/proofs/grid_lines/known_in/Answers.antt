@@ -1,4 +1,4 @@
--- `known_in`: between two unknown cells, and behind the last one, all are known.
+-- `known_in`: the cells between two unknown ones, and after the last one, are known.
 use Rattle.solve_core.proofs.Names.{◌≡◌, ◌+◌, ◌-◌, arith, length, ap, take, take_all, count_by, count_by_more_no, is_known, Unknown, rules}
 use Rattle.solve_core.proofs.Counting.{count-run}
 use Rattle.solve_core.proofs.grid_lines.known_in.Goals as goal

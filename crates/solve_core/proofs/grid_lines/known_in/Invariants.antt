@@ -1,4 +1,4 @@
--- What the loop of `known_in` keeps: of the cells passed, all but the unknown ones counted are known.
+-- Invariant of the loop of `known_in`: of the cells passed, all but the unknown ones counted are known.
 use Rattle.solve_core.proofs.Names.{◌≡◌, ◌+◌, ◌-◌, ◌≤◌, length, take, count_by, is_known}
 use Rattle.solve_core.proofs.grid_lines.known_in.Given as goal
 

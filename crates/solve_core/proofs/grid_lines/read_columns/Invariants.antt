@@ -1,4 +1,4 @@
--- What the loop of `read_columns` keeps: the columns have the cells of the rows passed.
+-- Invariant of the loop of `read_columns`: the columns have the cells of the rows passed.
 use Rattle.solve_core.proofs.Names.{◌≡◌, ◌<◌, ℕ, [], get_or, length, Unknown}
 use Rattle.solve_core.proofs.grid_lines.read_columns.Given as goal
 

@@ -1,4 +1,4 @@
--- `read_lines`: rows that are those of the grid, and columns with the cells of the rows, are its lines.
+-- `read_lines`: rows that are those of the grid, and columns with the same cells, are its lines.
 use Rattle.solve_core.proofs.Names.{◌≡◌, ◌*◌, ◌∙◌, length, sym, arith, IsSize, length-row_of}
 use Rattle.solve_core.proofs.GridLineSteps.{lines-long, lines-read}
 use Rattle.solve_core.proofs.grid_lines.read_lines.Goals as goal

@@ -1,4 +1,4 @@
--- What the loop of `read_rows` keeps: the rows passed are those of the grid, the others are as they were.
+-- Invariant of the loop of `read_rows`: the rows passed are those of the grid, and the others are unchanged.
 use Rattle.solve_core.proofs.Names.{◌≡◌, ◌*◌, ◌<◌, length, row_of}
 use Rattle.solve_core.proofs.GridLineSteps.{IsWrittenTo}
 use Rattle.solve_core.proofs.grid_lines.read_rows.Given as goal

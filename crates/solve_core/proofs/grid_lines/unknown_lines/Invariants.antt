@@ -1,4 +1,4 @@
--- What the loop of `unknown_lines` keeps: nothing is known of the lines so far, and there is room for all.
+-- Invariant of the loop of `unknown_lines`: all lines so far are unknown, and the capacity suffices for all.
 use Rattle.solve_core.proofs.Names.{◌≡◌, ◌≤◌, replicate, vec_capacity, Unknown}
 use Rattle.solve_core.proofs.grid_lines.unknown_lines.Given as goal
 

@@ -1,4 +1,4 @@
--- What the loop of `write_across` keeps: the columns passed have the row's cell, the others are as they were.
+-- Invariant of the loop of `write_across`: the columns passed have the row's cell, and the others are unchanged.
 use Rattle.solve_core.proofs.Names.{ℕ, [], get_or, set, Unknown}
 use Rattle.solve_core.proofs.GridLineSteps.{IsWrittenTo}
 use Rattle.solve_core.proofs.grid_lines.write_across.Given as goal

@@ -1,4 +1,5 @@
--- `most_known`: one more cell is the best so far or changes nothing, and the best of all cells is the rule's.
+-- `most_known`: one more cell becomes the best or changes nothing, and the best of all cells is the one that the rule
+-- picks.
 use Rattle.solve_core.proofs.Names.{true≢false, rules}
 use Rattle.solve_core.proofs.PickRows.{cell-none, cell-some}
 use Rattle.solve_core.proofs.guessing.most_known.Goals as goal

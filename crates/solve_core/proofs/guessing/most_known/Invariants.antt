@@ -1,9 +1,9 @@
--- What the loop of `most_known` keeps: the best place so far, and the least count that betters it.
+-- Invariant of the loop of `most_known`: the best cell so far, and the least score that a later one needs.
 use Rattle.solve_core.proofs.Names.{◌≡◌, ◌≤◌, get_or, is_unknown, Unknown, first_most, sure_neighbours}
 use Rattle.solve_core.proofs.PickRows.{least_after}
 use Rattle.solve_core.proofs.guessing.most_known.Given as goal
 
--- the best place so far, and what a later one has to have
+-- the best cell so far, and the least score that a later one needs
 abbrev pub invariant-loop-place : goal.invariant-loop-place
 invariant-loop-place l = record {
   within : l.place ≤ l.count;

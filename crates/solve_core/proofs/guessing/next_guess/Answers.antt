@@ -1,4 +1,4 @@
--- `next_guess`: the row of the picked place is one of the grid, so its number fits 16 bits.
+-- `next_guess`: the row of the picked cell is a row of the grid, so its number fits into 16 bits.
 use Rattle.solve_core.proofs.Names.{◌≡◌, ◌∙◌, ◌<◌, ◌/◌, Some, sym, arith, div_below, most_known}
 use Rattle.solve_core.proofs.PickLaws.{most_known-IsPick}
 use Rattle.solve_core.proofs.guessing.next_guess.Goals as goal

@@ -1,4 +1,4 @@
--- The law `most_known_is_most` holds: the cell that the fold over all cells picks is what the rule says.
+-- The law `most_known_is_most`: the cell that the fold over all cells yields has the properties that the rule states.
 use Rattle.solve_core.proofs.PickLaws.{most_known-is}
 use Rattle.solve_core.proofs.laws.most_known_is_most.Goals as goal
 

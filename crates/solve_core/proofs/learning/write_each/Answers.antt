@@ -1,4 +1,4 @@
--- `write_each`: each word's places are settled by its turn.
+-- `write_each`: each turn writes the indices of one word.
 use Rattle.solve_core.proofs.Names.{◌∙◌, ◌+◌, ◌<◌, inl, inr, List, set, ap, arith, cases_lt, Cell, width_most}
 use Rattle.solve_core.proofs.learning.write_each.Goals as goal
 

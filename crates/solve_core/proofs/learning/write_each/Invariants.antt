@@ -1,5 +1,5 @@
--- What the loop of `write_each` keeps: the lines at the places before `from` have the colour, and the others are as
--- they were.
+-- Invariant of the loop of `write_each`: of the lines at `places`, those before `from` have the colour; all others are
+-- unchanged.
 use Rattle.solve_core.proofs.Names.{◌≡◌, ℕ, ◌-◌, ◌*◌, ◌<◌, ◌≤◌, [], get_or, set, Has}
 use Rattle.solve_core.proofs.learning.write_each.Given as goal
 

@@ -1,4 +1,4 @@
--- `write_word`: a place of the word is met once, so its line was as before.
+-- `write_word`: each index of the word is visited once, so its line was unchanged until then.
 use Rattle.solve_core.proofs.Names.{rules, ◌≡◌, ◌≢◌, ◌∙◌, refl, ◌+◌, ◌-◌, ◌<◌, ℕ, inl, inr, List, [], length, get_or, set, sym, ap, arith, get_or-set_same, get_or-set_other, subst, cases_eq, eqb-true, Cell, Has, width_most}
 use Rattle.solve_core.proofs.Changes.{none_in}
 use Rattle.solve_core.proofs.WordLemmas.{in_word, of_word, stays}
@@ -22,7 +22,8 @@ write_cell-requires g c =
     let before = c.loop-colour.invariant in
     let x = c.first_place-k.result in
     let has = c.first_place-k.ensures.in_mask in
-    let is = of_word (g.W.PlaceSet.number c.args.places) c.args.from c.word_from-left.result x c.word_from-left.ensures (before.inside x has) in
+    let is = of_word (g.W.PlaceSet.number c.args.places) c.args.from c.word_from-left.result x c.word_from-left.ensures
+    (before.inside x has) in
     let can = c.requires.cells (c.args.from + x) is in
     let within : c.from.result < length c.loop-colour.lines = omega (arith, c.from.ensures, can.line, c.loop-colour.auto.lines) in
     let same : get_or c.loop-colour.lines c.from.result c.index-lines-from.result ≡ get_or c.args.lines.now (c.args.from + x) [] =

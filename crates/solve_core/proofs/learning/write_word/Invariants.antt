@@ -1,5 +1,5 @@
--- What the loop of `write_word` keeps: the lines at `left` are as they were, and those at the other places of the
--- word have the colour.
+-- Invariant of the loop of `write_word`: the lines at the indices in `left` are unchanged, and those at the other
+-- indices of the word have the colour.
 use Rattle.solve_core.proofs.Names.{◌≡◌, ◌≢◌, ℕ, ◌+◌, [], get_or, set, Has}
 use Rattle.solve_core.proofs.learning.write_word.Given as goal
 

@@ -1,4 +1,4 @@
--- `closed_grid`: the closed board's cells are those of the line grid.
+-- `closed_grid`: the cells of the closed board are those of the line grid.
 use Rattle.solve_core.proofs.Names.{rules}
 use Rattle.solve_core.proofs.line_grids.closed_grid.Goals as goal
 

@@ -1,4 +1,4 @@
--- `line_grid_within`: nothing is remembered yet, and so all that is remembered is right.
+-- `line_grid_within`: the cache is empty, and therefore correct.
 use Rattle.solve_core.proofs.Names.{arith}
 use Rattle.solve_core.proofs.line_grids.line_grid_within.Goals as goal
 

@@ -1,4 +1,4 @@
--- What the loop of `first_in_most` keeps: each of the places is in fewer than `count` of the four sets.
+-- Invariant of the loop of `first_in_most`: each of `places` is in fewer than `count` of the four sets.
 use Rattle.solve_core.proofs.Names.{◌+◌, ◌-◌, ◌<◌, ◌≤◌, ℕ, Has}
 use Rattle.solve_core.proofs.picks.first_in_most.Given as goal
 

@@ -1,4 +1,4 @@
--- `known_beside`: the two sets say of each cell of the row which neighbours in it are known or outside the grid.
+-- `known_beside`: the two sets count how many neighbours in the row are known or outside the grid, for each cell.
 use Rattle.solve_core.proofs.Names.{◌≡◌, ◌∙◌, ◌-◌, ℕ, length, subst, Has, IsMaskOf, IsShifted, one_within, two_of}
 use Rattle.solve_core.proofs.CountLaws.{counts_by, left_is, right_is}
 use Rattle.solve_core.proofs.picks.known_beside.Goals as goal

@@ -1,4 +1,4 @@
--- `most_in_row`: the four sets say of each cell of the row which neighbours are known or outside the grid.
+-- `most_in_row`: the four sets count how many neighbours are known or outside the grid, for each cell of the row.
 use Rattle.solve_core.proofs.Names.{◌+◌, has}
 use Rattle.solve_core.proofs.CountLaws.{counts_by, most_by}
 use Rattle.solve_core.proofs.picks.most_in_row.Goals as goal

@@ -1,4 +1,4 @@
--- The counts that `most_in_row` tells `first_in_most`: in how many of two sets each place is.
+-- The counts that `most_in_row` passes to `first_in_most`: how many of two sets contain an index.
 use Rattle.solve_core.proofs.Names.{told_by}
 use Rattle.solve_core.proofs.picks.most_in_row.Given as goal
 

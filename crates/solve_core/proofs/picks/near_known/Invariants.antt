@@ -1,4 +1,4 @@
--- The counts that `near_known` tells `in_so_many`: in how many of two sets each place is.
+-- The counts that `near_known` passes to `in_so_many`: how many of two sets contain an index.
 use Rattle.solve_core.proofs.Names.{told_by}
 use Rattle.solve_core.proofs.picks.near_known.Given as goal
 

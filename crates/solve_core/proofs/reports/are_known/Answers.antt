@@ -1,4 +1,4 @@
--- `are_known`: all cells are known exactly if as many are known as there are.
+-- `are_known`: all cells are known exactly if the number of known cells is the number of cells.
 use Rattle.solve_core.proofs.Names.{rules, cases_Bool, eq-eqb, ne_eqb, true≢false}
 use Rattle.solve_core.proofs.Counting.{known-and-unknown, none-unknown, all-of-none}
 use Rattle.solve_core.proofs.reports.are_known.Goals as goal

@@ -1,4 +1,4 @@
--- `findings`: the report is the defined one, whether lines end dead, trials end dead, or there is a search.
+-- `findings`: the report is the defined one in each case: a dead closure, dead trials, or a search.
 use Rattle.solve_core.proofs.Names.{◌≡◌, ◌∙◌, ap, count_by, is_known, grade_by, picked, refl, subst, sym, IsAtRest, Some, Tried}
 use Rattle.solve_core.proofs.ReportLaws.{report-told}
 use Rattle.solve_core.proofs.reports.findings.Goals as goal

@@ -1,4 +1,4 @@
--- `report_within`: the defined report's verdict holds of all grids, and it spends no more than `guesses`.
+-- `report_within`: the verdict of the defined report holds, and the report spends at most `guesses` guesses.
 use Rattle.solve_core.proofs.Names.{sym, subst, Findings, picked, Holds, rules}
 use Rattle.solve_core.proofs.PickLaws.{picked-IsPick}
 use Rattle.solve_core.proofs.AnswerLaws.{verdict-Holds, guesses-within}

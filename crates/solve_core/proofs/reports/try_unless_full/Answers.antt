@@ -1,4 +1,4 @@
--- `try_unless_full`: trials leave a full board at rest as it is.
+-- `try_unless_full`: trials leave a full board at a fixpoint unchanged.
 use Rattle.solve_core.proofs.Names.{◌∙◌, sym, lines_of}
 use Rattle.solve_core.proofs.Counting.{full-tried}
 use Rattle.solve_core.proofs.GridSteps.{rest_closed}

@@ -1,4 +1,5 @@
--- `explore`: if the guess ends dead, the branches' events are left; else its closed cells' come before them.
+-- `explore`: if the guess is dead, only the branches' events are owed; otherwise those from its closed cells come
+-- first.
 use Rattle.solve_core.proofs.Names.{◌≡◌, ◌++◌, length, set, ap, ◌∙◌, arith, lines_of, guess_at, events, ending, owed_by, picked, None, Some, rules}
 use Rattle.solve_core.proofs.PickLaws.{picked-IsPick}
 use Rattle.solve_core.proofs.BranchLaws.{trailed-work, trailed-pending, before-more}
@@ -20,7 +21,8 @@ returns-then-not-guess-clause-goes_on g c = λ branches w.
     let old = c.args.board.now in
     let rule = picked c.args.pick p.width in
     let same = trailed-pending rule (lines_of p) old c.guess.new.board branches c.guess.ensures.trail w
-    ∙ closed-events rule (picked-IsPick c.args.pick p.width) (lines_of p) _ None (owed_by rule p branches old) c.if-not-guess.ensures.closed in
+    ∙ closed-events rule (picked-IsPick c.args.pick p.width) (lines_of p) _ None (owed_by rule p branches old)
+    c.if-not-guess.ensures.closed in
     record {
       under_way = record { work = trailed-work rule (lines_of p) old _ branches c.guess.ensures.trail w; older = tt; next_open = tt };
       ends = λ spent left. ap (ending p c.args.solutions.now.grids spent left) same;

@@ -1,4 +1,4 @@
--- `search`: a guess and what is owed after it end as what was owed before, and fewer events are left.
+-- `search`: a guess and the events owed after it end as the events owed before, and fewer are owed then.
 use Rattle.solve_core.proofs.Names.{append-nil, ◌≡◌, ◌+◌, ◌-◌, ◌≤◌, ◌++◌, [], refl, ap, sym, ◌∙◌, arith, length, slice_set, lines_of, events, ending, owed, owed_by, picked, Some, rules}
 use Rattle.solve_core.proofs.PickLaws.{picked-IsPick}
 use Rattle.solve_core.proofs.ReportLaws.{ending-next}

@@ -1,9 +1,10 @@
--- What the loop of `search` keeps: what was found and spent, with what is owed, ends as the whole search.
+-- Invariant of the loop of `search`: the solutions found, the guesses spent and the events owed end as the whole
+-- search.
 use Rattle.solve_core.proofs.Names.{◌≡◌, ◌-◌, ◌≤◌, [], length, vec_capacity, lines_of, events, ending, IsBoardOf, IsIdle, owed, IsUnderWay, picked}
 use Rattle.solve_core.specs.Sizes.{IsSizeOf}
 use Rattle.solve_core.proofs.search.search.Given as goal
 
--- the search so far and what is still to happen end as the whole search
+-- the solutions found, the guesses spent and the events owed end as the whole search
 abbrev pub invariant-loop-pick : goal.invariant-loop-pick
 invariant-loop-pick g l =
     let p = l.puzzle in

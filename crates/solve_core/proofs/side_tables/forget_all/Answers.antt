@@ -1,4 +1,4 @@
--- `forget_all`: all are passed, and behind them there is none.
+-- `forget_all`: all tables are passed, and there are no others.
 use Rattle.solve_core.proofs.Names.{arith}
 use Rattle.solve_core.proofs.TableSteps.{all_empty}
 use Rattle.solve_core.proofs.side_tables.forget_all.Goals as goal

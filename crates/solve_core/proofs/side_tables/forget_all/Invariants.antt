@@ -1,4 +1,4 @@
--- What the loop of `forget_all` keeps: those that are passed have no line.
+-- Invariant of the loop of `forget_all`: the tables passed have no line.
 use Rattle.solve_core.proofs.Names.{◌≡◌, ℕ, ◌<◌, None, length, get_or}
 use Rattle.line_core.specs.Pairs.{no_table}
 use Rattle.solve_core.proofs.side_tables.forget_all.Given as goal

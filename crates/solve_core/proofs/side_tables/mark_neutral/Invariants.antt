@@ -1,4 +1,4 @@
--- What the loop of `mark_neutral` keeps: sets that are passed are marked, the others are as they were.
+-- Invariant of the loop of `mark_neutral`: the sets passed have the table's inert cells, and the others are unchanged.
 use Rattle.solve_core.proofs.Names.{◌≡◌, ◌<◌, ◌≤◌, ℕ, Bool, length, get_or, Has, IsMarked, IsMaskOf, has}
 use Rattle.line_core.specs.Pairs.{neutral_if}
 use Rattle.solve_core.specs.steps.ColourMasks.{mask_if, no_colours}

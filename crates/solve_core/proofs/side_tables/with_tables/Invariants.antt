@@ -1,4 +1,4 @@
--- What the loop of `with_tables` keeps: no table has a line.
+-- Invariant of the loop of `with_tables`: no table has a line.
 use Rattle.solve_core.specs.steps.LinePairs.{AreEmpty}
 use Rattle.solve_core.proofs.side_tables.with_tables.Given as goal
 

@@ -1,9 +1,9 @@
--- `places_for_clues`: with one more clue the places are no fewer, and they have room for its numbers too.
+-- `places_for_clues`: with one more clue the result doesn't shrink, and suffices for the clue's numbers too.
 use Rattle.solve_core.proofs.Names.{◌≡◌, ◌∙◌, ◌≤◌, [], get_or, sym, take_all, subst, arith, All, get_or_default, All-more, LONGEST_SIDE, rules, ℕ, List, true, leb, and_parts, leb-true, AllPass-from_list_all}
 use Rattle.grid_core.specs.Clues.{is_clue, is_run}
 use Rattle.solve_core.proofs.widths.places_for_clues.Goals as goal
 
--- the numbers of a clue are no greater than its limit
+-- the numbers of a clue are at most its limit
 clue_short : (limit : ℕ) (clue : List ℕ) → is_clue limit clue ≡ true → All (λ n. n ≤ limit) clue
 clue_short limit clue h = search (rules, AllPass-from_list_all, is_run, and_parts, leb, leb-true)
 

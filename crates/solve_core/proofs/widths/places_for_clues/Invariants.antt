@@ -1,5 +1,5 @@
--- What the loop of `places_for_clues` keeps: the places have room for the numbers of the clues passed, and no
--- fewer have room for those of all.
+-- Invariant of the loop of `places_for_clues`: `needed` suffices for the numbers of the clues passed, and is at most
+-- what all clues need.
 use Rattle.solve_core.proofs.Names.{◌≤◌, ℕ, take, All, LONGEST_SIDE}
 use Rattle.solve_core.proofs.widths.places_for_clues.Given as goal
 

@@ -1,4 +1,4 @@
--- `without_first`: one less than a word has the places behind its first one, and not that one.
+-- `without_first`: a word less 1 has the bits above the word's lowest one, and not that one.
 use Rattle.solve_core.proofs.Names.{◌≡◌, ◌≢◌, ◌∙◌, ℕ, zero, suc, ◌-◌, ◌/◌, ◌<◌, inl, inr, refl, sym, ap, arith, true≢false, bit_at, cases_eq, bit_at_and, bit_at-lt, bit_at_lowest, bit_at-suc, Has, rules}
 use Rattle.solve_core.proofs.words.without_first.Goals as goal
 

@@ -1,4 +1,4 @@
--- What the loop of `grid_of` keeps: the grid's sizes.
+-- The invariant of the loop of `grid_of`: the grid has the width and the height that were asked for.
 use Rattle.std.proofs.Common.{◌≡◌}
 use Rattle.solve_tests.proofs.test_puzzles.grid_of.Given as goal
 

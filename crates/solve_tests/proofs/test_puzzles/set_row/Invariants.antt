@@ -1,4 +1,4 @@
--- What the loop of `set_row` keeps: the grid's sizes.
+-- The invariant of the loop of `set_row`: the grid keeps its width and its height.
 use Rattle.std.proofs.Common.{◌≡◌}
 use Rattle.solve_tests.proofs.test_puzzles.set_row.Given as goal
 

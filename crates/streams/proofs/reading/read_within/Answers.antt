@@ -1,4 +1,4 @@
--- `read_within`: if a growth is refused, no more was read than the limit.
+-- `read_within`: if an allocation fails, no more was read than the limit.
 use Rattle.std.proofs.Common.{◌++◌, take, refl, arith}
 use Rattle.std.proofs.lemmas.List.{length-append, length-take}
 use Rattle.std.proofs.KnownBytes.{Consumes-trans}

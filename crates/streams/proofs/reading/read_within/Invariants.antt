@@ -1,4 +1,4 @@
--- What the loop of `read_within` keeps: the text is what was read, and no call failed.
+-- The invariant of the loop of `read_within`: the text is what was read, and no call failed.
 use Rattle.std.proofs.Common.{◌≡◌, ◌≤◌, ◌-◌, vec_len}
 use Rattle.std.specs.Io.KnownBytes.{Consumes}
 use Rattle.streams.specs.Counted.{fault_count}

@@ -1,4 +1,4 @@
--- `flush_behind`: it fails if the flush fails.
+-- `flush_behind`: an error means that the flush failed, and is counted.
 use Rattle.std.proofs.Common.{arith, refl}
 use Rattle.streams.proofs.writing.flush_behind.Goals as goal
 

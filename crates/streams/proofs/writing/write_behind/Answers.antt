@@ -1,4 +1,4 @@
--- `write_behind`: what one more write takes of the rest goes out behind what went out before.
+-- `write_behind`: what a write takes of the rest is appended to what was sent before.
 use Rattle.std.proofs.Common.{append-nil, refl, rules}
 use Rattle.std.proofs.KnownBytes.{Appends-kept}
 use Rattle.streams.proofs.Front.{appends_front}

@@ -1,4 +1,4 @@
--- What the loop of `write_behind` keeps: the first `sent` bytes of the text went out, and no call failed.
+-- The invariant of the loop of `write_behind`: the first `sent` bytes of the text were sent, and no call failed.
 use Rattle.std.proofs.Common.{◌≡◌, ◌≤◌, ◌-◌, length, take}
 use Rattle.std.specs.Io.KnownBytes.{Appends}
 use Rattle.streams.specs.Counted.{fault_count}

@@ -1,4 +1,4 @@
--- `write_texts`: what one more text leaves stands behind what the texts before it left.
+-- `write_texts`: what was sent of a text follows the texts before it.
 use Rattle.std.proofs.Common.{rules, arith}
 use Rattle.streams.proofs.Front.{among_within, sent_among, sent_last}
 use Rattle.streams.proofs.writing.write_texts.Goals as goal

@@ -1,4 +1,4 @@
--- What the loop of `write_texts` keeps: the texts passed went out, and `sent` is their length.
+-- The invariant of the loop of `write_texts`: the texts passed were sent, and `sent` is their length.
 use Rattle.std.proofs.Common.{◌≡◌, length, take}
 use Rattle.std.specs.Io.KnownBytes.{Appends}
 use Rattle.streams.specs.Counted.{fault_count}

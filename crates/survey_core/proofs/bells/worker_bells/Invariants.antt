@@ -1,4 +1,4 @@
--- What the loop of `worker_bells` keeps: there is a bell for each worker passed.
+-- The invariant of the loop of `worker_bells`: the list has as many parkers as turns were taken.
 use Rattle.std.proofs.Common.{◌≡◌, vec_len}
 use Rattle.survey_core.proofs.bells.worker_bells.Given as goal
 

@@ -1,4 +1,4 @@
--- `collect_some`: there is a queue of answers for each lane, and it answers what the lane was dealt.
+-- `collect_some`: there is a queue of answers for each lane, and it has the answers to the jobs dealt to the lane.
 use Rattle.std.proofs.Common.{sym, ap, ◌∙◌, subst, length, get_or, List, [], map, arith}
 use Rattle.std.proofs.lemmas.List.{length-map}
 use Rattle.lane_core.specs.Answers.{AreAnswersTo}
@@ -22,7 +22,8 @@ gather-requires-clause-lanes g c =
 
 pub gather-requires-clause-answered : goal.gather-requires-clause-answered
 gather-requires-clause-answered g c = λ k within.
-    subst (λ (js : List Job). AreAnswersTo js (get_or (map (λ q. q.items) c.in_ok-queues.queues.items) k [])) (ap (λ l. get_or l k []) c.in_ok-lists.ensures ∙ c.in_ok-deal_out.ensures.dealt k within
+    subst (λ (js : List Job). AreAnswersTo js (get_or (map (λ q. q.items) c.in_ok-queues.queues.items) k []))
+    (ap (λ l. get_or l k []) c.in_ok-lists.ensures ∙ c.in_ok-deal_out.ensures.dealt k within
     ∙ ap (λ v. dealt v.items c.args.lanes k) (sym c.of-all.ensures))
     (EachAnswered-at _ _ k c.in_ok-queues.ensures.1
     (omega (

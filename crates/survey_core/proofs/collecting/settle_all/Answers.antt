@@ -1,4 +1,4 @@
--- `settle_all`: one more lane is settled, and its answers are those to the jobs that it was dealt.
+-- `settle_all`: one more lane is settled, and its answers are those to the jobs dealt to it.
 use Rattle.std.proofs.Common.{◌++◌, ◌∷◌, [], map, append_assoc, arith}
 use Rattle.std.proofs.lemmas.List.{map_push}
 use Rattle.survey_core.proofs.CollectedLemmas.{EachAnswered-push}
@@ -15,5 +15,6 @@ settling-preserved g c =
         rw (c.push_reserved.ensures.items, map_push (λ q. q.items) c.settling.settled.items c.settle.result)
             (EachAnswered-push before.0 (map (λ q. q.items) c.settling.settled.items) own c.settle.result.items before.2 c.settle.ensures),
       );
-      room = omega (arith, c.settling.invariant.room, c.in-Some.ensures.cases, c.push_reserved.ensures.len, c.push_reserved.ensures.capacity);
+      room =
+          omega (arith, c.settling.invariant.room, c.in-Some.ensures.cases, c.push_reserved.ensures.len, c.push_reserved.ensures.capacity);
     }

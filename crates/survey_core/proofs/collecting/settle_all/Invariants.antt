@@ -1,4 +1,4 @@
--- What the loop of `settle_all` keeps: the answers of the lanes passed, and room for those of the others.
+-- The invariant of the loop of `settle_all`: the jobs of the lanes taken are answered, and the answers of the others fit into the list.
 use Rattle.std.proofs.Common.{◌≡◌, ◌+◌, ◌≤◌, ◌++◌, map, vec_len, vec_capacity, List}
 use Rattle.std.specs.VecDeque.{deque_len}
 use Rattle.lane_core.specs.declared.jobs.Job.{Job}

@@ -1,4 +1,4 @@
--- What gets less with each turn of the loop of `stop_all`: the lanes that are left.
+-- The measure of the loop of `stop_all`: the number of lanes that are left.
 use Rattle.std.specs.VecDeque.{deque_len}
 use Rattle.survey_core.proofs.collecting.stop_all.Given as goal
 

@@ -1,4 +1,4 @@
--- What the loop of `take_round` keeps: how many lanes there are, and what each was dealt.
+-- The invariant of the loop of `take_round`: the number of lanes, and the jobs dealt to each, are unchanged.
 use Rattle.std.proofs.Common.{◌≡◌}
 use Rattle.std.specs.VecDeque.{deque_len}
 use Rattle.survey_core.specs.steps.Collected.{dealt_jobs}

@@ -1,4 +1,4 @@
--- What the loop of `take_turns` keeps: what the complete lanes, and then the running ones, were dealt.
+-- The invariant of the loop of `take_turns`: the jobs dealt to the complete lanes, and then to the running ones, are unchanged.
 use Rattle.std.proofs.Common.{◌≡◌, ◌+◌, ◌≤◌, ◌++◌}
 use Rattle.std.specs.VecDeque.{deque_len, deque_capacity}
 use Rattle.survey_core.specs.steps.Collected.{complete_jobs, dealt_jobs}

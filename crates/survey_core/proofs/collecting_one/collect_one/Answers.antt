@@ -1,4 +1,4 @@
--- `collect_one`: one more job is graded, and its answer goes behind those to the jobs before it.
+-- `collect_one`: one more job is graded, and its answer is appended to those to the jobs before it.
 use Rattle.std.proofs.Common.{◌++◌, ◌∷◌, [], append_assoc, arith}
 use Rattle.lane_core.proofs.AnswersLemmas.{AreAnswersTo-push}
 use Rattle.survey_core.proofs.collecting_one.collect_one.Goals as goal
@@ -13,5 +13,6 @@ grading-preserved c =
         rw c.push_reserved.ensures.items
             (AreAnswersTo-push before.0 c.grading.answers.items c.in-Some.job c.grade_by.result before.2 c.grade_by.ensures),
       );
-      room = omega (arith, c.grading.invariant.room, c.in-Some.ensures.cases, c.push_reserved.ensures.len, c.push_reserved.ensures.capacity);
+      room =
+          omega (arith, c.grading.invariant.room, c.in-Some.ensures.cases, c.push_reserved.ensures.len, c.push_reserved.ensures.capacity);
     }

@@ -1,4 +1,4 @@
--- What the loop of `collect_one` keeps: the jobs passed are answered, and the other answers have room.
+-- The invariant of the loop of `collect_one`: the jobs taken are answered, and the answers to the others fit into the list.
 use Rattle.std.proofs.Common.{◌≡◌, ◌+◌, ◌≤◌, ◌++◌, List, vec_len, vec_capacity}
 use Rattle.std.specs.VecDeque.{deque_len}
 use Rattle.lane_core.specs.Answers.{AreAnswersTo}

@@ -1,4 +1,4 @@
--- What the loop of `puzzles_among` keeps: the puzzles passed are counted.
+-- The invariant of the loop of `puzzles_among`: `count` is the number of puzzles among the first `fault-index` entries.
 use Rattle.std.proofs.Common.{◌≡◌, take}
 use Rattle.survey_core.specs.steps.Graded.{puzzle_count}
 use Rattle.survey_core.proofs.grading.puzzles_among.Given as goal

@@ -1,4 +1,4 @@
--- `deal_out`: the next job goes to the queue whose turn it is.
+-- `deal_out`: the next job is appended to the queue whose turn it is.
 use Rattle.std.proofs.Common.{◌≡◌, ◌++◌, [], map, get_or, sym, ◌∙◌, subst, arith}
 use Rattle.std.specs.Vec.Iter.{into_iter_items}
 use Rattle.survey_core.specs.steps.Dealt.{dealt_from, dealt}

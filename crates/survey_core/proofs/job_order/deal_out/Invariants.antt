@@ -1,4 +1,4 @@
--- What the loop of `deal_out` keeps: a queue, with its share of the jobs left, is what its lane is dealt.
+-- The invariant of the loop of `deal_out`: the queue of a lane, followed by its share of the jobs left, is what it is dealt in all.
 use Rattle.std.proofs.Common.{◌≡◌, ◌+◌, ◌<◌, ◌++◌, ℕ, vec_len, map, get_or, []}
 use Rattle.std.specs.Vec.Iter.{into_iter_items, into_iter_len}
 use Rattle.survey_core.specs.steps.Dealt.{dealt_from, dealt}

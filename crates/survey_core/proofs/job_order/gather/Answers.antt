@@ -1,4 +1,4 @@
--- `gather`: the queue whose turn it is has the next answer at its front, which is gathered.
+-- `gather`: the queue whose turn it is has the answer to the next job at its front, and that is appended.
 use Rattle.std.proofs.Common.{◌<◌, ◌+◌, take, sym, ap, ◌∙◌, subst}
 use Rattle.std.proofs.lemmas.List.{nil_from_length}
 use Rattle.lane_core.specs.Answers.{AreAnswersTo}

@@ -1,4 +1,4 @@
--- What the loop of `gather` keeps: the jobs passed are answered, and a queue answers its share of the rest.
+-- The invariant of the loop of `gather`: the first jobs are answered, and each queue has the answers to its share of the others.
 use Rattle.std.proofs.Common.{◌≡◌, ◌<◌, ℕ, vec_len, vec_capacity, map, get_or, take, drop, []}
 use Rattle.lane_core.specs.Answers.{AreAnswersTo}
 use Rattle.survey_core.specs.steps.Dealt.{dealt_from}

@@ -1,4 +1,4 @@
--- What the loop of `no_jobs` keeps: there is an empty queue for each lane passed.
+-- The invariant of the loop of `no_jobs`: the list has as many queues as turns were taken, all empty.
 use Rattle.std.proofs.Common.{◌≡◌, vec_len, map, replicate, []}
 use Rattle.survey_core.proofs.job_order.no_jobs.Given as goal
 

@@ -1,4 +1,4 @@
--- What the loop of `open_lanes` keeps: a lane is open for each queue passed, with its jobs.
+-- The invariant of the loop of `open_lanes`: a lane was opened for each queue taken so far, with the jobs of that queue.
 use Rattle.std.proofs.Common.{◌≡◌, ◌+◌, ◌++◌, length, map, vec_len}
 use Rattle.std.specs.Vec.Iter.{into_iter_items, into_iter_len}
 use Rattle.std.specs.VecDeque.{deque_len}

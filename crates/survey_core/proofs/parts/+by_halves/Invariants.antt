@@ -1,4 +1,4 @@
--- What gets less with each call of `by_halves`: the parts.
+-- The measure of the calls of `by_halves`: each one below is asked for fewer chunks.
 use Rattle.survey_core.proofs.parts.+by_halves.Given as goal
 
 abbrev pub decreases-by_halves : goal.decreases-by_halves

@@ -1,4 +1,4 @@
--- `read_part`: one more entry adds its job if it is a puzzle, and its fault if it has one.
+-- `read_part`: one more entry appends its job, if it is a puzzle, and its fault, or that it has none.
 use Rattle.std.proofs.Common.{◌+◌, arith}
 use Rattle.std.proofs.lemmas.List.{length-take}
 use Rattle.survey_core.specs.Guessing.{guessing}

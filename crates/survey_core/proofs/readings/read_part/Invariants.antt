@@ -1,4 +1,4 @@
--- What the loop of `read_part` keeps: the jobs and the faults of the entries passed.
+-- The invariant of the loop of `read_part`: `read` has the jobs and the faults of the first `place` entries.
 use Rattle.std.proofs.Common.{take}
 use Rattle.survey_core.specs.Guessing.{guessing}
 use Rattle.survey_core.specs.steps.Readings.{IsReadingOf}

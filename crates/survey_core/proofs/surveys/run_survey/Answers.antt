@@ -1,4 +1,4 @@
--- `run_survey`: the survey of the entries is that of the input, which was read to its end.
+-- `run_survey`: the input was read to its end, so the survey of its entries is the survey of the input.
 use Rattle.std.proofs.Common.{◌≡◌, ◌<◌, Ok, map, arith, vec_len}
 use Rattle.std.proofs.KnownBytes.{Consumes-whole}
 use Rattle.puzzle_text.specs.Collections.{cut}

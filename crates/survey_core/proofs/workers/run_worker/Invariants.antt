@@ -1,4 +1,4 @@
--- What the loop of `run_worker` keeps: the end that steps is that of the same lane.
+-- The invariant of the loop of `run_worker`: `back` is the back of the same lane.
 use Rattle.lane_core.specs.Ends.{SameBack}
 use Rattle.survey_core.proofs.workers.run_worker.Given as goal
 

@@ -1,4 +1,4 @@
--- `goal_word`: what `grid_core` says of a goal is what the definition says of it.
+-- `goal_word`: the word that `grid_core` returns for a goal is the one of the definition.
 use Rattle.survey_text.proofs.GoalLemmas.{word_of_goal_is}
 use Rattle.survey_text.proofs.goals.goal_word.Goals as goal
 

@@ -1,4 +1,4 @@
--- `is_line_shown`: the sets differ at no place of the line exactly if the values are the colours of its cells.
+-- `is_line_shown`: the two sets agree on all indices of the line exactly if the values are true exactly at its filled cells.
 use Rattle.std.proofs.Common.{arith}
 use Rattle.std.proofs.lemmas.Bool.{cases_lt, eqb-true, eq-eqb}
 use Rattle.grid_core.proofs.LineCells.{has_by}

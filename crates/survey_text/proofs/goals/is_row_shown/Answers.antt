@@ -1,4 +1,4 @@
--- `is_row_shown`: the values of the row are the colours of its cells.
+-- `is_row_shown`: the slice has one value for each cell of the row, and shows it exactly if the values of the goal do.
 use Rattle.std.proofs.Common.{◌*◌, arith, ap, length, refl, ◌∙◌}
 use Rattle.grid_core.proofs.RowLists.{length-row_of}
 use Rattle.survey_text.proofs.GoalLemmas.{row_count, row_shown}

@@ -1,4 +1,4 @@
--- What the loop of `is_shown` keeps: the values in the rows passed are the colours of these rows.
+-- The invariant of the loop of `is_shown`: in the first `y` rows the values are true exactly at the filled cells.
 use Rattle.std.proofs.Common.{◌<◌, ℕ}
 use Rattle.survey_text.specs.steps.Goals.{IsRowShown}
 use Rattle.survey_text.proofs.goals.is_shown.Given as goal

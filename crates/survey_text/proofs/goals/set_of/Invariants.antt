@@ -1,4 +1,4 @@
--- What the loop of `set_of` keeps: the set has the places of the true values passed, counted from the last one passed.
+-- The invariant of the loop of `set_of`: the set has the indices of the true values from `x` on, counted from `x`.
 use Rattle.std.proofs.Common.{◌≡◌, ◌+◌, ◌<◌, false, get_or, length, true}
 use Rattle.place_sets.specs.Masks.{IsMaskOf}
 use Rattle.survey_text.proofs.goals.set_of.Given as goal

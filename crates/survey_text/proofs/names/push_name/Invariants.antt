@@ -1,4 +1,4 @@
--- What the loop of `push_name` keeps: the bytes passed are added as they are printed.
+-- The invariant of the loop of `push_name`: the printed forms of the first `byte-index` bytes are appended.
 use Rattle.std.proofs.Common.{◌≡◌, ◌++◌, map, take}
 use Rattle.survey_text.specs.Entries.{printed_byte}
 use Rattle.survey_text.proofs.names.push_name.Given as goal

@@ -1,4 +1,4 @@
--- `eight_bytes`: each byte of the word is that of its cell.
+-- `eight_bytes`: each byte of the word is the printed byte of its cell.
 use Rattle.std.proofs.Common.{◌≡◌, ℕ, zero, suc, ◌+◌, ◌-◌, ◌*◌, ◌<◌, List, [], ◌∷◌, lit<, max, map, nat_eq, get_or, bit_or, refl, ◌∙◌, arith}
 use Rattle.std.specs.Int.{bit_at}
 use Rattle.std.proofs.lemmas.Nat.{le_bytes_8}
@@ -10,13 +10,14 @@ use Rattle.place_sets.specs.Masks.{has}
 use Rattle.survey_text.specs.Grids.{cell_byte}
 use Rattle.survey_text.proofs.pictures.eight_bytes.Goals as goal
 
--- a byte is `?` less 17 if the cell is known, and less 11 if it is filled
+-- the byte of a cell is `?`, less 17 if the cell is known, and less 11 more if it is filled
 byte_of : (x y : ℕ) → x < 2 → y < 2 → cell_byte (cell_with (nat_eq x 1) (nat_eq y 1)) + 17 * max x y + 11 * x ≡ 63
 byte_of zero zero p q = refl
 byte_of zero (suc y) p q = let one : y ≡ 0 = omega arith in rw one refl
 byte_of (suc x) zero p q = let one : x ≡ 0 = omega arith in rw one refl
 byte_of (suc x) (suc y) p q = let one : x ≡ 0 = omega arith in let as_well : y ≡ 0 = omega arith in rw (one, as_well) refl
 
+-- a printed cell is a byte
 small : (cells : List Cell) (i : ℕ) → get_or (map cell_byte cells) i 0 < 256
 small [] i = lit< tt
 small (Unknown ∷ cells) zero = lit< tt

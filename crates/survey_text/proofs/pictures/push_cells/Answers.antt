@@ -1,4 +1,4 @@
--- `push_cells`: eight more cells are those of the shifted sets, and what stands behind the line is cut off.
+-- `push_cells`: the next eight cells are the first of the shifted sets, and what extends past the line is cut off.
 use Rattle.std.proofs.Common.{◌≡◌, ℕ, zero, suc, ◌+◌, ◌*◌, ◌≤◌, List, ◌++◌, length, get_or, map, refl, sym, ap, ◌∙◌, arith, append-nil, append_assoc, add-zero}
 use Rattle.std.proofs.Math.Seq.{take-append-add}
 use Rattle.std.proofs.lemmas.Grind.{div_ceil_times}
@@ -12,7 +12,7 @@ use Rattle.place_sets.specs.Masks.{Has, has, IsMaskOf}
 use Rattle.survey_text.specs.Grids.{cell_byte}
 use Rattle.survey_text.proofs.pictures.push_cells.Goals as goal
 
--- the cells of two sets, and behind them those of the sets that go on there
+-- the first `a + n` cells of two sets are their first `a`, followed by the first `n` of the sets shifted down by `a`
 line_cells-more : (a f b g h : ℕ) → ((k : ℕ) → has g k ≡ has f (k + a)) → ((k : ℕ) → has h k ≡ has b (k + a))
     → (n : ℕ) → line_cells (a + n) f b ≡ line_cells a f b ++ line_cells n g h
 line_cells-more a f b g h p q zero = rw (add-zero a) (sym (append-nil (line_cells a f b)))
@@ -27,7 +27,7 @@ line_cells-more a f b g h p q (suc n) =
     let longer_behind = map-range_with_len_more behind 0 n n (omega arith) in
     grind (arith, append_assoc, next, last, same, longer, longer_behind, line_cells-more a f b g h p q n)
 
--- a set shifted once more
+-- shifting down a set by 8 that is already shifted by `i * 8` shifts it by `(i + 1) * 8`
 passed : (f m n i : ℕ) → ((k : ℕ) → has m k ≡ has f (k + i * 8)) → IsMaskOf (λ j. Has m (j + 8)) n
     → (k : ℕ) → has n k ≡ has f (k + (i + 1) * 8)
 passed f m n i p h k =
@@ -48,8 +48,8 @@ loop-part-preserved g c =
     let more = ap (λ (n : ℕ). line_cells n f b) (sym next) ∙ line_cells-more (i * 8) f b filled blank before.filled before.blank 8 in
     let eight =
     c.eight_bytes.ensures
-    ∙ ap (map cell_byte) (cells-resized 64 8 filled blank filled blank c.first_word.result c.first_word-in-loop-part.result (omega arith) refl refl
-    c.first_word.ensures c.first_word-in-loop-part.ensures) in
+    ∙ ap (map cell_byte) (cells-resized 64 8 filled blank filled blank c.first_word.result c.first_word-in-loop-part.result (omega arith)
+    refl refl c.first_word.ensures c.first_word-in-loop-part.ensures) in
     record {
       added =
           rw (c.in_ok-extend_from_slice.ensures.items, before.added, eight, more, map-append)
@@ -73,6 +73,7 @@ returns g c =
     let is_line : line ≡ line_cells (length line) f b =
     fill_by_all cells line (length line) Unknown refl (λ k h.
     sym (rw (c.filled-filled.ensures k h, c.blank-blank.ensures k h) (cell_itself (get_or line k Unknown)))) in
-    c.truncate.ensures.items ∙ rw (ends, c.loop-part.invariant.added) (take-append-add text (map cell_byte (line_cells n f b)) (length line))
+    c.truncate.ensures.items
+    ∙ rw (ends, c.loop-part.invariant.added) (take-append-add text (map cell_byte (line_cells n f b)) (length line))
     ∙ ap (λ (bytes : List ℕ). text ++ bytes) (take-map cell_byte (length line) (line_cells n f b)
     ∙ ap (map cell_byte) (take-map-range_with_len cells 0 n (length line) long ∙ sym is_line))

@@ -1,4 +1,4 @@
--- What the loop of `push_cells` keeps: the bytes of the eights passed are added, and the sets begin behind them.
+-- The invariant of the loop of `push_cells`: the first `8 * _part` cells are appended, and the sets are shifted down by as many.
 use Rattle.std.proofs.Common.{◌≡◌, ℕ, ◌+◌, ◌*◌, ◌++◌, map}
 use Rattle.grid_core.specs.Lines.{line_cells}
 use Rattle.place_sets.specs.Masks.{has}

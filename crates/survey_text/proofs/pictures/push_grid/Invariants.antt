@@ -1,4 +1,4 @@
--- What the loop of `push_grid` keeps: the rows passed are added.
+-- The invariant of the loop of `push_grid`: the first `y` rows are appended.
 use Rattle.std.proofs.Common.{◌≡◌, ◌++◌}
 use Rattle.survey_text.specs.Grids.{rows_text}
 use Rattle.survey_text.proofs.pictures.push_grid.Given as goal

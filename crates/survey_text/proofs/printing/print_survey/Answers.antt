@@ -1,4 +1,4 @@
--- `print_survey`: the outcomes that were listed are all.
+-- `print_survey`: the entries listed are all outcomes.
 use Rattle.survey_text.proofs.ListingLemmas.{listed_in_hand}
 use Rattle.survey_text.proofs.printing.print_survey.Goals as goal
 

@@ -1,4 +1,4 @@
--- What the loop of `Grid::first_unknown` keeps: no cell of the rows passed is unknown.
+-- The loop invariant of `Grid::first_unknown`: no cell above row `y` is unknown.
 use Rattle.grid_core.proofs.Names.{◌≡◌, ◌*◌, ◌<◌, ℕ, false, get_or, Unknown, is_unknown}
 use Rattle.grid_core.proofs.grids.Grid.first_unknown.Given as goal
 

@@ -1,4 +1,4 @@
--- `Grid::known`: with all cells passed the known ones of the grid are counted.
+-- `Grid::known`: when the loop ends, the count covers all cells.
 use Rattle.grid_core.proofs.Names.{arith, common_steps, take_all}
 use Rattle.grid_core.proofs.grids.Grid.known.Goals as goal
 

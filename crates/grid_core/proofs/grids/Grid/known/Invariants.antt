@@ -1,4 +1,4 @@
--- What the loop of `Grid::known` keeps: the known ones of the cells passed are counted.
+-- The loop invariant of `Grid::known`: the known cells before index `place` are counted.
 use Rattle.grid_core.proofs.Names.{◌≡◌, take, count_by, is_known}
 use Rattle.grid_core.proofs.grids.Grid.known.Given as goal
 

@@ -1,4 +1,4 @@
--- `Grid::row`: a written row has the cells of the grid's row, and of one below nothing is known.
+-- `Grid::row`: a stored row has the cells of the grid's row, and rows below the stored ones are unknown.
 use Rattle.grid_core.proofs.Names.{ap, arith, PartialGrid}
 use Rattle.grid_core.proofs.KeptRows.{row_unknown, row_written}
 use Rattle.grid_core.proofs.grids.Grid.row.Goals as goal

@@ -1,4 +1,4 @@
--- `Grid::set`: the row with another cell is written, which is one other cell of the grid.
+-- `Grid::set`: replacing a cell of a row replaces that cell of the grid.
 use Rattle.std.proofs.Common.{arith}
 use Rattle.grid_core.proofs.LineLaws.{row-within}
 use Rattle.grid_core.proofs.RowLists.{row-set}

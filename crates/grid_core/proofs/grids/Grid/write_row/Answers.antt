@@ -1,4 +1,4 @@
--- `Grid::write_row`: with a row kept in place of another, the grid has the line's cells there.
+-- `Grid::write_row`: replacing one stored row by a line's cells replaces that row of the grid.
 use Rattle.grid_core.proofs.Names.{ap, arith, PartialGrid}
 use Rattle.grid_core.proofs.KeptRows.{one_written, rows_written}
 use Rattle.grid_core.proofs.grids.Grid.write_row.Goals as goal

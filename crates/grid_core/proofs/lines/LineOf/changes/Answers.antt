@@ -1,4 +1,4 @@
--- `LineOf::changes`: the places at which either mask differs.
+-- `LineOf::changes`: two lines differ at an index exactly if one of their masks differs there.
 use Rattle.grid_core.proofs.Changing.{changed_is}
 use Rattle.grid_core.proofs.lines.LineOf.changes.Goals as goal
 

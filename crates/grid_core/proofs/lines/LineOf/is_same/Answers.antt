@@ -1,4 +1,4 @@
--- `LineOf::is_same`: lines of two lengths are not the same.
+-- `LineOf::is_same`: lines of different lengths are not the same.
 use Rattle.grid_core.proofs.Names.{arith, ap, length, nat_tests}
 use Rattle.grid_core.proofs.LineCells.{length_seen}
 use Rattle.grid_core.proofs.lines.LineOf.is_same.Goals as goal

@@ -1,4 +1,4 @@
--- `LineOf::part`: the masks shifted down, without what lies behind the part.
+-- `LineOf::part`: the masks are shifted down, and indices from `len` on are removed.
 use Rattle.grid_core.proofs.Names.{◌≡◌, ◌∙◌, ℕ, ◌+◌, ◌<◌, ◌≤◌, List, length, take, drop, arith, nat_tests, get_or-drop, get_or-take, length-drop, length-take-le, Cell, Unknown, Has, IsMaskOf, line_cells}
 use Rattle.grid_core.proofs.LineCells.{line_is, seen_at}
 use Rattle.grid_core.proofs.lines.LineOf.part.Goals as goal
@@ -10,7 +10,21 @@ cells-part : (len f b n count places sf sb nf nb : ℕ) (l : List Cell) → line
 cells-part len f b n count places sf sb nf nb l e within pp qf qb pf pb =
     line_is count nf nb (take count (drop n l)) (omega (arith, length-take-le count (drop n l), length-drop n l)) (λ i h.
     let at = get_or-take count (drop n l) i Unknown h ∙ get_or-drop n l i Unknown in
-    grind (arith, nat_tests, at, seen_at len f b (n + i) l e, pp.from i, qf.to i, qf.from i, qb.to i, qb.from i, pf.to i, pf.from i, pb.to i, pb.from i))
+    grind (
+      arith,
+      nat_tests,
+      at,
+      seen_at len f b (n + i) l e,
+      pp.from i,
+      qf.to i,
+      qf.from i,
+      qb.to i,
+      qb.from i,
+      pf.to i,
+      pf.from i,
+      pb.to i,
+      pb.from i,
+    ))
 
 pub returns : goal.returns
 returns g c =

@@ -1,4 +1,4 @@
--- `LineOf::read`: the narrowed sets have the same places as those of the other line.
+-- `LineOf::read`: the narrowed sets have the same indices below the length as those of the other line.
 use Rattle.std.proofs.Common.{◌≡◌, ◌∙◌, refl, arith}
 use Rattle.grid_core.proofs.LineCells.{cells-resized, length_seen}
 use Rattle.grid_core.proofs.lines.LineOf.read.Goals as goal

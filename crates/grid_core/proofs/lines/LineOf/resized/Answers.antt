@@ -1,4 +1,4 @@
--- `LineOf::resized`: the masks of another width have the same places.
+-- `LineOf::resized`: the masks of another width have the same indices below the length.
 use Rattle.std.proofs.Common.{◌∙◌, arith}
 use Rattle.grid_core.proofs.LineCells.{length_seen, cells-resized}
 use Rattle.grid_core.proofs.lines.LineOf.resized.Goals as goal

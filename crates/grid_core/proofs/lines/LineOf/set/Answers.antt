@@ -1,4 +1,4 @@
--- `LineOf::set`: the cell is written into both masks, which stay apart.
+-- `LineOf::set`: the cell is written to both masks.
 use Rattle.grid_core.proofs.Names.{arith, nat_tests}
 use Rattle.grid_core.proofs.LineCells.{cell_itself, cells-set}
 use Rattle.grid_core.proofs.lines.LineOf.set.Goals as goal

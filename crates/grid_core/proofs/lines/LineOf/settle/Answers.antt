@@ -1,4 +1,4 @@
--- `LineOf::settle`: the place goes into one mask; the other lacks it, since the cell was unknown.
+-- `LineOf::settle`: the index is added to one mask; the other doesn't have it, since the cell was unknown.
 use Rattle.grid_core.proofs.Names.{arith, nat_tests}
 use Rattle.grid_core.proofs.LineCells.{cells-set, seen_at}
 use Rattle.grid_core.proofs.lines.LineOf.settle.Goals as goal

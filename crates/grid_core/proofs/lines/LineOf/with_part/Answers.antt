@@ -1,4 +1,4 @@
--- `LineOf::with_part`: the part adds to the masks, and takes nothing from them.
+-- `LineOf::with_part`: `part` knows at least what it replaces, so that the union of the masks is enough.
 use Rattle.std.proofs.Common.{rules}
 use Rattle.std.specs.Prelude.{◌&&◌, ◌||◌, Bool, true, nat_le, nat_lt}
 use Rattle.grid_core.proofs.Names.{◌≡◌, ℕ, ◌+◌, ◌-◌, ◌<◌, ◌≤◌, ◌⊎◌, List, ◌++◌, cond, get_or, length, take, drop, arith, nat_tests, common_steps, Cell, Unknown, Has, has, IsMaskOf, cell_with, line_cells}
@@ -9,7 +9,7 @@ use Rattle.grid_core.specs.Lines.{IsLine}
 use Rattle.grid_core.proofs.LineCells.{length_seen, line_is, seen_at}
 use Rattle.grid_core.proofs.lines.LineOf.with_part.Goals as goal
 
--- the cells of a line with those of a part
+-- the cells of `l` with those from index `n` on replaced by those of `p`
 abbrev joined_cells : ℕ → List Cell → List Cell → List Cell
 joined_cells n p l = take n l ++ (p ++ drop (n + length p) l)
 
@@ -20,19 +20,19 @@ at_part : (n i : ℕ) (p l : List Cell) → n + length p ≤ length l
     → get_or (joined_cells n p l) i Unknown ≡ cond (is_in n p i) (get_or p (i - n) Unknown) (get_or l i Unknown)
 at_part n i p l within = grind (arith, common_steps)
 
--- each cell that the line knows is one that the part knows
+-- each cell that is replaced is extended by the one that replaces it
 known_there : (n i : ℕ) (p l : List Cell) → n + length p ≤ length l → Extends (take (length p) (drop n l)) p → n ≤ i → i < n + length p
     → CellExtends (get_or l i Unknown) (get_or p (i - n) Unknown)
 known_there n i p l within more low high =
     let there = AllZip-get_or CellExtends (take (length p) (drop n l)) p (i - n) Unknown Unknown more in grind (arith, common_steps, there)
 
--- a mask with the places of another one from a place on
+-- which indices are in the union of mask `f` and mask `q` shifted up by `n`
 with_at : (width n f q s m i : ℕ) (p : List Cell) → IsMaskOf (IsShifted width (Has q) n) s → IsMaskOf (λ i. Has f i ⊎ Has s i) m
     → ((k : ℕ) → Has q k → k < length p) → i < width → has m i ≡ (has f i || (is_in n p i && has q (i - n)))
 with_at width n f q s m i p shifted both inside h =
     grind (arith, nat_tests, shifted.to i, shifted.from i, both.to i, both.from i, inside (i - n))
 
--- what is known of a cell with more, by tests
+-- if a cell is extended by another one, the unions of their tests are the tests of the latter, and aren't both true
 cell_more : (t f b pf pb : Bool) → (f ≡ true → b ≡ true → ⊥) → (pf ≡ true → pb ≡ true → ⊥)
     → (t ≡ true → CellExtends (cell_with f b) (cell_with pf pb))
     → (cond t (cell_with pf pb) (cell_with f b) ≡ cell_with (f || (t && pf)) (b || (t && pb)))

@@ -1,4 +1,4 @@
--- `LineOf::without`: the masks without the places tell no cell there, and the other cells as before.
+-- `LineOf::without`: cells whose indices are removed from both masks become unknown, and the others stay as they are.
 use Rattle.grid_core.proofs.Names.{◌≡◌, ℕ, false, List, arith, nat_tests, length-map-range_with_len, get_or-map-range_with_len, Cell, Has, has, IsMaskOf, line_cells}
 use Rattle.grid_core.proofs.LineCells.{length_seen, line_is, seen_at}
 use Rattle.grid_core.specs.Lines.{unlearned}
@@ -8,7 +8,17 @@ cells-unlearned : (len f b m nf nb : ℕ) (l : List Cell) → line_cells len f b
     → IsMaskOf (λ i. Has b i × (has m i ≡ false)) nb → line_cells len nf nb ≡ unlearned m l
 cells-unlearned len f b m nf nb l e pf pb =
     line_is len nf nb (unlearned m l) (grind (arith, length-map-range_with_len, length_seen len f b l e)) (λ i h.
-    grind (arith, nat_tests, get_or-map-range_with_len, length_seen len f b l e, seen_at len f b i l e, pf.to i, pf.from i, pb.to i, pb.from i))
+    grind (
+      arith,
+      nat_tests,
+      get_or-map-range_with_len,
+      length_seen len f b l e,
+      seen_at len f b i l e,
+      pf.to i,
+      pf.from i,
+      pb.to i,
+      pb.from i,
+    ))
 
 pub returns-clause-cells : goal.returns-clause-cells
 returns-clause-cells g c = cells-unlearned _ _ _ _ _ _ _ c.self.view_is c.difference.ensures c.difference-2.ensures

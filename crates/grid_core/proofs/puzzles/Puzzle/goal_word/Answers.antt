@@ -1,4 +1,4 @@
--- `Puzzle::goal_word`: a goal that misses a clue doesn't meet them.
+-- `Puzzle::goal_word`: the result `Misses` is right for a goal that does not meet all clues.
 use Rattle.std.proofs.Common.{rules}
 use Rattle.grid_core.proofs.puzzles.Puzzle.goal_word.Goals as goal
 

@@ -1,4 +1,4 @@
--- `Puzzle::new`: a side that is out of range is told first.
+-- `Puzzle::new`: a size that is out of range is reported before any other fault.
 use Rattle.grid_core.proofs.Names.{arith, common_steps}
 use Rattle.grid_core.proofs.puzzles.Puzzle.new.Goals as goal
 

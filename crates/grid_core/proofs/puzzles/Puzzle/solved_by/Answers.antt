@@ -1,4 +1,4 @@
--- `Puzzle::solved_by`: a grid of the puzzle's size is full if no cell is unknown, and then the clues decide.
+-- `Puzzle::solved_by`: a grid is full exactly if no cell is unknown; a full grid of the puzzle's size solves it if it meets the clues.
 use Rattle.std.proofs.Common.{arith}
 use Rattle.grid_core.proofs.FirstUnknown.{unknown_or_all}
 use Rattle.grid_core.proofs.puzzles.Puzzle.solved_by.Goals as goal

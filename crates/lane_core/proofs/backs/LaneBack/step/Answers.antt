@@ -1,5 +1,4 @@
--- `LaneBack::step`: what was put and is held still answers what was taken,
--- and the lists change as a step may.
+-- `LaneBack::step`: the answers put and held stay those to the jobs taken, and the lists change as `Steps` allows.
 use Rattle.lane_core.proofs.Names.{refl, inr, ∥∥₁_map, received, back_lists}
 use Rattle.lane_core.proofs.LaneLemmas.{StepsBeforeFinish-offer_held, StepsBeforeFinish-offer_taken, offered_is_answered}
 use Rattle.lane_core.proofs.backs.LaneBack.step.Goals as goal

@@ -1,4 +1,4 @@
--- `BatchLane::work`: each step that puts an answer leaves less work, and the one that puts none is the last.
+-- `BatchLane::work`: each turn of the loop adds a step that puts an answer, and the last call ends the work.
 use Rattle.lane_core.proofs.Names.{refl, rules, Graded, back_capacity, SameFront-trans, SameBack-trans}
 use Rattle.lane_core.proofs.WorkLemmas.{Works-more, Works-one}
 use Rattle.lane_core.proofs.batches.BatchLane.work.Goals as goal

@@ -1,5 +1,4 @@
--- What the loop of `BatchLane::work` keeps: the lane and its front are the same;
--- what gets less is the work left.
+-- The loop of `BatchLane::work`: its invariant is that the lane and its front stay, and its measure is the work left.
 use Rattle.lane_core.proofs.Names.{◌≡◌, Works, work_left}
 use Rattle.lane_core.specs.Batch.{batch_front, batch_back, batch_capacity, SameEnds}
 use Rattle.lane_core.proofs.batches.BatchLane.work.Given as goal

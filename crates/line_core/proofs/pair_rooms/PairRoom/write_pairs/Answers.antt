@@ -1,4 +1,4 @@
--- `PairRoom::write_pairs`: the pairs tell of the line.
+-- `PairRoom::write_pairs`: the lookaheads determine what is deduced of the line with one more known cell.
 use Rattle.line_core.proofs.Names.{recursion_from_All}
 use Rattle.line_core.proofs.Pairing.{pairs_tell}
 use Rattle.line_core.proofs.pair_rooms.PairRoom.write_pairs.Goals as goal

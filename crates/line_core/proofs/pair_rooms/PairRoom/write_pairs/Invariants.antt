@@ -1,4 +1,4 @@
--- The line that `PairRoom::write_pairs` is about, as it is told to `write_pairs`.
+-- The ghost argument of the call of `write_pairs` in `PairRoom::write_pairs`: the line.
 use Rattle.line_core.proofs.pair_rooms.PairRoom.write_pairs.Given as goal
 
 abbrev pub ghost-write_pairs : goal.ghost-write_pairs

@@ -1,4 +1,4 @@
--- `PairTable::colours_of`: the line is the table's with one more cell, of which the table tells.
+-- `PairTable::colours_of`: the line is the table's with one more known cell, for which the table holds the support.
 use Rattle.line_core.proofs.Names.{refl, sym, arith, ◌∙◌, ◌≡◌, length, get_or, Unknown}
 use Rattle.grid_core.specs.Cells.{colour}
 use Rattle.line_core.proofs.Pairing.{is_one_more, not_known, only_changed, told_as}
@@ -9,7 +9,8 @@ pub returns-in_err-place-clause-asked : goal.returns-in_err-place-clause-asked
 returns-in_err-place-clause-asked g c = (
   λ some. absurd (some c.from_residual-in_err-place.ensures),
   λ one none. c.only_place.ensures.found one.x
-      (only_changed c.args.self.now _ _ c.args.line.now _ c.self.view_is (sym c.in_ok-base.ensures.value) one c.changes.ensures.changes) c.in_err-place.was,
+      (only_changed c.args.self.now _ _ c.args.line.now _ c.self.view_is (sym c.in_ok-base.ensures.value) one c.changes.ensures.changes)
+      c.in_err-place.was,
 )
 
 pub get-requires : goal.get-requires
@@ -19,7 +20,8 @@ pub returns : goal.returns
 returns g c =
     let base = sym c.in_ok-base.ensures.value in
     let only = c.in_ok-place.ensures.place.1 in
-    let long : length c.args.line.now ≡ length c.in_ok-base.base.now = omega (arith, c.len.ensures.len, c.len-2.ensures.len, c.if-len.false) in
+    let long : length c.args.line.now ≡ length c.in_ok-base.base.now =
+    omega (arith, c.len.ensures.len, c.len-2.ensures.len, c.if-len.false) in
     let unknown = sym c.get.ensures ∙ not_known _ c.if-is_known.ensures in
     let known : get_or c.args.line.now c.in_ok-place.place Unknown ≡ colour c.match-get.filled = elim c.match-get.branch [
       | in-Filled w ↦ rw w.filled-is (sym w.in-Filled.ensures)
@@ -31,8 +33,8 @@ returns g c =
           c.index.result.now _ table c.self.view_is base (rw c.from.ensures at (sym c.index.ensures))
           (omega (arith, within, c.self.invariant.written _ base)) c.colours_if.ensures long c.changes.ensures.changes only unknown known;
       asked = (
-        λ some. is_one_more c.args.self.now _ c.in_ok-base.base.now c.args.line.now c.in_ok-place.place _ c.match-get.filled c.self.view_is base long
-            c.changes.ensures.changes only unknown known,
+        λ some. is_one_more c.args.self.now _ c.in_ok-base.base.now c.args.line.now c.in_ok-place.place _
+            c.match-get.filled c.self.view_is base long c.changes.ensures.changes only unknown known,
         λ one none. cc,
       );
     }

@@ -1,4 +1,4 @@
--- `PairTable::write_new`: the table has the line, its pairs, and what these tell to be neutral.
+-- `PairTable::write_new`: the table holds the line, its lookaheads, and the inert cells that follow from them.
 use Rattle.line_core.proofs.Names.{◌∙◌}
 use Rattle.std.proofs.lemmas.List.{with_items_is}
 use Rattle.line_core.proofs.Pairing.{table_made}

@@ -1,4 +1,4 @@
--- `Colours::leave_open`: no cell lacks a colour.
+-- `Colours::leave_open`: each of the cells is in both masks.
 use Rattle.line_core.proofs.Names.{has, inl, inr, subst, sym, ◌∙◌, cases_Bool, eqb-true, none_has, true_has}
 use Rattle.line_core.proofs.Telling.{either_first}
 use Rattle.line_core.specs.Pairs.{ColourMasks}

@@ -1,10 +1,11 @@
--- `Pass::step`: the ends of the run, from the gap before it, and the gap after it, from its ends.
+-- `Pass::step`: the ends of the run follow from the gap before it, and the gap after it from its ends.
 use Rattle.line_core.proofs.Names.{arith, bit_at-zero}
 use Rattle.line_core.proofs.Composing.{ends_are, gap_next_is}
 use Rattle.line_core.proofs.passes.Pass.step.Goals as goal
 
 pub returns-clause-ends : goal.returns-clause-ends
-returns-clause-ends g c = λ line runs h. ends_are line runs _ c.args.number _ h.room _ _ _ h.short c.requires.0 h.gap_is h.opening_is h.room_is
+returns-clause-ends g c =
+    λ line runs h. ends_are line runs _ c.args.number _ h.room _ _ _ h.short c.requires.0 h.gap_is h.opening_is h.room_is
     (c.window_starts-window.ensures h.room h.windows_are) c.run_ends-ends.ensures
 
 pub returns-clause-passed : goal.returns-clause-passed

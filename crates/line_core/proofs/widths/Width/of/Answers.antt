@@ -1,4 +1,4 @@
--- `Width::of`: the widest sets have room for each line.
+-- `Width::of`: the widest sets hold each line.
 use Rattle.line_core.proofs.Names.{arith}
 use Rattle.line_core.proofs.widths.Width.of.Goals as goal
 

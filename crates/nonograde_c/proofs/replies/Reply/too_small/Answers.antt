@@ -1,4 +1,4 @@
--- `Reply::too_small`: the number of the status, and how many bytes there are.
+-- `Reply::too_small`: the reply has the status's number and the length.
 use Rattle.std.proofs.Common.{rules}
 use Rattle.nonograde_c.proofs.replies.Reply.too_small.Goals as goal
 

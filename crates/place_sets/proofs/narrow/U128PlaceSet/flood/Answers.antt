@@ -1,4 +1,4 @@
--- `u128::flood`: the carries of a sum go as far as the flood.
+-- `u128::flood`: the carries of the sum are the flood.
 use Rattle.place_sets.proofs.Flooding.{flooded}
 use Rattle.place_sets.proofs.narrow.U128PlaceSet.flood.Goals as goal
 

@@ -1,4 +1,4 @@
--- `u128::reversed`: both halves reversed, and exchanged.
+-- `u128::reversed`: both halves are mirrored and exchanged.
 use Rattle.std.proofs.Common.{◌≡◌, ◌+◌, ◌-◌, ◌*◌, ◌/◌, ◌%◌, ◌^◌, arith, refl}
 use Rattle.std.specs.Int.RustNames.{bit_or, bit_and}
 use Rattle.std.proofs.lemmas.Nat.{and_mask}

@@ -1,4 +1,4 @@
--- `u128::reversed_kept`: two whole words are reversed and exchanged; else the set is reversed, and shifted down.
+-- `u128::reversed_kept`: two full words are mirrored and exchanged; a shorter set is mirrored and shifted down.
 use Rattle.std.proofs.Common.{◌≡◌, arith, rules}
 use Rattle.place_sets.proofs.Reversing.{within_first, words_reversed}
 use Rattle.place_sets.proofs.narrow.U128PlaceSet.reversed_kept.Goals as goal

@@ -1,4 +1,4 @@
--- `u64::flood`: the carries of a sum go as far as the flood.
+-- `u64::flood`: the carries of the sum are the flood.
 use Rattle.place_sets.proofs.Flooding.{flooded}
 use Rattle.place_sets.proofs.narrow.U64PlaceSet.flood.Goals as goal
 

@@ -1,4 +1,4 @@
--- `u64::reversed`: six swaps of ever greater groups reverse a word, and each mask pairs the places that it should.
+-- `u64::reversed`: six swaps of ever larger groups mirror a word, and each constant has the lower groups of its pairs.
 use Rattle.std.proofs.Common.{◌≡◌, ℕ, ◌-◌, ◌<◌, nat_eq, eqb-true, refl, sym, subst}
 use Rattle.place_sets.specs.Masks.{Has}
 use Rattle.place_sets.specs.steps.Masks.{swapped_place}
@@ -6,7 +6,7 @@ use Rattle.place_sets.proofs.Reversing.{below_all, step}
 use Rattle.place_sets.proofs.Steps.{mask_same}
 use Rattle.place_sets.proofs.narrow.U64PlaceSet.reversed.Goals as goal
 
--- from which place the six steps take a place, the last step first
+-- the index whose bit the six swaps move to an index, the last swap first
 abbrev turned : ℕ → ℕ
 turned i =
     swapped_place 0x5555555555555555 1 (swapped_place 0x3333333333333333 2 (swapped_place 0x0f0f0f0f0f0f0f0f 4

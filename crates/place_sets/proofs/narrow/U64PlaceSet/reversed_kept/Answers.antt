@@ -1,4 +1,4 @@
--- `u64::reversed_kept`: the word reversed, and shifted down.
+-- `u64::reversed_kept`: the word is mirrored and shifted down.
 use Rattle.std.proofs.Common.{arith}
 use Rattle.place_sets.proofs.Reversing.{within_first}
 use Rattle.place_sets.proofs.narrow.U64PlaceSet.reversed_kept.Goals as goal

@@ -1,4 +1,4 @@
--- `Wide::flood`: if the flood of the low half reaches its end, the high half's first place is a source too.
+-- `Wide::flood`: if the flood of the low half reaches its end, the first index of the high half is a source too.
 use Rattle.std.proofs.Common.{◌+◌, arith, rules}
 use Rattle.place_sets.specs.Masks.{Has, joined}
 use Rattle.place_sets.proofs.Halves.{halves, high_at, high_has, flood_low, flood_high, over_is}

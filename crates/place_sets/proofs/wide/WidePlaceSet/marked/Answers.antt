@@ -1,4 +1,4 @@
--- `Wide::marked` gives what its contract says.
+-- `Wide::marked` at an index below 128: only the low half changes.
 use Rattle.std.proofs.Common.{arith}
 use Rattle.place_sets.proofs.Halves.{wholes}
 use Rattle.place_sets.proofs.wide.WidePlaceSet.marked.Goals as goal

@@ -1,4 +1,4 @@
--- `Wide::reversed`: both halves reversed, and exchanged.
+-- `Wide::reversed`: both halves are mirrored and exchanged.
 use Rattle.std.proofs.Common.{rules}
 use Rattle.place_sets.proofs.Reversing.{words_reversed}
 use Rattle.place_sets.proofs.wide.WidePlaceSet.reversed.Goals as goal

@@ -1,4 +1,4 @@
--- `Wide::reversed_kept`: the set reversed, and shifted down.
+-- `Wide::reversed_kept`: the set is mirrored and shifted down.
 use Rattle.std.proofs.Common.{arith}
 use Rattle.place_sets.proofs.Reversing.{within_first}
 use Rattle.place_sets.proofs.wide.WidePlaceSet.reversed_kept.Goals as goal

@@ -1,4 +1,4 @@
--- `Wide::shifted_down`: by less than a half, so that places of the high half go over.
+-- `Wide::shifted_down` by less than 128: the low half also gets indices of the high half.
 use Rattle.std.proofs.Common.{◌+◌, arith, rules}
 use Rattle.place_sets.proofs.Uses.{join_of}
 use Rattle.place_sets.proofs.Halves.{halves, high_at, down_low}

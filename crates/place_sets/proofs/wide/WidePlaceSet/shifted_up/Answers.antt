@@ -1,4 +1,4 @@
--- `Wide::shifted_up`: by less than a half, so that places of the low half go over; by a half or more.
+-- `Wide::shifted_up`: by less than 128, so that the high half also gets indices of the low half, and by 128 or more.
 use Rattle.std.proofs.Common.{arith, rules}
 use Rattle.place_sets.proofs.Uses.{join_of}
 use Rattle.place_sets.proofs.WordSteps.{none_is}

@@ -1,4 +1,4 @@
--- `Wide::symmetric_difference` gives what its contract says.
+-- `Wide::symmetric_difference`: the symmetric difference of two sets is that of each half.
 use Rattle.std.proofs.Common.{arith}
 use Rattle.place_sets.proofs.Halves.{wholes, halves}
 use Rattle.place_sets.proofs.wide.WidePlaceSet.symmetric_difference.Goals as goal

@@ -1,4 +1,4 @@
--- `add`: the clues are those of the section that the keyword opens.
+-- `add`: the clues read are those of the section that the keyword begins.
 use Rattle.puzzle_text.proofs.usual_parts.Parts.add.Goals as goal
 
 pub returns-in-Rows-clause-clues : goal.returns-in-Rows-clause-clues

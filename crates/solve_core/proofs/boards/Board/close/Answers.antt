@@ -1,4 +1,4 @@
--- `Board::close`: the closed board has the puzzle's size, as before, and an empty trail.
+-- `Board::close`: the closed board keeps the puzzle's size and has an empty trail.
 use Rattle.solve_core.proofs.Names.{◌∙◌, ap, length, sym, TrailedGrid}
 use Rattle.solve_core.proofs.BoardSteps.{board-fresh}
 use Rattle.solve_core.proofs.boards.Board.close.Goals as goal

@@ -1,4 +1,4 @@
--- `Board::go_back`: with one more cell undone, the cells and the trail as they were at `mark` are the same.
+-- `Board::go_back`: undoing one more entry doesn't change the cells and the trail at `mark`.
 use Rattle.solve_core.proofs.Names.{take-take, rules}
 use Rattle.solve_core.proofs.BranchLaws.{before_back}
 use Rattle.solve_core.proofs.boards.Board.go_back.Goals as goal

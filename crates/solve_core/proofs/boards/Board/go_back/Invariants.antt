@@ -1,4 +1,4 @@
--- What the loop of `Board::go_back` keeps: the cells and the trail as they were at `mark`; the trail shrinks.
+-- Invariant of the loop of `Board::go_back`: the cells and the trail at `mark` are unchanged. The trail gets shorter.
 use Rattle.solve_core.proofs.Names.{◌≡◌, length, take, cells_before}
 use Rattle.solve_core.proofs.boards.Board.go_back.Given as goal
 

@@ -1,4 +1,4 @@
--- `Board::read`: with the grid's cells and nothing on the trail, the board is a lawful one.
+-- `Board::read`: the board with the grid's cells and an empty trail satisfies the invariant.
 use Rattle.solve_core.proofs.Names.{◌≡◌, ◌∙◌, ◌*◌, length, ap, sym, PartialGrid, TrailedGrid}
 use Rattle.solve_core.proofs.BoardSteps.{board-fresh}
 use Rattle.solve_core.proofs.boards.Board.read.Goals as goal

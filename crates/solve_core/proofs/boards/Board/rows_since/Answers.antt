@@ -1,4 +1,4 @@
--- `Board::rows_since`: the steps behind `mark` are steps of the board's grid.
+-- `Board::rows_since`: the entries from `mark` on are entries of the board's grid.
 use Rattle.solve_core.proofs.Names.{inl, inr, IsStepOf}
 use Rattle.std.proofs.lemmas.List.{take_rest}
 use Rattle.solve_core.proofs.TrailSteps.{all_at, all_drop}

@@ -1,4 +1,5 @@
--- What the loop of `Board::rows_since` keeps: the rows of steps of a grid are rows of the grid.
+-- Invariant of the loop of `Board::rows_since`: if the entries are of a grid, the rows collected so far are rows of
+-- that grid.
 use Rattle.solve_core.proofs.Names.{ℕ, ◌<◌, AllByRecursion, Has, IsStepOf}
 use Rattle.solve_core.proofs.boards.Board.rows_since.Given as goal
 

@@ -1,4 +1,4 @@
--- `Board::undo`: without its last step the board is a lawful one.
+-- `Board::undo`: the board without its last entry satisfies the invariant.
 use Rattle.solve_core.proofs.Names.{◌∙◌, ◌++◌, ◌∷◌, [], ap, sym, LineStep}
 use Rattle.solve_core.proofs.BoardSteps.{board-undone}
 use Rattle.solve_core.proofs.boards.Board.undo.Goals as goal
@@ -6,4 +6,5 @@ use Rattle.solve_core.proofs.boards.Board.undo.Goals as goal
 pub invariant_of-self-2 : goal.invariant_of-self-2
 invariant_of-self-2 g c =
     board-undone _ c.unlearn.new.self c.self.inside.lines c.self.inside.trail.items c.pop.new.self.items _ _ _ c.self.invariant
-    (c.in-Some.ensures.items ∙ ap (λ (s : LineStep). c.pop.new.self.items ++ s ∷ []) (sym c.step.view_is)) c.unlearn.ensures c.pop.ensures.capacity
+    (c.in-Some.ensures.items ∙ ap (λ (s : LineStep). c.pop.new.self.items ++ s ∷ []) (sym c.step.view_is)) c.unlearn.ensures
+    c.pop.ensures.capacity

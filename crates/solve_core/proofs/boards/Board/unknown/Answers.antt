@@ -1,4 +1,5 @@
--- `Board::unknown`: with all cells unknown and room on the trail for each, the board is a lawful one.
+-- `Board::unknown`: with all cells unknown and a trail capacity of an entry for each cell, the board satisfies the
+-- invariant.
 use Rattle.solve_core.proofs.Names.{arith, ap, BoardSpace}
 use Rattle.solve_core.proofs.BoardSteps.{board-unknown}
 use Rattle.solve_core.proofs.boards.Board.unknown.Goals as goal

@@ -1,4 +1,4 @@
--- `Closer::deduce_line`: deducing a line is a step towards the closure, and the line needs no mark then.
+-- `Closer::deduce_line`: deducing a line is a step towards the closure, and the line isn't dirty afterwards.
 use Rattle.solve_core.proofs.Names.{rules}
 use Rattle.solve_core.proofs.SideLines.{line_is_one}
 use Rattle.solve_core.proofs.GridSteps.{learned-progress, marks-after}

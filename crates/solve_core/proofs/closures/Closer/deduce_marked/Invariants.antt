@@ -1,4 +1,5 @@
--- What the loop of `Closer::deduce_marked` keeps: the cells' closure; each turn that goes on settles some.
+-- Invariant of the loop of `Closer::deduce_marked`: the closure of the cells is unchanged. Each turn that doesn't
+-- return assigns a cell.
 use Rattle.solve_core.proofs.Names.{◌≡◌, true, lines_of, closure, HasWork, IsTrailed, unknown_count, IsBoardOf}
 use Rattle.solve_core.proofs.closures.Closer.deduce_marked.Given as goal
 

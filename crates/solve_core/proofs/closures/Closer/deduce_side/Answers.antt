@@ -1,4 +1,4 @@
--- `Closer::deduce_side`: deducing a line takes its mark, and gives no other line of the side one.
+-- `Closer::deduce_side`: deducing a line removes it from the worklist, and adds no line of the same axis.
 use Rattle.solve_core.proofs.Names.{true≢false, arith, cases_eq}
 use Rattle.line_core.proofs.GapRows.{mask_less}
 use Rattle.solve_core.proofs.TrailSteps.{trailed_trans}

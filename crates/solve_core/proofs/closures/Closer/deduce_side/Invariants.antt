@@ -1,4 +1,5 @@
--- What the loop of `Closer::deduce_side` keeps: what `progress` says; of the lines only those left are marked.
+-- Invariant of the loop of `Closer::deduce_side`: `progress` is the effect so far, and of `lines` only those in `left`
+-- are dirty.
 use Rattle.solve_core.proofs.Names.{◌≡◌, ◌≢◌, ◌<◌, ℕ, true, Has, count_on, crossing, lines_of, Dead, Same, closure, marks_on, IsMarkedOn, HasWork, Progresses, IsTrailed, IsBoardOf}
 use Rattle.solve_core.proofs.closures.Closer.deduce_side.Given as goal
 

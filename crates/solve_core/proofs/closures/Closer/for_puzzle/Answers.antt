@@ -1,4 +1,4 @@
--- `Closer::for_puzzle`: what is made closes the puzzle's grids.
+-- `Closer::for_puzzle`: the cache that is created is correct for the puzzle.
 use Rattle.solve_core.proofs.closures.Closer.for_puzzle.Goals as goal
 
 pub returns : goal.returns

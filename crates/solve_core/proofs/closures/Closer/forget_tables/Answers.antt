@@ -1,4 +1,4 @@
--- `Closer::forget_tables`: what is remembered stays right.
+-- `Closer::forget_tables`: the cache stays correct.
 use Rattle.solve_core.proofs.closures.Closer.forget_tables.Goals as goal
 
 pub returns-clause-memory : goal.returns-clause-memory

@@ -1,4 +1,4 @@
--- `Closer::guess`: the board leads back over all steps.
+-- `Closer::guess`: the trail entries of assigning and of both propagations form one extension of the trail.
 use Rattle.solve_core.proofs.Names.{refl}
 use Rattle.solve_core.proofs.TrailSteps.{trailed_trans}
 use Rattle.solve_core.proofs.closures.Closer.guess.Goals as goal

@@ -1,4 +1,4 @@
--- `Closer::neutral_in_row`: nothing else is certain of the only lines that a cell is in.
+-- `Closer::neutral_in_row`: the colour is inert on the row and on the column of a cell, the only lines that it is on.
 use Rattle.solve_core.proofs.Names.{is_filled, rules, Has, Columns}
 use Rattle.solve_core.proofs.NeutralCells.{fresh_has_table, neutral_cell}
 use Rattle.solve_core.proofs.closures.Closer.neutral_in_row.Goals as goal

@@ -1,10 +1,10 @@
--- `Closer::propagate`: if the board is alive no line has a mark, so that it is closed.
+-- `Closer::propagate`: if the board is alive, no line is dirty, so that it is closed.
 use Rattle.solve_core.proofs.Names.{◌≡◌, ◌∙◌, ℕ, ◌<◌, arith, sym, true, Nonogram, Side, Rows, Columns, count_on, AreUnmarked, rules}
 use Rattle.solve_core.specs.steps.Widths.{FitsIn}
 use Rattle.solve_core.proofs.GridSteps.{unmarked_closed}
 use Rattle.solve_core.proofs.closures.Closer.propagate.Goals as goal
 
--- sets have a place for each line
+-- the number of a line is an index of sets that the puzzle fits into
 fits : (width : ℕ) (p : Nonogram) (side : Side) (i : ℕ) → FitsIn width p → i < count_on side p.width p.height → i < width
 fits width p Rows i f l = omega arith
 fits width p Columns i f l = omega arith

@@ -1,4 +1,4 @@
--- `Closer::settle`: only the row and the column of `place` can have more to give, and both get a mark.
+-- `Closer::settle`: only the row and the column of `place` can deduce more, and both are added to the worklist.
 use Rattle.solve_core.proofs.Names.{AreFresh, ◌≡◌, ◌∙◌, ◌+◌, ◌*◌, ◌/◌, ◌%◌, sym, subst, Closing, HasMarks, rules}
 use Rattle.solve_core.proofs.GridSteps.{place_fresh, place_marks, place_split}
 use Rattle.solve_core.proofs.closures.Closer.settle.Goals as goal
@@ -12,7 +12,8 @@ returns-clause-work g c =
     let old = c.args.board.now.cells in
     let place = c.args.place in
     let width = c.from-width.result in
-    let marks : HasMarks p c.self.inside.marks old = subst (λ (m : Closing). HasMarks p m.marks old) (sym c.self.view_is) c.requires.rest.marks in
+    let marks : HasMarks p c.self.inside.marks old = subst (λ (m : Closing). HasMarks p m.marks old) (sym c.self.view_is)
+    c.requires.rest.marks in
     let fresh : AreFresh p c.self.inside.fresh c.self.inside.deductions.tables old = rw (← c.self.view_is) at c.requires.fresh in
     let wide : width ≡ p.width = c.from-width.ensures ∙ c.width.ensures.width in
     let split = place_split p old place marks.puzzle marks.size c.requires.cell.within in

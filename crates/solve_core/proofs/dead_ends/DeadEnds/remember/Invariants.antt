@@ -1,4 +1,4 @@
--- The loop of `DeadEnds::remember` ends: less room is left after each turn.
+-- The loop of `DeadEnds::remember` ends, since each turn uses some of the remaining capacity.
 use Rattle.solve_core.proofs.Names.{◌-◌, vec_len, vec_capacity}
 use Rattle.solve_core.proofs.dead_ends.DeadEnds.remember.Given as goal
 

@@ -1,4 +1,4 @@
--- `Deductions::deduce`: what is remembered of a line is what is certain of it, and what is kept then is too.
+-- `Deductions::deduce`: a cached deduction is the deduced line, and so is the one that is inserted.
 use Rattle.solve_core.proofs.Names.{arith, ◌∙◌, cases_lt, get_or-eq_default}
 use Rattle.solve_core.proofs.Remembering.{kept_right, remembered}
 use Rattle.solve_core.proofs.deductions.Deductions.deduce.Goals as goal
@@ -11,7 +11,8 @@ deduce-answer-requires g c = grind (arith, cases_lt, get_or-eq_default)
 
 pub returns-in-Some-clause-answer : goal.returns-in-Some-clause-answer
 returns-in-Some-clause-answer g c =
-    c.certain.ensures ∙ rw c.len.ensures.len ((rw c.in-Some.is at c.colours_of.ensures) g.W.PlaceSet.WIDTH c.args.puzzle.now c.requires.memory)
+    c.certain.ensures ∙ rw c.len.ensures.len
+    ((rw c.in-Some.is at c.colours_of.ensures) g.W.PlaceSet.WIDTH c.args.puzzle.now c.requires.memory)
 
 pub returns-then-is_of-clause-answer : goal.returns-then-is_of-clause-answer
 returns-then-is_of-clause-answer g c =

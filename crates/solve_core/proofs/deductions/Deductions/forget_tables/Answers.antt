@@ -1,4 +1,4 @@
--- `Deductions::forget_tables`: without lines they are tables of any puzzle.
+-- `Deductions::forget_tables`: tables without lines are tables of each puzzle.
 use Rattle.solve_core.proofs.TableSteps.{empty_tables}
 use Rattle.solve_core.proofs.deductions.Deductions.forget_tables.Goals as goal
 

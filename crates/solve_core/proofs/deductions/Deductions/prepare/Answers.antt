@@ -1,4 +1,4 @@
--- `Deductions::prepare`: all but the tables stays.
+-- `Deductions::prepare`: only the tables change.
 use Rattle.solve_core.proofs.deductions.Deductions.prepare.Goals as goal
 
 pub returns : goal.returns

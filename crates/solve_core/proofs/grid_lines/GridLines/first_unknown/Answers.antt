@@ -1,12 +1,11 @@
--- `GridLines::first_unknown`: all cells passed are known, so a row's first unknown cell is the grid's.
+-- `GridLines::first_unknown`: all cells passed are known, so the first unknown cell of a row is that of the grid.
 use Rattle.std.proofs.lemmas.Nat.{row_fits_turned}
 use Rattle.solve_core.proofs.Names.{◌≡◌, ℕ, ◌+◌, ◌*◌, ◌<◌, ◌≤◌, false, List, length, get_or, refl, arith, false_from_ne_true, Cell, Unknown, is_unknown, Has, IsUnknownCell}
 use Rattle.solve_core.proofs.GridLineSteps.{passed}
 use Rattle.solve_core.proofs.SearchLaws.{unknown_is}
 use Rattle.solve_core.proofs.grid_lines.GridLines.first_unknown.Goals as goal
 
--- the cells up to a place of row y are known if those before a column of the row are, and none from there on is
--- unknown
+-- the cells up to column `end` of row `y` are known, if those up to `column` are, and none from there on is unknown
 known_before : (cells : List Cell) (w y column end from near : ℕ) → y * w + end ≤ length cells → end ≤ w →
     ((x : ℕ) → x < w → IsUnknownCell cells (y * w + x) → Has near x) → ((x : ℕ) → column ≤ x → x < end → Has near x → ⊥) →
     ((k : ℕ) → from ≤ k → k < y * w + column → is_unknown (get_or cells k Unknown) ≡ false) →

@@ -1,4 +1,4 @@
--- What the loop of `GridLines::first_unknown` keeps: the cells passed, from `from` on, are known.
+-- Invariant of the loop of `GridLines::first_unknown`: the cells passed, from `from` on, are known.
 use Rattle.solve_core.proofs.Names.{◌≡◌, ◌+◌, ◌*◌, ◌<◌, ◌≤◌, ℕ, false, get_or, is_unknown, Unknown}
 use Rattle.solve_core.proofs.grid_lines.GridLines.first_unknown.Given as goal
 

@@ -1,4 +1,4 @@
--- `GridLines::most_known`: with one more row, the best place is that of the rows above and of this one.
+-- `GridLines::most_known`: the best cell after one more row is the best of the rows above and of this one.
 use Rattle.solve_core.proofs.Names.{◌≡◌, ◌∙◌, ◌+◌, ◌-◌, ◌*◌, ◌<◌, [], length, get_or, nat_eq, ap, sym, arith, Unknown, PartialGrid, has, is_sure}
 use Rattle.solve_core.proofs.GridLineSteps.{line_read, lines-long}
 use Rattle.solve_core.proofs.PickRows.{row-step}

@@ -1,9 +1,9 @@
--- What the loop of `GridLines::most_known` keeps: the best place so far, and the least count that betters it.
+-- Invariant of the loop of `GridLines::most_known`: the best cell so far, and the least score that a later one needs.
 use Rattle.solve_core.proofs.Names.{◌≡◌, ◌*◌, ◌≤◌, get_or, is_unknown, Unknown, first_most, sure_neighbours}
 use Rattle.solve_core.proofs.PickRows.{least_after}
 use Rattle.solve_core.proofs.grid_lines.GridLines.most_known.Given as goal
 
--- the best place of the rows above, and what a later one has to have
+-- the best cell of the rows above, and the least score that a later one needs
 abbrev pub invariant-loop-y : goal.invariant-loop-y
 invariant-loop-y g l = record {
   within : l.y ≤ l.y-end;

@@ -1,4 +1,4 @@
--- `GridLines::unknown`: the rows and the columns of unknown cells are the lines of the unknown grid.
+-- `GridLines::unknown`: unknown rows and columns are the lines of the unknown grid.
 use Rattle.solve_core.proofs.Names.{length-replicate, rules}
 use Rattle.solve_core.proofs.GridLineSteps.{lines-unknown}
 use Rattle.solve_core.proofs.grid_lines.GridLines.unknown.Goals as goal

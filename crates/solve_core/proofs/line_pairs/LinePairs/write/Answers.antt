@@ -1,4 +1,4 @@
--- `LinePairs::write`: the table of the line is written, the others stay.
+-- `LinePairs::write`: the table of the line is written, and the others are unchanged.
 use Rattle.solve_core.proofs.Names.{arith, cases_lt, get_or-eq_default, Rows, Columns}
 use Rattle.solve_core.proofs.TableSteps.{column_others, line_written, row_others}
 use Rattle.solve_core.proofs.line_pairs.LinePairs.write.Goals as goal

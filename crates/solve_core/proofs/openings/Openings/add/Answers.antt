@@ -1,4 +1,4 @@
--- `Openings::add`: more is noted at a row only if the closed grid has the colour there.
+-- `Openings::add`: a colour is added at a row only where the closed grid has it.
 use Rattle.solve_core.proofs.Names.{◌<◌, ◌∙◌, inl, inr, length, length-set, sym, arith, true≢false}
 use Rattle.line_core.proofs.GapRows.{mask_less}
 use Rattle.solve_core.specs.steps.Boards.{fresh_board}

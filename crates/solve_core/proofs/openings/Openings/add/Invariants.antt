@@ -1,4 +1,5 @@
--- What the loop of `Openings::add` keeps: what is noted is open, and the rows that are left are among `rows`.
+-- Invariant of the loop of `Openings::add`: the recorded colours are consistent, and the rows in `left` are among
+-- `rows`.
 use Rattle.solve_core.proofs.Names.{◌≡◌, ◌<◌, ℕ, List, length, Some, Cell, Extends, Has, Nonogram, lines_of, round, AreOpenings}
 use Rattle.solve_core.proofs.openings.Openings.add.Given as goal
 

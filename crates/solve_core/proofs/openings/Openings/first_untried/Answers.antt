@@ -1,4 +1,5 @@
--- `Openings::first_untried`: no cell passed is near and untried, so if all unknown ones are near, they are tried.
+-- `Openings::first_untried`: if `least` is 0, all unknown cells of a row are candidates, so that those passed have both
+-- colours recorded.
 use Rattle.solve_core.proofs.Names.{◌≡◌, ◌+◌, ◌*◌, arith}
 use Rattle.solve_core.proofs.OpeningLaws.{tried_before}
 use Rattle.solve_core.proofs.openings.Openings.first_untried.Goals as goal

@@ -1,5 +1,5 @@
--- What the loop of `Openings::first_untried` keeps: both colours are noted at the unknown cells passed, from `from`
--- on, if `least` is 0.
+-- Invariant of the loop of `Openings::first_untried`: if `least` is 0, both colours are recorded at the unknown cells
+-- passed, from `from` on.
 use Rattle.solve_core.proofs.Names.{◌≡◌, ◌+◌, ◌*◌, ◌/◌, ◌%◌, ◌<◌, ◌≤◌, ℕ, IsUnknownCell, AreBothNoted}
 use Rattle.solve_core.proofs.openings.Openings.first_untried.Given as goal
 

@@ -1,4 +1,4 @@
--- `Openings::open_row`: what is noted more at the row isn't refuted.
+-- `Openings::open_row`: the colours that are added at the row aren't refuted.
 use Rattle.solve_core.proofs.Names.{◌<◌, length}
 use Rattle.solve_core.proofs.OpeningLaws.{opened}
 use Rattle.solve_core.proofs.openings.Openings.open_row.Goals as goal

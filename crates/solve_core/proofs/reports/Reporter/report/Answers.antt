@@ -1,4 +1,4 @@
--- `Reporter::report`: it is the report in sets of the width.
+-- `Reporter::report`: each set width yields the defined report.
 use Rattle.solve_core.proofs.Names.{rules}
 use Rattle.solve_core.proofs.reports.Reporter.report.Goals as goal
 

@@ -1,4 +1,4 @@
--- `SideTables::forget`: no table has a line, so the sets can be any.
+-- `SideTables::forget`: no table has a line, so all sets are correct.
 use Rattle.solve_core.proofs.Names.{with_items_is, ◌∙◌}
 use Rattle.solve_core.proofs.TableSteps.{empty_sets}
 use Rattle.solve_core.proofs.side_tables.SideTables.forget.Goals as goal

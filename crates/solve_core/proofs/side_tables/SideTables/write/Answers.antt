@@ -1,4 +1,4 @@
--- `SideTables::write`: the table is marked at its neutral cells.
+-- `SideTables::write`: the inert cells of the new table are recorded in the sets.
 use Rattle.solve_core.proofs.Names.{◌≡◌, ◌<◌, ◌∙◌, arith, get_or-set_same, length, with_items_is}
 use Rattle.line_core.specs.Pairs.{no_table}
 use Rattle.solve_core.proofs.TableSteps.{table_marked}

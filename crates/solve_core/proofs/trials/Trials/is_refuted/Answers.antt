@@ -1,4 +1,4 @@
--- `Trials::is_refuted`: a cell of the grid has a place in sets of its width, and neutral cells are open.
+-- `Trials::is_refuted`: the column of a cell is an index of sets of this width.
 use Rattle.solve_core.proofs.Names.{◌∙◌, sym, subst, arith, HasRoomFor, Tried}
 use Rattle.solve_core.proofs.GridSteps.{place_split}
 use Rattle.solve_core.proofs.trials.Trials.is_refuted.Goals as goal

@@ -1,5 +1,5 @@
--- `Trials::is_refuted_by_trial`: a board that closes alive is line-closed and knows all that the board knew, so its
--- colours are open; and then the board goes back.
+-- `Trials::is_refuted_by_trial`: a board that is alive after the trial is line-closed and extends the old one, so its
+-- colours are consistent; afterwards the assignments are undone.
 use Rattle.solve_core.proofs.Names.{set, sym, lines_of}
 use Rattle.solve_core.proofs.ClosureLaws.{closure-IsLeastClosed}
 use Rattle.solve_core.proofs.TrialSteps.{settled-extends}

@@ -1,4 +1,5 @@
--- `Trials::keep_colour`: `colour` takes the board no further than trials do, so closing it is progress.
+-- `Trials::keep_colour`: the board with `colour` assigned is below the grid after trials, so that propagating it is a
+-- step towards that.
 use Rattle.solve_core.proofs.Names.{rules, sym, lines_of}
 use Rattle.solve_core.proofs.TrialSteps.{settle-changed, settle-dead}
 use Rattle.solve_core.proofs.trials.Trials.keep_colour.Goals as goal

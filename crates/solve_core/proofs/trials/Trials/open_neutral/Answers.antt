@@ -1,4 +1,4 @@
--- `Trials::open_neutral`: neutral cells are open.
+-- `Trials::open_neutral`: inert colours aren't refuted.
 use Rattle.solve_core.proofs.Names.{◌∙◌, subst, sym, AreOpenings, Tried}
 use Rattle.solve_core.proofs.NeutralCells.{neutral_open}
 use Rattle.solve_core.proofs.trials.Trials.open_neutral.Goals as goal

@@ -1,4 +1,4 @@
--- `Trials::try_at_rest`: if nothing is noted, all that is noted is open.
+-- `Trials::try_at_rest`: an empty record of consistent colours is correct.
 use Rattle.solve_core.proofs.Names.{sym, subst, IsAtRest, Tried}
 use Rattle.solve_core.proofs.trials.Trials.try_at_rest.Goals as goal
 

@@ -1,4 +1,4 @@
--- `Trials::try_board`: trials of the board and of its closure end alike, and dead if the closure is dead.
+-- `Trials::try_board`: trials of the board and of its closure yield the same grid, and are dead if the closure is.
 use Rattle.solve_core.proofs.Names.{rules}
 use Rattle.solve_core.proofs.TrialSteps.{closure_trials, closure_below}
 use Rattle.solve_core.proofs.trials.Trials.try_board.Goals as goal

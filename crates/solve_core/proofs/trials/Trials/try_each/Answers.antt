@@ -1,4 +1,5 @@
--- `Trials::try_each`: cells before the next unknown one are tried or known, so if there is none all are tried.
+-- `Trials::try_each`: the cells before the next one to try are known or have no refuted colour; if there is none, this
+-- holds of all cells.
 use Rattle.solve_core.proofs.Names.{rules}
 use Rattle.solve_core.proofs.trials.Trials.try_each.Goals as goal
 

@@ -1,5 +1,5 @@
--- What the loop of `Trials::try_each` keeps: what `progress` says; if it is `Same`, those passed are tried, unless
--- only those near known ones are.
+-- Invariant of the loop of `Trials::try_each`: `progress` is the effect so far; if it is `Same` and `least` is 0, no
+-- unknown cell passed has a refuted colour.
 use Rattle.solve_core.proofs.Names.{◌≡◌, ◌≢◌, ◌-◌, ◌<◌, ◌≤◌, ℕ, length, lines_of, Dead, Same, trials, IsTried, IsBoardOf, Progresses, HasRoomFor, IsReady}
 use Rattle.solve_core.proofs.trials.Trials.try_each.Given as goal
 

@@ -1,4 +1,4 @@
--- `Trials::try_place`: a refuted colour leaves the other one.
+-- `Trials::try_place`: if a colour is refuted, the other one is assigned.
 use Rattle.solve_core.proofs.Names.{rules}
 use Rattle.solve_core.proofs.TrialSteps.{blank_below, filled_below}
 use Rattle.solve_core.proofs.trials.Trials.try_place.Goals as goal

@@ -1,4 +1,4 @@
--- `Trials::try_until_same`: a board at rest of which no colour is refuted is what trials leave of it.
+-- `Trials::try_until_same`: trials leave a board at a fixpoint unchanged if no unknown cell has a refuted colour.
 use Rattle.solve_core.proofs.Names.{lines_of, rules}
 use Rattle.solve_core.proofs.TrialSteps.{tried_ends}
 use Rattle.solve_core.proofs.GridSteps.{rest_closed}

@@ -1,4 +1,5 @@
--- What the loop of `Trials::try_until_same` keeps: the board is ready, and trials of it end as at first.
+-- Invariant of the loop of `Trials::try_until_same`: the board is ready for trials, and trials of it yield the same as
+-- at first.
 use Rattle.solve_core.proofs.Names.{◌≡◌, ◌+◌, ◌*◌, ◌≤◌, lines_of, trials, IsBoardOf, HasRoomFor, IsReady, unknown_count}
 use Rattle.solve_core.proofs.trials.Trials.try_until_same.Given as goal
 

@@ -1,4 +1,4 @@
--- `write`: a failure is counted.
+-- `write`: a failed call is counted.
 use Rattle.std.proofs.Common.{rules}
 use Rattle.streams.proofs.counted.Counted.write.Goals as goal
 

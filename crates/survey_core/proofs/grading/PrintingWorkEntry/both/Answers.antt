@@ -1,4 +1,4 @@
--- `both` of printing: two parts, one behind the other, are the parts of both lists of entries.
+-- `both` of `Printing`: the chunks of two lists of entries, one after the other, are the chunks of both.
 use Rattle.std.proofs.Common.{◌≡◌, ◌+◌, ◌++◌, ◌<◌, ◌^◌, length, ap, arith}
 use Rattle.survey_core.specs.steps.Graded.{graded_of}
 use Rattle.survey_core.proofs.ReadingLemmas.{answers_behind, answers_in_front, graded_both, graded_count, when_ok}

@@ -1,4 +1,4 @@
--- `part` of printing: what is listed are the entries, graded.
+-- `part` of `Printing`: the entries listed are those of the chunk, graded.
 use Rattle.std.proofs.Common.{rules, arith}
 use Rattle.std.proofs.lemmas.Grind.{common_steps}
 use Rattle.std.proofs.lemmas.Result.{IfOk-weaker}
@@ -14,6 +14,7 @@ of-requires c =
 pub returns : goal.returns
 returns c =
     IfOk-weaker c.of.result _ _ (λ parts listed are.
-    rw (← part_graded c.args.self.now c.args.first c.args.entries.now c.split_at.result.0.now c.split_at.result.1.now c.split_at-2.result.1.now
-    listed.0 are (first_of (search rules, grind (arith, common_steps))) (first_of (search rules, grind (arith, common_steps)))
+    rw (← part_graded c.args.self.now c.args.first c.args.entries.now c.split_at.result.0.now c.split_at.result.1.now
+    c.split_at-2.result.1.now listed.0 are (first_of (search rules, grind (arith, common_steps)))
+    (first_of (search rules, grind (arith, common_steps)))
     (first_of (search rules, grind (arith, common_steps))) listed.1) listed.2) c.of.ensures

@@ -1,4 +1,4 @@
--- `both` of reading: what was read of two parts is what is read of both.
+-- `both` of `Reading`: the results of reading two chunks, appended, are the result of reading both.
 use Rattle.std.proofs.Common.{◌≡◌, ◌+◌, length, arith}
 use Rattle.std.proofs.lemmas.List.{length-append, map-append}
 use Rattle.survey_core.specs.Guessing.{guessing}

@@ -1,4 +1,4 @@
--- `Part::add`: the entry's text is added, and it is counted in each total of its words.
+-- `Part::add`: the text of the entry is appended, and the entry is counted under its status and its grade.
 use Rattle.std.proofs.Common.{length-append, arith}
 use Rattle.survey_text.specs.Entries.{GradedEntry}
 use Rattle.survey_text.specs.steps.Entries.{shown_listed}

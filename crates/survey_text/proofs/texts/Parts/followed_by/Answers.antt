@@ -1,4 +1,4 @@
--- `Parts::followed_by`: the texts of the others stand behind these, and the totals are added.
+-- `Parts::followed_by`: the texts of the others follow, and the totals are added.
 use Rattle.std.proofs.Common.{refl, rules}
 use Rattle.survey_text.proofs.PrintedLemmas.{both_parts}
 use Rattle.survey_text.proofs.texts.Parts.followed_by.Goals as goal
