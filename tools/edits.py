@@ -17,7 +17,7 @@ LIST = TOP / "tools/wrong-bodies.txt"
 TRIED = re.compile(r"must-fail (\w+)/([\w.-]+)\.edit: (.*)")
 REFUSED = re.compile(
     r"refused, as it must be: (?:\./)?(?:note: )?([\w/.+-]+):(\d+):\d+: "
-    r"(?:(?:error: |it is not proved that .* \()`([^`]+)|it is not proved that control never comes here)"
+    r"(?:(?:error: |it is not proved that .* \(|`search` found no proof \()`([^`]+)|it is not proved that control never comes here)"
 )
 
 
