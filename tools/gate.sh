@@ -72,7 +72,7 @@ prove() {
 }
 
 # Makes the library for other programs over the crates that `rt ci` has just proved, and tests it. `rt lib` would prove
-# all of them once more, so it is left to checkouts in which `rt check` keeps libraries of its own.
+# all of them again, so it is used only in checkouts in which `rt check` keeps libraries of its own.
 make_library() {
     if compgen -G 'crates/*/out/rlib/stamp' >/dev/null; then
         tools/library.sh
