@@ -1,6 +1,6 @@
 /* nonograde for programs in C and C++: black-and-white nonograms are solved, closed by line logic, and converted.
  *
- * Each call takes `room`, a buffer for the answer, and its length. It writes the answer to the start of the buffer,
+ * Each call takes `buffer`, memory for the answer, and its length. It writes the answer to the start of the buffer,
  * leaves the rest of the buffer as it was, and returns a status and the length of the answer in bytes. With status 0
  * the answer is the text that the program prints. Otherwise it is the fault word, followed by a colon and a line
  * number if the fault is about a line, as in `BadNumber:5`. If the buffer is too small it stays as it was, and
@@ -54,18 +54,18 @@ typedef struct nonograde_reply {
 /* Grades and solves the puzzle of a text. The answer is what `nonograde solve` prints. The search makes at most `guesses`
  * guesses, from 0 to 1,000,000, by the rule `pick`. */
 nonograde_reply nonograde_solve(const uint8_t *name, size_t name_length, const uint8_t *text, size_t text_length,
-                                uint32_t guesses, uint32_t pick, uint8_t *room, size_t room_length);
+                                uint32_t guesses, uint32_t pick, uint8_t *buffer, size_t buffer_length);
 
 /* Closes the puzzle of a text by line logic. The answer is what `nonograde lines` prints. */
 nonograde_reply nonograde_lines(const uint8_t *name, size_t name_length, const uint8_t *text, size_t text_length,
-                                uint8_t *room, size_t room_length);
+                                uint8_t *buffer, size_t buffer_length);
 
 /* Converts the puzzle of a text to the format `format`. The answer is what `nonograde convert` prints. */
 nonograde_reply nonograde_convert(const uint8_t *name, size_t name_length, const uint8_t *text, size_t text_length,
-                                  uint32_t format, uint8_t *room, size_t room_length);
+                                  uint32_t format, uint8_t *buffer, size_t buffer_length);
 
 /* Writes the version, as `nonograde --version` prints it. */
-nonograde_reply nonograde_version(uint8_t *room, size_t room_length);
+nonograde_reply nonograde_version(uint8_t *buffer, size_t buffer_length);
 
 #ifdef __cplusplus
 }

@@ -1,8 +1,8 @@
 /* Refuses growths of memory to a program that is run under it, as tools/sweep.sh does. A start of a thread
  * counts as a growth; before one is refused, threads that were started have 50 ms in which to fall asleep.
  *
- * Tests ask for it by signs (crates/refusals). A request of SIGN + n bytes, which no machine grants, has the
- * n-th growth from there refused, or with n = 0 each of them; a request of QUESTION bytes ends that, and is
+ * Tests ask for it by signs (crates/alloc_failures). A request of ARM_REQUEST + n bytes, which no machine grants, has the
+ * n-th growth from there refused, or with n = 0 each of them; a request of DISARM_REQUEST bytes ends that, and is
  * refused if there was a refusal. At each question the number of refusals since the program began goes to
  * standard error, as `swept N`.
  *
@@ -23,9 +23,9 @@
 #include <string.h>
 #include <unistd.h>
 
-#define SIGN ((size_t)1 << 61)
+#define ARM_REQUEST ((size_t)1 << 61)
 #define MOST 100000
-#define QUESTION 1060921
+#define DISARM_REQUEST 1060921
 #define EACH -1
 
 /* The number of the growth to refuse, counted from the next one: 0 none, EACH each of them. */
@@ -92,11 +92,11 @@ void *malloc(size_t size) {
     static void *(*real)(size_t);
     if (!real) real = (void *(*)(size_t))dlsym(RTLD_NEXT, "malloc");
     add(size);
-    if (!tells && size >= SIGN && size - SIGN < MOST) {
-        begin((long)(size - SIGN));
+    if (!tells && size >= ARM_REQUEST && size - ARM_REQUEST < MOST) {
+        begin((long)(size - ARM_REQUEST));
         return NULL;
     }
-    if (!tells && size == QUESTION) return end() ? NULL : real(size);
+    if (!tells && size == DISARM_REQUEST) return end() ? NULL : real(size);
     return refused() ? NULL : real(size);
 }
 

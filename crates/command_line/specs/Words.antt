@@ -14,8 +14,8 @@ use Rattle.puzzle_text.specs.Formats.{formats as all_formats, word}
 use Rattle.solve_core.specs.declared.picks.Pick.{Pick}
 use Rattle.solve_core.specs.declared.picks.Pick.TheVariants.{First, Most}
 use Rattle.survey_core.specs.declared.settings.Settings.{Settings}
-use Rattle.lane_core.specs.declared.jobs.TheConstants.{MOST_GUESSES}
-use Rattle.survey_core.specs.declared.settings.TheConstants.{DEFAULT_GUESSES, DEFAULT_LANES, DEFAULT_RING, LARGEST_RING, MOST_LANES}
+use Rattle.lane_core.specs.declared.jobs.TheConstants.{MAX_GUESSES}
+use Rattle.survey_core.specs.declared.settings.TheConstants.{DEFAULT_GUESSES, DEFAULT_LANES, DEFAULT_RING, MAX_RING, MAX_LANES}
 use Rattle.command_line.specs.declared.command.Request.{Request}
 use Rattle.command_line.specs.declared.command.SurveyRequest.{SurveyRequest}
 use Rattle.command_line.specs.declared.command.Request.TheVariants.{Survey, Solve, Convert, Lines}
@@ -36,13 +36,13 @@ number_rule name least most default =
 
 -- the options and arguments of the commands
 abbrev pub guesses_rule : Rule
-guesses_rule = number_rule (codes "guesses") 0 MOST_GUESSES (decimal DEFAULT_GUESSES)
+guesses_rule = number_rule (codes "guesses") 0 MAX_GUESSES (decimal DEFAULT_GUESSES)
 
 abbrev pub lanes_rule : Rule
-lanes_rule = number_rule (codes "lanes") 1 MOST_LANES (decimal DEFAULT_LANES)
+lanes_rule = number_rule (codes "lanes") 1 MAX_LANES (decimal DEFAULT_LANES)
 
 abbrev pub ring_rule : Rule
-ring_rule = number_rule (codes "ring") 1 LARGEST_RING (decimal DEFAULT_RING)
+ring_rule = number_rule (codes "ring") 1 MAX_RING (decimal DEFAULT_RING)
 
 abbrev pub pick_rule : Choices → Rule
 pick_rule picks =
@@ -140,16 +140,18 @@ text_in id rows = unwrap_or (first_of id rows) []
 abbrev pub texts_in : Text → List Row → List Text
 texts_in id rows = unwrap_or (all_of id rows) []
 
--- the guess rule that a word names
-abbrev pub pick_of_word : Text → Pick
-pick_of_word text = if bytes_eq text (codes "most") then Most else First
+-- the guess rule that a word names, if it names one
+abbrev pub pick_of_word : Text → Option Pick
+pick_of_word text =
+    if bytes_eq text (codes "first") then Some First
+    else if bytes_eq text (codes "most") then Some Most else None
 
 -- the settings are those that the parsed values ask for
 pub record AreSettingsIn (rows : List Row) (settings : Settings) : Type 0 where
-  pub lanes : IsNumberIn 1 MOST_LANES (one_of (codes "lanes") rows) settings.lanes
-  pub ring : IsNumberIn 1 LARGEST_RING (one_of (codes "ring") rows) settings.ring
-  pub guesses : IsNumberIn 0 MOST_GUESSES (one_of (codes "guesses") rows) settings.guesses
-  pub pick : settings.pick ≡ pick_of_word (text_in (codes "pick") rows)
+  pub lanes : IsNumberIn 1 MAX_LANES (one_of (codes "lanes") rows) settings.lanes
+  pub ring : IsNumberIn 1 MAX_RING (one_of (codes "ring") rows) settings.ring
+  pub guesses : IsNumberIn 0 MAX_GUESSES (one_of (codes "guesses") rows) settings.guesses
+  pub pick : pick_of_word (text_in (codes "pick") rows) ≡ Some settings.pick
   pub show : IsFlagIn (one_of (codes "show") rows) settings.show
 
 -- the parsed values ask for this survey
@@ -162,8 +164,8 @@ pub record AsksSurvey (rows : List Row) (survey : SurveyRequest) : Type 0 where
 abbrev pub Asks : Text → List Row → Request → Type 0
 Asks name rows (Survey survey) = (name ≡ codes "survey") × AsksSurvey rows survey
 Asks name rows (Solve guesses pick file) =
-    (name ≡ codes "solve") × IsNumberIn 0 MOST_GUESSES (one_of (codes "guesses") rows) guesses ×
-    (pick ≡ pick_of_word (text_in (codes "pick") rows))
+    (name ≡ codes "solve") × IsNumberIn 0 MAX_GUESSES (one_of (codes "guesses") rows) guesses ×
+    (pick_of_word (text_in (codes "pick") rows) ≡ Some pick)
     × (string_bytes file ≡ text_in (codes "file") rows)
 Asks name rows (Convert format file) =
     (name ≡ codes "convert")

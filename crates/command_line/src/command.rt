@@ -13,14 +13,12 @@ ghost use Rattle.command_line.specs.steps.Words.{IsArgument, IsCommand, bare_app
 use clap::error::ErrorKind;
 use clap::{Arg, ArgAction, ArgMatches, Command, Error, value_parser};
 use grid_core::NoMemory;
-use lane_core::MOST_GUESSES;
+use lane_core::MAX_GUESSES;
 use puzzle_text::Format;
 use reports::VERSION;
 use solve_core::Pick;
 use std::alloc::{AllocError, Global};
-use survey_core::{
-    DEFAULT_GUESSES, DEFAULT_LANES, DEFAULT_RING, LARGEST_RING, MOST_LANES, Settings,
-};
+use survey_core::{DEFAULT_GUESSES, DEFAULT_LANES, DEFAULT_RING, MAX_LANES, MAX_RING, Settings};
 
 /// The end of the help of a command that grades: `$prints`, the meaning of a printed line, and
 /// `$further`.
@@ -137,7 +135,7 @@ fn guesses_option<'a>(alloc: Global) -> Arg<'a>
         .long("guesses")
         .value_name("N")
         .help("The most guesses for a puzzle, 0 to 1000000")
-        .value_parser(value_parser!(u32).range(0..=i64::from(MOST_GUESSES)))
+        .value_parser(value_parser!(u32).range(0..=i64::from(MAX_GUESSES)))
         .default_value("1000")
 }
 
@@ -171,7 +169,7 @@ fn lanes_option<'a>(alloc: Global) -> Arg<'a>
         .long("lanes")
         .value_name("N")
         .help("The number of lanes, 1 to 16")
-        .value_parser(value_parser!(u16).range(1..=i64::from(MOST_LANES)))
+        .value_parser(value_parser!(u16).range(1..=i64::from(MAX_LANES)))
         .default_value("4")
 }
 
@@ -183,7 +181,7 @@ fn ring_option<'a>(alloc: Global) -> Arg<'a>
         .long("ring")
         .value_name("N")
         .help("The capacity of a lane's rings, 1 to 64")
-        .value_parser(value_parser!(u16).range(1..=i64::from(LARGEST_RING)))
+        .value_parser(value_parser!(u16).range(1..=i64::from(MAX_RING)))
         .default_value("8")
 }
 
@@ -376,65 +374,84 @@ fn files_of(alloc: Global, matches: &ArgMatches<'_>) -> Result<Vec<String>, NoMe
 
 /// Returns the guess limit that is asked for.
 fn guesses_of(matches: &ArgMatches<'_>) -> u32
-    ensures range { result ≤ MOST_GUESSES }
-    ensures asked { IsNumberIn 0 MOST_GUESSES
+    ensures range { result ≤ MAX_GUESSES }
+    ensures asked { IsNumberIn 0 MAX_GUESSES
         (one_of (codes "guesses") (rows_of (found_of matches.now))) result }
 {
     // `clap` has refused values out of range. Its contract covers only the top command, so the
-    // value
-    // is clamped here, which changes nothing.
+    // value is clamped here, which changes nothing.
     matches
         .get_one::<u32>("guesses")
         .unwrap_or(DEFAULT_GUESSES)
-        .min(MOST_GUESSES)
+        .min(MAX_GUESSES)
 }
 
-/// Returns the guess rule that is asked for. `clap` has refused words that name none.
-fn pick_of(matches: &ArgMatches<'_>) -> Pick
+/// Returns the guess rule that is asked for, or `None` if no rule has the name that is given, which
+/// `clap` doesn't let happen.
+fn pick_of(matches: &ArgMatches<'_>) -> Option<Pick>
     ensures { result ≡ pick_of_word (text_in (codes "pick") (rows_of (found_of matches.now))) }
 {
     match text_in(matches, "pick") {
-        "most" => Pick::Most,
-        _ => Pick::First,
+        "first" => Some(Pick::First),
+        "most" => Some(Pick::Most),
+        _ => None,
     }
 }
 
-/// Returns the settings of a survey. `clap` has refused values out of range; they are clamped for
-/// the same reason as in `guesses_of`.
-fn settings_of(matches: &ArgMatches<'_>) -> Settings
-    ensures { AreSettingsIn (rows_of (found_of matches.now)) result }
+/// Returns the settings of a survey, or `None` if there is no such guess rule. `clap` has refused
+/// values out of range; they are clamped for the same reason as in `guesses_of`.
+fn settings_of(matches: &ArgMatches<'_>) -> Option<Settings>
+    ensures { IfSome result (AreSettingsIn (rows_of (found_of matches.now))) }
 {
+    let pick = pick_of(matches)?;
     let lanes = matches.get_one::<u16>("lanes").unwrap_or(DEFAULT_LANES);
     let ring = matches.get_one::<u16>("ring").unwrap_or(DEFAULT_RING);
-    Settings {
-        lanes: lanes.clamp(1, MOST_LANES),
-        ring: ring.clamp(1, LARGEST_RING),
+    Some(Settings {
+        lanes: lanes.clamp(1, MAX_LANES),
+        ring: ring.clamp(1, MAX_RING),
         guesses: guesses_of(matches),
-        pick: pick_of(matches),
+        pick,
         show: matches.get_flag("show"),
-    }
-}
-
-/// Returns the survey that is asked for.
-fn survey_of(alloc: Global, matches: &ArgMatches<'_>) -> Result<SurveyRequest, NoMemory>
-    ensures { IfOk result (AsksSurvey (rows_of (found_of matches.now))) }
-{
-    Ok(SurveyRequest {
-        settings: settings_of(matches),
-        progress: matches.get_flag("progress"),
-        files: files_of(alloc, matches)?,
     })
 }
 
+/// Returns the survey that is asked for, or `None` if there is no such guess rule.
+fn survey_of(alloc: Global, matches: &ArgMatches<'_>) -> Result<Option<Request>, CommandFault>
+    ensures range { IfOk result (λ asked. IfSome asked HasSettingsInRange) }
+    ensures asked { IfOk result (λ asked.
+        IfSome asked (Asks (codes "survey") (rows_of (found_of matches.now)))) }
+{
+    let Some(settings) = settings_of(matches) else {
+        return Ok(None);
+    };
+    Ok(Some(Request::Survey(SurveyRequest {
+        settings,
+        progress: matches.get_flag("progress"),
+        files: files_of(alloc, matches)?,
+    })))
+}
+
+/// Returns the solving that is asked for, or `None` if there is no such guess rule.
+fn solving_of(alloc: Global, matches: &ArgMatches<'_>) -> Result<Option<Request>, CommandFault>
+    ensures range { IfOk result (λ asked. IfSome asked HasSettingsInRange) }
+    ensures asked { IfOk result (λ asked.
+        IfSome asked (Asks (codes "solve") (rows_of (found_of matches.now)))) }
+{
+    let Some(pick) = pick_of(matches) else {
+        return Ok(None);
+    };
+    let file = text_of(alloc, matches, "file")?;
+    Ok(Some(Request::Solve(guesses_of(matches), pick, file)))
+}
+
 /// Returns the conversion that is asked for, or `None` if no format has the name that is given,
-/// which
-/// `clap` doesn't let happen.
+/// which `clap` doesn't let happen.
 fn conversion_of(alloc: Global, matches: &ArgMatches<'_>) -> Result<Option<Request>, CommandFault>
     ensures range { IfOk result (λ asked. IfSome asked HasSettingsInRange) }
     ensures asked { IfOk result (λ asked.
         IfSome asked (Asks (codes "convert") (rows_of (found_of matches.now)))) }
 {
-    let Some(format) = Format::of_word(text_in(matches, "to")) else {
+    let Some(format) = Format::from_word(text_in(matches, "to")) else {
         return Ok(None);
     };
     Ok(Some(Request::Convert(format, text_of(alloc, matches, "file")?)))
@@ -450,17 +467,13 @@ fn request_of(
     ensures asked { IfOk result (λ asked.
         IfSome asked (Asks name.now (rows_of (found_of matches.now)))) }
 {
-    let request = match name {
-        "survey" => Request::Survey(survey_of(alloc, matches)?),
-        "solve" => {
-            let file = text_of(alloc, matches, "file")?;
-            Request::Solve(guesses_of(matches), pick_of(matches), file)
-        }
-        "convert" => return conversion_of(alloc, matches),
-        "lines" => Request::Lines(text_of(alloc, matches, "file")?),
-        _ => return Ok(None),
-    };
-    Ok(Some(request))
+    match name {
+        "survey" => survey_of(alloc, matches),
+        "solve" => solving_of(alloc, matches),
+        "convert" => conversion_of(alloc, matches),
+        "lines" => Ok(Some(Request::Lines(text_of(alloc, matches, "file")?))),
+        _ => Ok(None),
+    }
 }
 
 /// Returns the fault of words that name no command.

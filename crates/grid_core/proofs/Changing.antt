@@ -1,6 +1,6 @@
 -- The indices at which two lines differ, by their masks.
 use Rattle.grid_core.proofs.Names.{◌≡◌, ◌≢◌, ℕ, ◌<◌, ◌⊎◌, nat_eq, List, length, refl, sym, arith, IsTrue, ext_get_or, nat_tests, bit_at-zero, Cell, Unknown, Filled, Blank, Has, has, IsMaskOf, line_cells, IsChanged}
-use Rattle.place_sets.proofs.WordSteps.{some_place}
+use Rattle.bit_sets.proofs.WordSteps.{some_index}
 use Rattle.grid_core.proofs.LineCells.{length_seen, seen_at}
 use Rattle.grid_core.specs.Lines.{IsLine}
 
@@ -22,7 +22,7 @@ pub same_without_change : (line other : List Cell) (m : ℕ) → length other �
 same_without_change line other m e p = (
   (λ t. ext_get_or Unknown line other (sym e)
       (λ k l. sym (same_cells _ _ (λ n. absurd (grind (arith, nat_tests, bit_at-zero k, p.from k (l, n))))))),
-  λ s. grind (arith, nat_tests, some_place m, p.to),
+  λ s. grind (arith, nat_tests, some_index m, p.to),
 )
 
 pub ruleset alike = (length_seen, same_without_change, nat_tests)

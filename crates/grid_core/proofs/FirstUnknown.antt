@@ -3,7 +3,7 @@ use Rattle.grid_core.proofs.Names.{◌≡◌, ℕ, ◌+◌, ◌-◌, ◌*◌, �
 use Rattle.std.specs.Option.{option_map}
 use Rattle.std.proofs.lemmas.Bool.{lt-ltb, le-ltb}
 use Rattle.std.proofs.lemmas.List.Sums.{position_or_len_is}
-use Rattle.grid_core.proofs.LineLaws.{place-within}
+use Rattle.grid_core.proofs.LineLaws.{index-within}
 use Rattle.grid_core.proofs.RowLists.{get_or-row_of, length-row_of}
 
 -- `i` is the index of the first unknown cell if the cell there is unknown and none before it is
@@ -48,5 +48,5 @@ first_in_row g y x row e ly count above found =
     let lx : x < g.width = rw (e, length-row_of) at found.1 in
     let here = rw (e, get_or-row_of g x y lx) at found.2 in
     let before = known-more g y x (omega arith) above (grind arith) in
-    let first = position_some g.cells (y * g.width + x) (omega (arith, place-within g.width g.height x y lx ly)) here before in
+    let first = position_some g.cells (y * g.width + x) (omega (arith, index-within g.width g.height x y lx ly)) here before in
     rw first (grind (arith, rows))

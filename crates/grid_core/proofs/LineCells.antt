@@ -1,5 +1,5 @@
 -- The cells of a line that is stored as two bit sets.
-use Rattle.grid_core.proofs.Names.{◌≡◌, ℕ, ◌<◌, ◌≤◌, Bool, true, false, nat_eq, cond, List, length, get_or, set, refl, sym, ◌∙◌, arith, zero-add, ext_get_or, length-set, replicate, nat_tests, common_steps, length-replicate, get_or-replicate, bit_at-zero, length-map-range_with_len, get_or-map-range_with_len, Cell, Unknown, is_filled, is_known, Has, has, IsMarked, IsMaskOf, cell_with, line_cells, is_blank}
+use Rattle.grid_core.proofs.Names.{◌≡◌, ℕ, ◌<◌, ◌≤◌, Bool, true, false, nat_eq, cond, List, length, get_or, set, refl, sym, ◌∙◌, arith, zero-add, ext_get_or, length-set, replicate, nat_tests, common_steps, length-replicate, get_or-replicate, bit_at-zero, length-map-range_with_len, get_or-map-range_with_len, Cell, Unknown, is_filled, is_known, Has, has, IsWithBit, IsMaskOf, cell_with, line_cells, is_blank}
 
 -- the cell at index `i`, by the masks
 pub cell_at : (len filled blank i : ℕ) → i < len → get_or (line_cells len filled blank) i Unknown ≡ cell_with (has filled i) (has blank i)
@@ -48,9 +48,9 @@ cell_itself c = grind arith
 pub cells-set : (len f b nf nb p : ℕ) (c : Cell) (l : List Cell) → line_cells len f b ≡ l → p < length l
     → ((i : ℕ) → i < len → cell_with (has nf i) (has nb i) ≡ cond (nat_eq i p) c (cell_with (has f i) (has b i)))
     → line_cells len nf nb ≡ set l p c
-cells-set len f b nf nb p c l e h told =
+cells-set len f b nf nb p c l e h given =
     line_is len nf nb (set l p c) (grind (arith, length-set, length_line)) (λ i within.
-    grind (arith, common_steps, told i, seen_at len f b i l, length_line len f b))
+    grind (arith, common_steps, given i, seen_at len f b i l, length_line len f b))
 
 -- all cells are unknown if both masks are empty
 pub cells-none : (len : ℕ) → line_cells len 0 0 ≡ replicate len Unknown

@@ -8,16 +8,16 @@ pub use Rattle.std.proofs.lemmas.List.{append-nil, append_assoc, drop-drop, get_
 pub use Rattle.std.proofs.lemmas.List.FromFn.{get_or-enumerate_from, get_or-map-range_with_len, length-enumerate_from, length-map-range_with_len}
 pub use Rattle.std.proofs.lemmas.Nat.Bits.{bit_at-zero}
 pub use Rattle.std.specs.List.{All, AllByRecursion, count_by, enumerate_from, list_all, position, position_or_len}
-pub use Rattle.place_sets.specs.Masks.{Has, IsMarked, IsMaskOf, has}
+pub use Rattle.bit_sets.specs.Masks.{Has, IsWithBit, IsMaskOf, has}
 pub use Rattle.grid_core.specs.Cells.{is_filled, is_known, is_unknown}
-pub use Rattle.grid_core.specs.KeptRows.{AreRowsOf, IsRow, all_rows, row_cells, rows_cells, unknown_row}
+pub use Rattle.grid_core.specs.StoredRows.{AreRowsOf, IsStoredRow, padded_rows, row_cells, rows_cells, unknown_row}
 pub use Rattle.grid_core.specs.Lines.{IsChanged, IsUnknownCell, IsUnknownFrom, cell_with, is_blank, line_cells}
-pub use Rattle.grid_core.specs.Nonogram.{GridLine, MeetsLine, Nonogram, cells_at, clues_on, crossing, line_on, lines_of, numbered_line, places_from, places_on}
+pub use Rattle.grid_core.specs.Nonogram.{GridLine, MeetsLine, Nonogram, cells_at, clues_on, crossing, line_on, lines_of, numbered_line, strided_indices, line_indices}
 pub use Rattle.grid_core.specs.PartialGrid.{PartialGrid, cell_at}
 pub use Rattle.grid_core.specs.Rows.{cells_of_rows, row_of, with_row}
 pub use Rattle.grid_core.specs.Runs.{is_positive, runs, stretches}
 pub use Rattle.grid_core.specs.declared.cells.Cell.{Cell}
 pub use Rattle.grid_core.specs.declared.cells.Cell.TheVariants.{Blank, Filled, Unknown}
 pub use Rattle.grid_core.specs.declared.rows.Row.{Row}
-pub use Rattle.grid_core.specs.declared.sides.Side.TheVariants.{Columns, Rows}
+pub use Rattle.grid_core.specs.declared.axes.Axis.TheVariants.{Columns, Rows}
 pub use Rattle.grid_core.specs.steps.Pictures.{values_of}

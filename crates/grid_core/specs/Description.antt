@@ -4,7 +4,7 @@ use Rattle.std.specs.List.{list_all}
 use Rattle.std.specs.declared.alloc.Global.{Global}
 use Rattle.grid_core.specs.declared.fields.Field.{Field}
 use Rattle.grid_core.specs.declared.fields.Field.TheVariants.{Catalogue, Title, By, Copyright, License}
-use Rattle.grid_core.specs.declared.limits.TheConstants.{LONGEST_TEXT}
+use Rattle.grid_core.specs.declared.limits.TheConstants.{MAX_TEXT_LEN}
 
 -- the texts of a puzzle by field, as bytes; each may be absent
 pub record Description : Type 0 where
@@ -44,9 +44,9 @@ with_text d By text = record d { by = Some text }
 with_text d Copyright text = record d { copyright = Some text }
 with_text d License text = record d { license = Some text }
 
--- whether `bytes` are admissible as a text: at most `LONGEST_TEXT` bytes, none of them a line feed
+-- whether `bytes` are admissible as a text: at most `MAX_TEXT_LEN` bytes, none of them a line feed
 abbrev pub is_text : List ℕ → Bool
-is_text bytes = nat_le (length bytes) LONGEST_TEXT && list_all (λ byte. not (byte == 10)) bytes
+is_text bytes = nat_le (length bytes) MAX_TEXT_LEN && list_all (λ byte. not (byte == 10)) bytes
 
 -- whether the text of a field, if there is one, is admissible
 abbrev pub is_field : Option (List ℕ) → Bool

@@ -4,7 +4,7 @@ use Rattle.std.specs.List.{range_with_len}
 use Rattle.grid_core.specs.declared.cells.Cell.{Cell}
 use Rattle.grid_core.specs.declared.cells.Cell.TheVariants.{Unknown, Filled, Blank}
 use Rattle.grid_core.specs.Cells.{is_unknown}
-use Rattle.place_sets.specs.Masks.{Has, has}
+use Rattle.bit_sets.specs.Masks.{Has, has}
 
 -- whether a cell is known to be blank
 abbrev pub is_blank : Cell → Bool
@@ -22,17 +22,17 @@ cell_with false false = Unknown
 -- the cells of a line of `len` cells whose sets are `filled` and `blank`
 abbrev pub line_cells : ℕ → ℕ → ℕ → List Cell
 line_cells len filled blank =
-    map (λ place. cell_with (has filled place) (has blank place)) (range_with_len 0 len)
+    map (λ index. cell_with (has filled index) (has blank index)) (range_with_len 0 len)
 
 -- `line` with the cells at the indices in `places` unknown
-abbrev pub unlearned : ℕ → List Cell → List Cell
-unlearned places line =
-    map (λ k. cond (has places k) Unknown (slice_index_or line k Unknown))
+abbrev pub with_unknown_at : ℕ → List Cell → List Cell
+with_unknown_at indices line =
+    map (λ k. cond (has indices k) Unknown (slice_index_or line k Unknown))
     (range_with_len 0 (length line))
 
 -- `filled` and `blank` are the sets of a line of `len` cells: it has from 1 to `width` cells and at
 -- most 256, no index is in both sets, and each is less than `len`; the invariant of the type
--- `LineOf`
+-- `BitLine`
 pub record IsLine (width len filled blank : ℕ) : Type 0 where
   pub some : 1 ≤ len
   pub short : len ≤ width
@@ -55,6 +55,6 @@ IsUnknownCell cells i = (i < length cells) × (slice_index_or cells i Unknown �
 abbrev pub IsUnknownFrom : List Cell → ℕ → Option ℕ → Type 0
 IsUnknownFrom cells from None = (k : ℕ) → from ≤ k → k < length cells
     → is_unknown (slice_index_or cells k Unknown) ≡ false
-IsUnknownFrom cells from (Some place) =
-    (from ≤ place) × (place < length cells) × (slice_index_or cells place Unknown ≡ Unknown)
-    × ((k : ℕ) → from ≤ k → k < place → is_unknown (slice_index_or cells k Unknown) ≡ false)
+IsUnknownFrom cells from (Some index) =
+    (from ≤ index) × (index < length cells) × (slice_index_or cells index Unknown ≡ Unknown)
+    × ((k : ℕ) → from ≤ k → k < index → is_unknown (slice_index_or cells k Unknown) ≡ false)

@@ -2,9 +2,9 @@
 use Rattle.std.specs.Prelude.{◌≡◌, ℕ, zero, suc, ◌+◌, ◌*◌, List, [], ◌∷◌, ◌++◌, map, length, All, Bool, true, false, Option, Some, None, ◌==◌, slice_index_or, Vec}
 use Rattle.std.specs.declared.alloc.Global.{Global}
 use Rattle.std.specs.List.{enumerate_from, list_all, AllByRecursion}
-use Rattle.grid_core.specs.declared.limits.TheConstants.{LONGEST_SIDE}
-use Rattle.grid_core.specs.declared.sides.Side.{Side}
-use Rattle.grid_core.specs.declared.sides.Side.TheVariants.{Rows, Columns}
+use Rattle.grid_core.specs.declared.limits.TheConstants.{MAX_SIDE}
+use Rattle.grid_core.specs.declared.axes.Axis.{Axis}
+use Rattle.grid_core.specs.declared.axes.Axis.TheVariants.{Rows, Columns}
 use Rattle.grid_core.specs.Clues.{is_clue}
 use Rattle.grid_core.specs.Description.{Description, IsDescription, no_texts}
 use Rattle.grid_core.specs.PartialGrid.{PartialGrid, IsSizeWithin}
@@ -59,39 +59,39 @@ pub record IsNonogramWithin (limit : ℕ) (p : Nonogram) : Type 0 where
 
 -- `p` is a puzzle within the limits; the invariant of the type `Puzzle`
 abbrev pub IsNonogram : Nonogram → Type 0
-IsNonogram p = IsNonogramWithin LONGEST_SIDE p
+IsNonogram p = IsNonogramWithin MAX_SIDE p
 
 -- a line of a grid: the indices of its cells in row order, and its clue
 pub record GridLine : Type 0 where
-  pub places : List ℕ
+  pub indices : List ℕ
   pub clue : List ℕ
 
 -- the indices `first`, `first + step`, `first + 2 * step` and so on; the last argument is their
 -- number
-abbrev pub places_from : ℕ → ℕ → ℕ → List ℕ
-places_from first step zero = []
-places_from first step (suc n) = first ∷ places_from (first + step) step n
+abbrev pub strided_indices : ℕ → ℕ → ℕ → List ℕ
+strided_indices first step zero = []
+strided_indices first step (suc n) = first ∷ strided_indices (first + step) step n
 
 -- the axis whose lines cross those of the given one
-abbrev pub crossing : Side → Side
+abbrev pub crossing : Axis → Axis
 crossing Rows = Columns
 crossing Columns = Rows
 
 -- the indices, in row order, of the cells of line `i` of an axis: consecutive ones for a row, and
 -- ones that are `width` apart for a column
-abbrev pub places_on : Side → ℕ → ℕ → ℕ → List ℕ
-places_on Rows width height i = places_from (i * width) 1 width
-places_on Columns width height i = places_from i width height
+abbrev pub line_indices : Axis → ℕ → ℕ → ℕ → List ℕ
+line_indices Rows width height i = strided_indices (i * width) 1 width
+line_indices Columns width height i = strided_indices i width height
 
 -- the clues of the lines of an axis
-abbrev pub clues_on : Side → Nonogram → List (List ℕ)
+abbrev pub clues_on : Axis → Nonogram → List (List ℕ)
 clues_on Rows p = p.rows
 clues_on Columns p = p.columns
 
 -- the line of an axis whose number and clue are the pair `numbered`
-abbrev pub numbered_line : Side → Nonogram → ℕ × List ℕ → GridLine
-numbered_line side p numbered =
-    record { places = places_on side p.width p.height numbered.0; clue = numbered.1 }
+abbrev pub numbered_line : Axis → Nonogram → ℕ × List ℕ → GridLine
+numbered_line axis p numbered =
+    record { indices = line_indices axis p.width p.height numbered.0; clue = numbered.1 }
 
 -- all lines of `p`: the rows, and then the columns
 abbrev pub lines_of : Nonogram → List GridLine
@@ -99,16 +99,16 @@ lines_of p = map (numbered_line Rows p) (enumerate_from 0 p.rows)
     ++ map (numbered_line Columns p) (enumerate_from 0 p.columns)
 
 -- line `i` of an axis of `p`
-abbrev pub line_on : Side → Nonogram → ℕ → GridLine
-line_on side p i = numbered_line side p (i, slice_index_or (clues_on side p) i [])
+abbrev pub line_on : Axis → Nonogram → ℕ → GridLine
+line_on axis p i = numbered_line axis p (i, slice_index_or (clues_on axis p) i [])
 
 -- the elements of `cells` at the indices `places`, with `d` for each index that is out of range
 abbrev pub cells_at : {X : Type 0} → X → List X → List ℕ → List X
-cells_at d cells places = map (λ k. slice_index_or cells k d) places
+cells_at d cells indices = map (λ k. slice_index_or cells k d) indices
 
 -- the runs of the full grid `full` along `line` are the line's clue
 abbrev pub MeetsLine : List Bool → GridLine → Type 0
-MeetsLine full line = runs (cells_at false full line.places) ≡ line.clue
+MeetsLine full line = runs (cells_at false full line.indices) ≡ line.clue
 
 -- the full grid `full` has as many cells as `p`, and meets the clue of each line
 pub record Meets (p : Nonogram) (full : List Bool) : Type 0 where

@@ -2,7 +2,7 @@
 use Rattle.std.specs.Prelude.{ℕ, ◌+◌, ◌*◌, ◌≤◌, List, slice_index_or}
 use Rattle.grid_core.specs.declared.cells.Cell.{Cell}
 use Rattle.grid_core.specs.declared.cells.Cell.TheVariants.{Unknown}
-use Rattle.grid_core.specs.declared.limits.TheConstants.{LONGEST_SIDE}
+use Rattle.grid_core.specs.declared.limits.TheConstants.{MAX_SIDE}
 
 -- a partly known grid: its width and height, and its cells in row order
 pub record PartialGrid : Type 0 where
@@ -19,12 +19,12 @@ pub record IsSizeWithin (limit width height : ℕ) : Type 0 where
 
 -- `width` and `height` are those of a puzzle: from 1 to 256
 abbrev pub IsSize : ℕ → ℕ → Type 0
-IsSize width height = IsSizeWithin LONGEST_SIDE width height
+IsSize width height = IsSizeWithin MAX_SIDE width height
 
 -- the index, in row order, of the cell of `g` in column `x` and row `y`
-abbrev pub place : PartialGrid → ℕ → ℕ → ℕ
-place g x y = y * g.width + x
+abbrev pub cell_index : PartialGrid → ℕ → ℕ → ℕ
+cell_index g x y = y * g.width + x
 
 -- the cell of `g` in column `x` and row `y`
 abbrev pub cell_at : PartialGrid → ℕ → ℕ → Cell
-cell_at g x y = slice_index_or g.cells (place g x y) Unknown
+cell_at g x y = slice_index_or g.cells (cell_index g x y) Unknown

@@ -1,3 +1,3 @@
 -- The definitions that only contracts of private functions need.
-pub mod Sides
+pub mod Axes
 pub mod Pictures

@@ -37,7 +37,7 @@ impl Cell {
     }
 
     /// Returns the known cell of a colour: filled for `true`, blank for `false`.
-    pub fn of_colour(filled: bool) -> Cell
+    pub fn from_filled(filled: bool) -> Cell
         ensures { result ≡ colour filled }
     {
         if filled { Cell::Filled } else { Cell::Blank }

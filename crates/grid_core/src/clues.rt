@@ -5,7 +5,7 @@ ghost use Rattle.std.specs.List.{list_all};
 ghost use Rattle.grid_core.specs.Clues.{is_clue, is_run};
 
 use crate::NoMemory;
-use crate::limits::{LONGEST_SIDE, MOST_RUNS};
+use crate::limits::{MAX_RUNS, MAX_SIDE};
 use smallvec::SmallVec;
 use std::alloc::{AllocError, Global};
 use std::marker::Model;
@@ -40,13 +40,13 @@ impl Drop for Clue {
 impl Model for Clue {
     ghost use Rattle.std.specs.Prelude.{◌≡◌, ℕ, List, true};
     ghost use Rattle.grid_core.specs.Clues.{is_clue};
-    ghost use Rattle.grid_core.specs.declared.limits.TheConstants.{LONGEST_SIDE};
+    ghost use Rattle.grid_core.specs.declared.limits.TheConstants.{MAX_SIDE};
 
     ghost Value = { List ℕ };
 
     ghost view = { λ clue. clue.numbers.items };
 
-    ghost invariant = { λ clue. is_clue LONGEST_SIDE clue.numbers.items ≡ true };
+    ghost invariant = { λ clue. is_clue MAX_SIDE clue.numbers.items ≡ true };
 }
 
 impl Clue {
@@ -54,9 +54,9 @@ impl Clue {
     /// is 0 or greater than 256, and otherwise with `NoMemory` if an allocation fails.
     pub fn from_numbers(alloc: Global, numbers: &[u16]) -> Result<Clue, ClueFault>
         ensures ok { IfOk result (λ clue. clue ≡ numbers.now) }
-        ensures clue { OnOk result (is_clue LONGEST_SIDE numbers.now ≡ true) }
+        ensures clue { OnOk result (is_clue MAX_SIDE numbers.now ≡ true) }
         ensures bad_number { IsErrOf result ClueFault.BadNumber
-            ↔ (is_clue LONGEST_SIDE numbers.now ≡ false) }
+            ↔ (is_clue MAX_SIDE numbers.now ≡ false) }
     {
         if !is_clue(numbers) {
             return Err(ClueFault::BadNumber);
@@ -83,18 +83,18 @@ impl Clue {
     pub fn push(&mut self, number: u16) -> Result<(), ClueFault>
         ensures ok { OnOk result (self.new ≡ self.old ++ number ∷ []) }
         ensures err { OnErr result (self.new ≡ self.old) }
-        ensures clue { OnOk result (is_clue LONGEST_SIDE (self.old ++ number ∷ []) ≡ true) }
+        ensures clue { OnOk result (is_clue MAX_SIDE (self.old ++ number ∷ []) ≡ true) }
         ensures bad_number { IsErrOf result ClueFault.BadNumber
-            ↔ (is_clue LONGEST_SIDE (self.old ++ number ∷ []) ≡ false) }
+            ↔ (is_clue MAX_SIDE (self.old ++ number ∷ []) ≡ false) }
     {
         // A clue that is stored inline has at most 8 numbers, and whether it is inline is cheaper
         // to test than its length.
-        let full = self.numbers.spilled() && self.numbers.len() == MOST_RUNS;
+        let full = self.numbers.spilled() && self.numbers.len() == MAX_RUNS;
         if full || !is_run(number) {
             return Err(ClueFault::BadNumber);
         }
         if self.numbers.len() == self.numbers.capacity()
-            && self.numbers.reserve(MOST_RUNS).is_err()
+            && self.numbers.reserve(MAX_RUNS).is_err()
         {
             return Err(ClueFault::NoMemory);
         }
@@ -105,7 +105,7 @@ impl Clue {
     /// Returns the numbers, in order.
     pub fn numbers(&self) -> &[u16]
         ensures numbers { result.now ≡ self.now }
-        ensures clue { is_clue LONGEST_SIDE self.now ≡ true }
+        ensures clue { is_clue MAX_SIDE self.now ≡ true }
     {
         self.numbers.as_slice()
     }
@@ -122,21 +122,21 @@ impl Clue {
 
 /// Reports whether `number` can be the length of a run, which is from 1 to 256.
 fn is_run(number: u16) -> bool
-    ensures { result ≡ is_run LONGEST_SIDE number }
+    ensures { result ≡ is_run MAX_SIDE number }
 {
-    (1..=LONGEST_SIDE).contains(&number)
+    (1..=MAX_SIDE).contains(&number)
 }
 
 /// Reports whether each of `numbers` can be the length of a run.
 fn are_runs(numbers: &[u16]) -> bool
-    ensures { result ≡ list_all (is_run LONGEST_SIDE) numbers.now }
+    ensures { result ≡ list_all (is_run MAX_SIDE) numbers.now }
 {
     numbers.iter().all(|number| is_run(*number))
 }
 
 /// Reports whether `numbers` are a clue: at most 128 lengths of runs.
 fn is_clue(numbers: &[u16]) -> bool
-    ensures { result ≡ is_clue LONGEST_SIDE numbers.now }
+    ensures { result ≡ is_clue MAX_SIDE numbers.now }
 {
-    numbers.len() <= MOST_RUNS && are_runs(numbers)
+    numbers.len() <= MAX_RUNS && are_runs(numbers)
 }

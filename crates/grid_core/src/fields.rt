@@ -5,7 +5,7 @@ ghost use Rattle.std.specs.List.{list_all};
 ghost use Rattle.grid_core.specs.Description.{IsDescription, bytes_of, described, is_text, no_texts, text_of, with_text};
 
 use crate::NoMemory;
-use crate::limits::LONGEST_TEXT;
+use crate::limits::MAX_TEXT_LEN;
 use std::alloc::{AllocError, Global};
 use std::boxed::Box;
 use std::marker::Model;
@@ -176,7 +176,7 @@ impl Texts {
 
     /// Brings the invariant of the texts, that each of them is admissible, into the caller's proof.
     /// It has no other effect.
-    pub(crate) fn see(&self)
+    pub(crate) fn recall_invariant(&self)
         ensures { IsDescription self.now }
     {
         let _ = self.get(Field::Title);
@@ -234,5 +234,5 @@ fn has_no_feed(text: &[u8]) -> bool
 fn is_text(text: &[u8]) -> bool
     ensures { result ≡ is_text text.now }
 {
-    text.len() <= LONGEST_TEXT && has_no_feed(text)
+    text.len() <= MAX_TEXT_LEN && has_no_feed(text)
 }

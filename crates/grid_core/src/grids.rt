@@ -2,14 +2,14 @@
 
 ghost use Rattle.std.specs.Prelude.{◌≡◌, ℕ, ◌+◌, ◌*◌, ◌/◌, ◌%◌, ◌<◌, ◌≤◌, [], length, replicate, count_by, position, option_map, vec_capacity, IfOk, slice_index_or, slice_set};
 ghost use Rattle.grid_core.specs.Cells.{is_known, is_unknown};
-ghost use Rattle.grid_core.specs.PartialGrid.{PartialGrid, cell_at, IsSize, place};
-ghost use Rattle.grid_core.specs.KeptRows.{all_rows, AreRowsOf};
+ghost use Rattle.grid_core.specs.PartialGrid.{PartialGrid, cell_at, IsSize, cell_index};
+ghost use Rattle.grid_core.specs.StoredRows.{padded_rows, AreRowsOf};
 ghost use Rattle.grid_core.specs.Rows.{cells_of_rows, row_of, with_row};
 ghost use Rattle.grid_core.specs.declared.cells.Cell.TheVariants.{Unknown};
 
 use crate::rows::Row;
-use crate::{Cell, LineOf, NoMemory};
-use place_sets::{PlaceSet, Wide};
+use crate::{BitLine, Cell, NoMemory};
+use bit_sets::{BitSet, Bits256};
 use std::alloc::Global;
 use std::marker::Model;
 
@@ -39,14 +39,14 @@ impl Model for Grid {
     ghost use Rattle.std.specs.Prelude.{vec_capacity};
     ghost use Rattle.grid_core.specs.PartialGrid.{PartialGrid, IsSize};
     ghost use Rattle.grid_core.specs.Rows.{cells_of_rows};
-    ghost use Rattle.grid_core.specs.KeptRows.{AreRows, all_rows, rows_cells};
+    ghost use Rattle.grid_core.specs.StoredRows.{AreRows, padded_rows, rows_cells};
 
     ghost Value = { PartialGrid };
 
     ghost view = { λ g. record {
       width = g.width;
       height = g.height;
-      cells = cells_of_rows (rows_cells g.width (all_rows g.height g.rows.items));
+      cells = cells_of_rows (rows_cells g.width (padded_rows g.height g.rows.items));
     } };
 
     ghost invariant = { λ g. IsSize g.width g.height
@@ -55,10 +55,10 @@ impl Model for Grid {
 
 /// Appends unknown rows until there are `count`. Allocates nothing: the capacity of `rows` has to
 /// be at least `count`.
-fn fill_up(rows: &mut Vec<Row>, count: usize)
+fn grow_to(rows: &mut Vec<Row>, count: usize)
     requires { count ≤ vec_capacity rows.old }
-    ensures rows { rows.new.items ≡ all_rows count rows.old.items }
-    ensures room { vec_capacity rows.new ≡ vec_capacity rows.old }
+    ensures rows { rows.new.items ≡ padded_rows count rows.old.items }
+    ensures capacity { vec_capacity rows.new ≡ vec_capacity rows.old }
 {
     for _ in 0..count.saturating_sub(rows.len()) {
         rows.push_reserved(Row::unknown());
@@ -67,10 +67,10 @@ fn fill_up(rows: &mut Vec<Row>, count: usize)
 
 /// Replaces the rows by those of `lines`. Allocates nothing: the capacity of `rows` has to be at
 /// least the number of lines.
-fn write_all<W: PlaceSet>(rows: &mut Vec<Row>, lines: &[LineOf<W>])
+fn write_all<W: BitSet>(rows: &mut Vec<Row>, lines: &[BitLine<W>])
     requires { length lines.now ≤ vec_capacity rows.old }
     ensures rows { AreRowsOf lines.now rows.new.items }
-    ensures room { vec_capacity rows.new ≡ vec_capacity rows.old }
+    ensures capacity { vec_capacity rows.new ≡ vec_capacity rows.old }
 {
     rows.clear();
     for line in lines {
@@ -81,7 +81,7 @@ fn write_all<W: PlaceSet>(rows: &mut Vec<Row>, lines: &[LineOf<W>])
 impl Grid {
     /// Returns a grid of unknown cells, or `NoMemory` if an allocation fails. `width` and `height`
     /// have to be from 1 to 256.
-    #[tactic(auto, using(crate::proofs::KeptRows::none_written))]
+    #[tactic(auto, using(crate::proofs::StoredRows::none_written))]
     pub fn unknown(alloc: Global, width: u16, height: u16) -> Result<Grid, NoMemory>
         requires { IsSize width height }
         ensures { IfOk result (λ g. g ≡ record {
@@ -99,7 +99,7 @@ impl Grid {
     }
 
     /// Returns the number of cells in a row, from 1 to 256.
-    #[tactic(auto, using(crate::proofs::KeptRows::counted))]
+    #[tactic(auto, using(crate::proofs::StoredRows::counted))]
     pub fn width(&self) -> u16
         ensures width { result ≡ self.now.width }
         ensures size { IsSize self.now.width self.now.height }
@@ -116,15 +116,15 @@ impl Grid {
     }
 
     /// Returns row `y`, counted from 0 at the top.
-    #[tactic(auto, using(crate::proofs::KeptRows::counted))]
-    pub fn row(&self, y: u16) -> LineOf<Wide>
+    #[tactic(auto, using(crate::proofs::StoredRows::counted))]
+    pub fn row(&self, y: u16) -> BitLine<Bits256>
         requires { y < self.now.height }
         ensures row { result ≡ row_of self.now y }
         ensures count { length self.now.cells ≡ self.now.width * self.now.height }
     {
         match self.rows.get(usize::from(y)) {
             Some(row) => row.line(self.width),
-            None => LineOf::unknown(self.width),
+            None => BitLine::unknown(self.width),
         }
     }
 
@@ -140,22 +140,22 @@ impl Grid {
     }
 
     /// Returns the column and the row of the cell at index `place` in row order.
-    fn column_and_row(&self, place: usize) -> (u16, u16)
-        requires { place < length self.now.cells }
+    fn column_and_row(&self, index: usize) -> (u16, u16)
+        requires { index < length self.now.cells }
         ensures column { result.0 < self.now.width }
         ensures row { result.1 < self.now.height }
-        ensures place { result.1 * self.now.width + result.0 ≡ place }
+        ensures index { result.1 * self.now.width + result.0 ≡ index }
     {
         let width = usize::from(self.width());
-        ((place % width) as u16, (place / width) as u16)
+        ((index % width) as u16, (index / width) as u16)
     }
 
     /// Returns the cell at index `place` in row order.
-    pub fn at(&self, place: usize) -> Cell
-        requires { place < length self.now.cells }
-        ensures { result ≡ slice_index_or self.now.cells place Unknown }
+    pub fn get_index(&self, index: usize) -> Cell
+        requires { index < length self.now.cells }
+        ensures { result ≡ slice_index_or self.now.cells index Unknown }
     {
-        let (x, y) = self.column_and_row(place);
+        let (x, y) = self.column_and_row(index);
         self.get(x, y)
     }
 
@@ -165,7 +165,7 @@ impl Grid {
         requires column { x < self.old.width }
         requires row { y < self.old.height }
         ensures { self.new
-            ≡ record self.old { cells = slice_set self.old.cells (place self.old x y) cell } }
+            ≡ record self.old { cells = slice_set self.old.cells (cell_index self.old x y) cell } }
     {
         let mut row = self.row(y);
         row.set(x, cell);
@@ -173,29 +173,29 @@ impl Grid {
     }
 
     /// Replaces the cell at index `place` in row order by `cell`, which may also be unknown.
-    pub fn set_at(&mut self, place: usize, cell: Cell)
-        requires { place < length self.old.cells }
-        ensures { self.new ≡ record self.old { cells = slice_set self.old.cells place cell } }
+    pub fn set_index(&mut self, index: usize, cell: Cell)
+        requires { index < length self.old.cells }
+        ensures { self.new ≡ record self.old { cells = slice_set self.old.cells index cell } }
     {
-        let (x, y) = self.column_and_row(place);
+        let (x, y) = self.column_and_row(index);
         self.set(x, y, cell);
     }
 
     /// Replaces the cells of row `y` by those of `line`, which has to be as long as the row.
-    #[tactic(auto, using(crate::proofs::KeptRows::counted))]
-    pub fn write_row<W: PlaceSet>(&mut self, y: u16, line: &LineOf<W>)
+    #[tactic(auto, using(crate::proofs::StoredRows::counted))]
+    pub fn write_row<W: BitSet>(&mut self, y: u16, line: &BitLine<W>)
         requires row { y < self.old.height }
         requires width { self.old.width ≡ length line.now }
         ensures row { self.new ≡ with_row self.old y line.now }
         ensures count { length self.old.cells ≡ self.old.width * self.old.height }
     {
-        let place = usize::from(y);
-        fill_up(&mut self.rows, place + 1);
-        self.rows[place] = Row::of(line);
+        let index = usize::from(y);
+        grow_to(&mut self.rows, index + 1);
+        self.rows[index] = Row::of(line);
     }
 
     /// Replaces all cells by those of `lines`, one line for each row, from the top.
-    pub fn write_rows<W: PlaceSet>(&mut self, lines: &[LineOf<W>])
+    pub fn write_rows<W: BitSet>(&mut self, lines: &[BitLine<W>])
         requires height { length lines.now ≡ self.old.height }
         requires widths { (y : ℕ) → y < length lines.now
             → length (slice_index_or lines.now y []) ≡ self.old.width }
@@ -206,13 +206,13 @@ impl Grid {
 
     /// Copies the cells of row `y` to `line`, which has to be as long as the row.
     #[tactic(auto, using(crate::proofs::RowLists::rows_read))]
-    pub fn read_row<W: PlaceSet>(&self, y: u16, line: &mut LineOf<W>)
+    pub fn load_row<W: BitSet>(&self, y: u16, line: &mut BitLine<W>)
         requires row { y < self.now.height }
         requires width { self.now.width ≡ length line.old }
         ensures cells { line.new ≡ row_of self.now y }
         ensures count { length self.now.cells ≡ self.now.width * self.now.height }
     {
-        line.read(&self.row(y));
+        line.load(&self.row(y));
     }
 
     /// Returns the number of known cells.
@@ -220,8 +220,8 @@ impl Grid {
         ensures { result ≡ count_by is_known self.now.cells }
     {
         let mut known = 0;
-        for place in 0..usize::from(self.width()) * usize::from(self.height()) {
-            if self.at(place).is_known() {
+        for index in 0..usize::from(self.width()) * usize::from(self.height()) {
+            if self.get_index(index).is_known() {
                 known += 1;
             }
         }

@@ -1,9 +1,9 @@
 //! Laws of the definitions, each stated as the contract of a function that does nothing.
 
 ghost use Rattle.std.specs.Prelude.{List, Bool, ◌≡◌};
-ghost use Rattle.grid_core.specs.declared.limits.TheConstants.{LONGEST_SIDE, LONGEST_TEXT, MOST_RUNS};
+ghost use Rattle.grid_core.specs.declared.limits.TheConstants.{MAX_SIDE, MAX_TEXT_LEN, MAX_RUNS};
 ghost use Rattle.grid_core.specs.Nonogram.{Nonogram};
-ghost use Rattle.grid_core.specs.Reading.{ColumnIsStride, RowIsRange};
+ghost use Rattle.grid_core.specs.Indexing.{ColumnIsStride, RowIsRange};
 
 /// In a grid of width w, row y consists of the w cells from index y · w on, in row order.
 #[tactic(auto, using(crate::proofs::LineLaws::lines_lie))]
@@ -20,7 +20,7 @@ pub fn columns_are_strides()
 
 /// The limits on puzzles have these values.
 pub fn limits_are_numbers()
-    ensures side { LONGEST_SIDE ≡ 256 }
-    ensures runs { MOST_RUNS ≡ 128 }
-    ensures text { LONGEST_TEXT ≡ 65536 }
+    ensures side { MAX_SIDE ≡ 256 }
+    ensures runs { MAX_RUNS ≡ 128 }
+    ensures text { MAX_TEXT_LEN ≡ 65536 }
 {}

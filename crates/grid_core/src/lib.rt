@@ -1,6 +1,7 @@
 //! Clues, puzzles and partly known grids of nonograms.
 #![tactic(auto)]
 
+mod axes;
 mod cells;
 mod clues;
 mod fields;
@@ -13,15 +14,14 @@ mod pictures;
 mod puzzles;
 mod rows;
 mod runs;
-mod sides;
 
+pub use axes::Axis;
 pub use cells::Cell;
 pub use clues::{Clue, ClueFault};
 pub use fields::{Field, Texts, TextsFault};
 pub use grids::Grid;
-pub use limits::{LONGEST_SIDE, LONGEST_TEXT, MOST_RUNS};
-pub use lines::LineOf;
+pub use limits::{MAX_RUNS, MAX_SIDE, MAX_TEXT_LEN};
+pub use lines::BitLine;
 pub use memory::NoMemory;
 pub use puzzles::{GoalWord, Puzzle, PuzzleFault};
 pub use runs::has_runs;
-pub use sides::Side;

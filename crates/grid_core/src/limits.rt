@@ -1,10 +1,10 @@
 //! The limits on puzzles.
 
 /// The greatest width and height of a puzzle, in cells, and the greatest number in a clue.
-pub const LONGEST_SIDE: u16 = 256;
+pub const MAX_SIDE: u16 = 256;
 
 /// The greatest number of runs in a clue.
-pub const MOST_RUNS: usize = 128;
+pub const MAX_RUNS: usize = 128;
 
 /// The greatest length, in bytes, of each of a puzzle's five texts (its title, for example).
-pub const LONGEST_TEXT: usize = 65_536;
+pub const MAX_TEXT_LEN: usize = 65_536;

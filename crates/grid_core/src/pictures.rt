@@ -1,11 +1,11 @@
 //! Pictures: the colours of all cells, and whether they meet the clues.
 
 ghost use Rattle.std.specs.Prelude.{◌≡◌, ◌+◌, ◌*◌, ◌^◌, ◌<◌, ◌≤◌, ◌↔◌, ℕ, false, length, IsTrue, slice_index_or};
-ghost use Rattle.grid_core.specs.Nonogram.{Meets, MeetsLine, cells_at, line_on, places_from};
+ghost use Rattle.grid_core.specs.Nonogram.{Meets, MeetsLine, cells_at, line_on, strided_indices};
 ghost use Rattle.grid_core.specs.steps.Pictures.{values_of};
-ghost use Rattle.grid_core.specs.declared.sides.Side.TheVariants.{Rows, Columns};
+ghost use Rattle.grid_core.specs.declared.axes.Axis.TheVariants.{Rows, Columns};
 
-use crate::limits::LONGEST_SIDE;
+use crate::limits::MAX_SIDE;
 use crate::runs::has_runs;
 use crate::{Clue, Grid, Puzzle};
 
@@ -20,13 +20,13 @@ pub(crate) enum Picture<'a> {
 
 impl Picture<'_> {
     /// Reports whether the cell at index `place` in row order is filled.
-    fn is_filled(self, place: usize) -> bool
-        requires { place < length (values_of self) }
-        ensures { result ≡ slice_index_or (values_of self.entry) place false }
+    fn is_filled(self, index: usize) -> bool
+        requires { index < length (values_of self) }
+        ensures { result ≡ slice_index_or (values_of self.entry) index false }
     {
         match self {
-            Picture::Cells(grid) => grid.at(place).is_filled(),
-            Picture::Values(values) => values[place],
+            Picture::Cells(grid) => grid.get_index(index).is_filled(),
+            Picture::Values(values) => values[index],
         }
     }
 }
@@ -38,7 +38,7 @@ fn read_line(picture: Picture<'_>, first: usize, step: usize, line: &mut [bool])
     requires within { (i : ℕ) → i < length line.old
         → first + i * step < length (values_of picture) }
     ensures { line.new
-        ≡ cells_at false (values_of picture.entry) (places_from first step (length line.old)) }
+        ≡ cells_at false (values_of picture.entry) (strided_indices first step (length line.old)) }
 {
     for i in 0..line.len() {
         line[i] = picture.is_filled(first + i * step);
@@ -49,13 +49,13 @@ fn read_line(picture: Picture<'_>, first: usize, step: usize, line: &mut [bool])
 /// `first` in row order, and each `step` cells further on.
 fn is_line_met(picture: Picture<'_>, first: usize, step: usize, count: u16, clue: &Clue) -> bool
     requires small { length (values_of picture) < 2 ^ 63 }
-    requires short { count ≤ LONGEST_SIDE }
+    requires short { count ≤ MAX_SIDE }
     requires within { (i : ℕ) → i < count → first + i * step < length (values_of picture) }
     ensures { IsTrue result ↔ MeetsLine (values_of picture.entry)
-        (record { places = places_from first step count; clue = clue.now }) }
+        (record { indices = strided_indices first step count; clue = clue.now }) }
 {
     // An array for the longest line, since an allocation could fail.
-    let mut cells = [false; LONGEST_SIDE as usize];
+    let mut cells = [false; MAX_SIDE as usize];
     let line = &mut cells[..usize::from(count)];
     read_line(picture, first, step, line);
     has_runs(line, clue.numbers())

@@ -6,7 +6,7 @@ ghost use Rattle.grid_core.specs.Clues.{is_clue};
 ghost use Rattle.grid_core.specs.Nonogram.{GoalMeets, IsNonogram, HasClueForEachLine, Solves, bools_of, is_goal};
 ghost use Rattle.grid_core.specs.PartialGrid.{IsSize};
 
-use crate::limits::LONGEST_SIDE;
+use crate::limits::MAX_SIDE;
 use crate::pictures::{Picture, is_met};
 use crate::{Cell, Clue, Grid, NoMemory, Texts};
 use std::alloc::Global;
@@ -122,7 +122,7 @@ impl Puzzle {
             ↔ (IsSize width height × HasClueForEachLine width height rows.items columns.items
             × (is_goal (width * height) (bools_of goal) ≡ false)) }
     {
-        if !(1..=LONGEST_SIDE).contains(&width) || !(1..=LONGEST_SIDE).contains(&height) {
+        if !(1..=MAX_SIDE).contains(&width) || !(1..=MAX_SIDE).contains(&height) {
             return Err(PuzzleFault::BadSize);
         }
         if rows.len() != usize::from(height) || columns.len() != usize::from(width) {
@@ -132,9 +132,9 @@ impl Puzzle {
             return Err(PuzzleFault::BadGoal);
         }
         // These three calls do nothing but bring the invariants of the parts into the proof.
-        see_clues(&rows);
-        see_clues(&columns);
-        texts.see();
+        recall_invariant(&rows);
+        recall_invariant(&columns);
+        texts.recall_invariant();
         Ok(Puzzle {
             width,
             height,
@@ -290,10 +290,10 @@ fn is_goal(count: usize, goal: &Option<Vec<bool>>) -> bool
 
 /// Brings the invariant of each clue, that its numbers are in range and not too many, into the
 /// caller's proof. It has no other effect.
-fn see_clues(mut clues: &[Clue])
-    ensures { AllByRecursion (λ clue. is_clue LONGEST_SIDE clue ≡ true) clues.entry.now }
+fn recall_invariant(mut clues: &[Clue])
+    ensures { AllByRecursion (λ clue. is_clue MAX_SIDE clue ≡ true) clues.entry.now }
 {
-    'seeing: while let [clue, rest @ ..] = clues {
+    'recalling: while let [clue, rest @ ..] = clues {
         clue.numbers();
         clues = rest;
     }

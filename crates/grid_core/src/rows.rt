@@ -1,16 +1,16 @@
 //! The rows of a grid as they are stored: without their length, which is the grid's width.
 
 ghost use Rattle.std.specs.Prelude.{◌≡◌, ◌≤◌, length};
-ghost use Rattle.grid_core.specs.KeptRows.{IsRow, row_cells, unknown_row};
+ghost use Rattle.grid_core.specs.StoredRows.{IsStoredRow, row_cells, unknown_row};
 
-use crate::LineOf;
-use place_sets::{PlaceSet, Wide};
+use crate::BitLine;
+use bit_sets::{BitSet, Bits256};
 
 /// A row of a grid: the indices of its filled cells, and those of its blank cells.
 #[derive(Clone, Copy, Debug)]
 pub(crate) struct Row {
-    filled: Wide,
-    blank: Wide,
+    filled: Bits256,
+    blank: Bits256,
 }
 
 impl Row {
@@ -19,16 +19,16 @@ impl Row {
         ensures { result ≡ unknown_row }
     {
         Row {
-            filled: Wide::empty(),
-            blank: Wide::empty(),
+            filled: Bits256::empty(),
+            blank: Bits256::empty(),
         }
     }
 
     /// Returns the cells of `line` as a row.
-    #[tactic(auto, using(crate::proofs::LineCells::length_seen), unfolding(crate::specs::KeptRows::IsRow))]
-    pub(crate) fn of<W: PlaceSet>(line: &LineOf<W>) -> Row
+    #[tactic(auto, using(crate::proofs::LineCells::length_seen), unfolding(crate::specs::StoredRows::IsStoredRow))]
+    pub(crate) fn of<W: BitSet>(line: &BitLine<W>) -> Row
         ensures cells { row_cells (length line.now) result ≡ line.now }
-        ensures row { IsRow (length line.now) result }
+        ensures row { IsStoredRow (length line.now) result }
     {
         Row {
             filled: line.filled.widened(),
@@ -37,11 +37,11 @@ impl Row {
     }
 
     /// Returns the row as a line of `width` cells.
-    #[tactic(auto, unfolding(crate::specs::KeptRows::IsRow))]
-    pub(crate) fn line(&self, width: u16) -> LineOf<Wide>
-        requires { IsRow width self.now }
+    #[tactic(auto, unfolding(crate::specs::StoredRows::IsStoredRow))]
+    pub(crate) fn line(&self, width: u16) -> BitLine<Bits256>
+        requires { IsStoredRow width self.now }
         ensures { result ≡ row_cells width self.now }
     {
-        LineOf::of_sets(width, self.filled, self.blank)
+        BitLine::from_sets(width, self.filled, self.blank)
     }
 }

@@ -1,7 +1,7 @@
 -- Lemmas on a collector's turn at a lane: what its loops keep, and how its three parts make up a turn.
-use Rattle.lane_core.proofs.Names.{Finish, rules, ◌≡◌, ◌⊎◌, inl, inr, ℕ, List, [], ◌∷◌, ◌++◌, length, ◌∙◌, append_assoc, length-append, arith, IsPrefix, jobs_of, has_finish, FrontLists, PutsMessage, MayRefuse, Deals, Grows, Job, Answer, Message, Work}
+use Rattle.lane_core.proofs.Names.{Finish, rules, ◌≡◌, ◌⊎◌, inl, inr, ℕ, List, [], ◌∷◌, ◌++◌, length, ◌∙◌, append_assoc, length-append, arith, IsPrefix, jobs_of, has_finish, FrontLists, PutsMessage, MayRefuse, Deals, Grows, Job, Answer, Message, NewJob}
 use Rattle.lane_core.specs.steps.Dealing.{Sends, Asks, Takes}
-use Rattle.lane_core.proofs.MessagesLemmas.{jobs_of-append, jobs_of-push_finish, has_finish-push_work, has_finish-push_finish}
+use Rattle.lane_core.proofs.MessagesLemmas.{jobs_of-append, jobs_of-push_finish, has_finish-push_new_job, has_finish-push_finish}
 use Rattle.lane_core.proofs.LaneLemmas.{prefix_more}
 
 -- sending jobs from `waiting` has led from `old` to `now`, and the jobs `left` are not yet sent
@@ -13,11 +13,11 @@ pub record SentSoFar (old now : FrontLists) (waiting left : List Job) : Type 0 w
 
 -- once the first job that is left is sent too, the same holds of the others, and something was sent
 pub SentSoFar-more : (old now new : FrontLists) (waiting all left : List Job) (job : Job) →
-    SentSoFar old now waiting all → all ≡ job ∷ left → PutsMessage (Work job) now new
+    SentSoFar old now waiting all → all ≡ job ∷ left → PutsMessage (NewJob job) now new
     → SentSoFar old new waiting left × Grows old new
 SentSoFar-more old now new waiting all left job s e p =
-    let sent = prefix_more old.sent now.sent (Work job ∷ []) s.sent in (
-      search (rules, p.sent, p.received, jobs_of-append, append_assoc, rw e at s.jobs, s.received, has_finish-push_work, s.finish),
+    let sent = prefix_more old.sent now.sent (NewJob job ∷ []) s.sent in (
+      search (rules, p.sent, p.received, jobs_of-append, append_assoc, rw e at s.jobs, s.received, has_finish-push_new_job, s.finish),
       rw (p.sent, p.received, s.received, ← s.sent.1) (omega (arith, length-append {A = Message})),
     )
 

@@ -1,6 +1,6 @@
 -- What holds of a lane after any events, and that each step of its back keeps its answers in order.
-use Rattle.lane_core.proofs.Names.{arith, rules, ◌≡◌, inl, inr, ℕ, true, List, [], ◌∷◌, ◌++◌, refl, ap, sym, ◌∙◌, append_assoc, append-nil, Option, Some, None, option_to_list, IsPrefix, jobs_of, finish_is_last, IsAnswerTo, AreAnswersTo, BackLists, Lane, Event, Put_message, Take_message, Put_answer, Receive_answer, IsHeldFor, TakesMessage, Happens, Run, opening, IsAnswered, StepsBeforeFinish, Job, Answer, Message, Work, Step, Graded, Waiting}
-use Rattle.lane_core.specs.steps.Offer.{IsOffered}
+use Rattle.lane_core.proofs.Names.{arith, rules, ◌≡◌, inl, inr, ℕ, true, List, [], ◌∷◌, ◌++◌, refl, ap, sym, ◌∙◌, append_assoc, append-nil, Option, Some, None, option_to_list, IsPrefix, jobs_of, finish_is_last, IsAnswerTo, AreAnswersTo, BackLists, Lane, Event, Put_message, Take_message, Put_answer, Receive_answer, IsHeldFor, TakesMessage, Happens, Run, initial_lane, IsAnswered, StepsBeforeFinish, Job, Answer, Message, NewJob, Step, Graded, Waiting}
+use Rattle.lane_core.specs.steps.PutOrHold.{IsPutOrHeld}
 use Rattle.lane_core.proofs.MessagesLemmas.{jobs_of-append, jobs_of-push_finish, finish_is_last-push}
 use Rattle.lane_core.proofs.AnswersLemmas.{AreAnswersTo-push}
 
@@ -8,7 +8,7 @@ use Rattle.lane_core.proofs.AnswersLemmas.{AreAnswersTo-push}
 taken_is_answered : (message : Message) (taken : List Message) (put : List Answer) (held : Option Answer) →
     IsHeldFor message held → AreAnswersTo (jobs_of taken) (put ++ [])
     → AreAnswersTo (jobs_of (taken ++ message ∷ [])) (put ++ option_to_list held)
-taken_is_answered (Work job) taken put (Some answer) h all =
+taken_is_answered (NewJob job) taken put (Some answer) h all =
     rw jobs_of-append (AreAnswersTo-push (jobs_of taken) put job answer (rw append-nil at all) h)
 taken_is_answered message taken put held h all = grind (arith, jobs_of-push_finish)
 
@@ -48,43 +48,43 @@ IsLawful-after [] old new l r = rw r l
 IsLawful-after (event ∷ events) old new l r = IsLawful-after events r.0 new (IsLawful-happens event old r.0 l r.1) r.2
 
 -- `IsLawful` holds after any events from a newly opened lane
-pub IsLawful-run : (capacity : ℕ) (events : List Event) (lane : Lane) → Run (opening capacity) events lane → IsLawful lane
+pub IsLawful-run : (capacity : ℕ) (events : List Event) (lane : Lane) → Run (initial_lane capacity) events lane → IsLawful lane
 IsLawful-run capacity events lane =
-    IsLawful-after events (opening capacity) lane
+    IsLawful-after events (initial_lane capacity) lane
     (record { answered = tt; taken = ([], refl); received = ([], refl); last = refl })
 
 -- putting the held answer, or holding it again, is a step
-pub StepsBeforeFinish-offer_held : (capacity : ℕ) (answer : Answer) (result : Step) (old new : BackLists) →
-    old.held ≡ Some answer → new.taken ≡ old.taken → IsOffered capacity answer result old.put new.put new.held
+pub StepsBeforeFinish-put_held : (capacity : ℕ) (answer : Answer) (result : Step) (old new : BackLists) →
+    old.held ≡ Some answer → new.taken ≡ old.taken → IsPutOrHeld capacity answer result old.put new.put new.held
     → StepsBeforeFinish capacity result old new
-StepsBeforeFinish-offer_held capacity answer Graded old new h t o = inl (answer, record { was_held = h; taken = t; held = o.1; put = o.0 })
-StepsBeforeFinish-offer_held capacity answer Waiting old new h t o = search rules
-StepsBeforeFinish-offer_held capacity answer result old new h t o = absurd o
+StepsBeforeFinish-put_held capacity answer Graded old new h t o = inl (answer, record { was_held = h; taken = t; held = o.1; put = o.0 })
+StepsBeforeFinish-put_held capacity answer Waiting old new h t o = search rules
+StepsBeforeFinish-put_held capacity answer result old new h t o = absurd o
 
 -- taking a job and putting or holding its answer is a step
-pub StepsBeforeFinish-offer_taken : (capacity : ℕ) (job : Job) (answer : Answer) (result : Step) (old new : BackLists) →
-    old.held ≡ None → new.taken ≡ old.taken ++ Work job ∷ [] → IsAnswerTo job answer
-    → IsOffered capacity answer result old.put new.put new.held → StepsBeforeFinish capacity result old new
-StepsBeforeFinish-offer_taken capacity job answer Graded old new h t a o =
+pub StepsBeforeFinish-put_taken : (capacity : ℕ) (job : Job) (answer : Answer) (result : Step) (old new : BackLists) →
+    old.held ≡ None → new.taken ≡ old.taken ++ NewJob job ∷ [] → IsAnswerTo job answer
+    → IsPutOrHeld capacity answer result old.put new.put new.held → StepsBeforeFinish capacity result old new
+StepsBeforeFinish-put_taken capacity job answer Graded old new h t a o =
     inr (
       record { taken = new.taken; held = Some answer; put = old.put },
-      (Work job, record { free = h; taken = t; held = a; put = refl }),
+      (NewJob job, record { free = h; taken = t; held = a; put = refl }),
       (answer, record { was_held = refl; taken = refl; held = o.1; put = o.0 }),
     )
-StepsBeforeFinish-offer_taken capacity job answer Waiting old new h t a o =
-    (inr (Work job, record { free = h; taken = t; held = rw o.1 a; put = o.0 }), grind arith, grind arith)
-StepsBeforeFinish-offer_taken capacity job answer result old new h t a o = absurd o
+StepsBeforeFinish-put_taken capacity job answer Waiting old new h t a o =
+    (inr (NewJob job, record { free = h; taken = t; held = rw o.1 a; put = o.0 }), grind arith, grind arith)
+StepsBeforeFinish-put_taken capacity job answer result old new h t a o = absurd o
 
 -- whether the new answer was put or is held, it is the last one
-IsOffered-all : (capacity : ℕ) (answer : Answer) (result : Step) (old new : List Answer) (held : Option Answer) →
-    IsOffered capacity answer result old new held → new ++ option_to_list held ≡ old ++ answer ∷ []
-IsOffered-all capacity answer result old new held o = grind (arith, append-nil)
+IsPutOrHeld-all : (capacity : ℕ) (answer : Answer) (result : Step) (old new : List Answer) (held : Option Answer) →
+    IsPutOrHeld capacity answer result old new held → new ++ option_to_list held ≡ old ++ answer ∷ []
+IsPutOrHeld-all capacity answer result old new held o = grind (arith, append-nil)
 
 -- taking a job and putting or holding its answer keeps that the answers are those to the jobs taken
-pub offered_is_answered : (capacity : ℕ) (job : Job) (answer : Answer) (result : Step) (old new : BackLists) →
-    old.held ≡ None → new.taken ≡ old.taken ++ Work job ∷ [] → IsAnswerTo job answer
-    → IsOffered capacity answer result old.put new.put new.held → IsAnswered old → IsAnswered new
-offered_is_answered capacity job answer result old new free t a o all =
-    rw (IsOffered-all capacity answer result old.put new.put new.held o)
-    (TakesMessage-answered (Work job) old (record { taken = new.taken; held = Some answer; put = old.put })
+pub put_or_held_is_answered : (capacity : ℕ) (job : Job) (answer : Answer) (result : Step) (old new : BackLists) →
+    old.held ≡ None → new.taken ≡ old.taken ++ NewJob job ∷ [] → IsAnswerTo job answer
+    → IsPutOrHeld capacity answer result old.put new.put new.held → IsAnswered old → IsAnswered new
+put_or_held_is_answered capacity job answer result old new free t a o all =
+    rw (IsPutOrHeld-all capacity answer result old.put new.put new.held o)
+    (TakesMessage-answered (NewJob job) old (record { taken = new.taken; held = Some answer; put = old.put })
     (record { free = free; taken = t; held = a; put = refl }) all)

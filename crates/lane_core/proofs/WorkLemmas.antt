@@ -35,8 +35,8 @@ pub work_last : (capacity capacity' : ℕ) (result : Step) (front : FrontLists) 
     capacity' ≡ capacity → old' ≡ old → Steps capacity' result old' new → old.taken ++ known ≡ front.sent →
     (result ≡ Idle → length known ≡ 0) → ((result ≡ Done) ↔ IsFinished new) → result ≢ Graded →
     Works capacity old new × IsWorkDone capacity front new
-work_last capacity capacity' result front old old' new known room same s fifo idle done other =
-    let step = rw (room, same) at s in
+work_last capacity capacity' result front old old' new known same_capacity same s fifo idle done other =
+    let step = rw (same_capacity, same) at s in
     (Works-one capacity result old new step, work_ends capacity result front old new known step fifo idle done other)
 
 -- steps that follow other steps
@@ -48,4 +48,5 @@ StepRun-append capacity (step ∷ steps) more old mid new r s = (r.0, r.1, StepR
 -- work that follows other work, where the capacity is known by another name
 pub Works-more : (capacity capacity' : ℕ) (old mid new : BackLists) → capacity' ≡ capacity → Works capacity old mid
     → Works capacity' mid new → Works capacity old new
-Works-more capacity capacity' old mid new room r s = (r.0 ++ s.0, StepRun-append capacity r.0 s.0 old mid new r.1 (rw room at s.1))
+Works-more capacity capacity' old mid new same_capacity r s =
+    (r.0 ++ s.0, StepRun-append capacity r.0 s.0 old mid new r.1 (rw same_capacity at s.1))

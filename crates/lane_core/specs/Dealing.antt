@@ -3,7 +3,7 @@ use Rattle.std.specs.Prelude.{◌≡◌, ℕ, ◌+◌, ◌<◌, ◌≤◌, ◌�
 use mathlib.Core.List.{IsPrefix}
 use Rattle.lane_core.specs.Messages.{has_finish, jobs_of}
 use Rattle.lane_core.specs.Lane.{FrontLists}
-use Rattle.lane_core.specs.declared.dealing.TheConstants.{MOST_TAKEN}
+use Rattle.lane_core.specs.declared.dealing.TheConstants.{MAX_TAKEN}
 use Rattle.lane_core.specs.declared.jobs.Job.{Job}
 use Rattle.lane_core.specs.declared.answers.Answer.{Answer}
 
@@ -12,12 +12,12 @@ use Rattle.lane_core.specs.declared.answers.Answer.{Answer}
 abbrev pub MayRefuse : ℕ → FrontLists → Type 0
 MayRefuse capacity front = (has_finish front.sent ≡ true) ⊎ (capacity ≤ length front.sent)
 
--- the answers `fresh`, at most `MOST_TAKEN`, were received and appended to `got`, which became
+-- the answers `fresh`, at most `MAX_TAKEN`, were received and appended to `got`, which became
 -- `got'`
 pub record Receives (old new : FrontLists) (got got' fresh : List Answer) : Type 0 where
   pub received : new.received ≡ old.received ++ fresh
   pub kept : got' ≡ got ++ fresh
-  pub few : length fresh ≤ MOST_TAKEN
+  pub few : length fresh ≤ MAX_TAKEN
 
 -- a call of `deal` at a lane of `capacity` leads from `old`, `waiting` and `got` to `new`,
 -- `waiting'` and `got'`

@@ -5,7 +5,7 @@ use Rattle.lane_core.specs.Messages.{has_finish, jobs_of}
 use Rattle.lane_core.specs.Answers.{IsAnswerTo, AreAnswersTo}
 use Rattle.lane_core.specs.declared.answers.Answer.{Answer}
 use Rattle.lane_core.specs.declared.messages.Message.{Message}
-use Rattle.lane_core.specs.declared.messages.Message.TheVariants.{Work, Finish}
+use Rattle.lane_core.specs.declared.messages.Message.TheVariants.{NewJob, Finish}
 
 -- the messages that the front has sent, and the answers that it has received
 pub record FrontLists : Type 0 where
@@ -25,21 +25,21 @@ pub record Lane : Type 0 where
   pub back : BackLists
 
 -- the front of a newly opened lane: nothing was sent or received
-abbrev pub opening_front : FrontLists
-opening_front = record { sent = []; received = [] }
+abbrev pub initial_front : FrontLists
+initial_front = record { sent = []; received = [] }
 
 -- the back of a newly opened lane: nothing was taken or put, and nothing is held
-abbrev pub opening_back : BackLists
-opening_back = record { taken = []; held = None; put = [] }
+abbrev pub initial_back : BackLists
+initial_back = record { taken = []; held = None; put = [] }
 
 -- a newly opened lane of a capacity
-abbrev pub opening : ℕ → Lane
-opening capacity = record { capacity = capacity; front = opening_front; back = opening_back }
+abbrev pub initial_lane : ℕ → Lane
+initial_lane capacity = record { capacity = capacity; front = initial_front; back = initial_back }
 
 -- what is held once a message was taken: the answer to its job, or nothing after the finish
 abbrev pub IsHeldFor : Message → Option Answer → Type 0
-IsHeldFor (Work job) (Some answer) = IsAnswerTo job answer
-IsHeldFor (Work job) None = ⊥
+IsHeldFor (NewJob job) (Some answer) = IsAnswerTo job answer
+IsHeldFor (NewJob job) None = ⊥
 IsHeldFor Finish (Some answer) = ⊥
 IsHeldFor Finish None = Unit {0}
 

@@ -1,4 +1,4 @@
 -- The definitions that only contracts of private functions use.
 pub mod Dealing
-pub mod Offer
+pub mod PutOrHold
 pub mod WorkLeft

@@ -104,7 +104,7 @@ impl Answer {
             Holds (picked self.now.pick self.now.puzzle.width)
             self.now.puzzle self.now.guesses found.now.verdict) }
     {
-        see_puzzle(&self.puzzle);
+        recall_invariant(&self.puzzle);
         match &self.outcome {
             Ok(found) => Ok(found),
             Err(refused) => Err(*refused),
@@ -114,7 +114,7 @@ impl Answer {
 
 /// Brings the invariant of `puzzle`, that it is a nonogram, into the caller's proof. It has no
 /// other effect.
-fn see_puzzle(puzzle: &Puzzle)
+fn recall_invariant(puzzle: &Puzzle)
     ensures { IsNonogram puzzle.now }
 {
     // Called for its contract, which states the invariant.

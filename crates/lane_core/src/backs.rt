@@ -2,7 +2,7 @@
 
 ghost use Rattle.std.specs.Prelude.{◌≡◌, ◌+◌, ◌≤◌, ◌++◌, length, true, is_none, option_to_list};
 ghost use Rattle.rtrb.specs.Ring.{sent, received, known_free, producer_capacity, SameProducer};
-ghost use Rattle.lane_core.specs.steps.Offer.{IsOffered};
+ghost use Rattle.lane_core.specs.steps.PutOrHold.{IsPutOrHeld};
 ghost use Rattle.lane_core.specs.Messages.{has_finish, jobs_of};
 ghost use Rattle.lane_core.specs.Answers.{AreAnswersTo};
 
@@ -17,14 +17,14 @@ use std::alloc::Global;
 
 /// Puts an answer into the ring, or holds it if the ring is full.
 /// Returns `Graded` in the first case and `Waiting` in the second.
-fn offer(answers: &mut Producer<Answer>, held: &mut Option<Answer>, answer: Answer) -> Step
+fn put_or_hold(answers: &mut Producer<Answer>, held: &mut Option<Answer>, answer: Answer) -> Step
     requires free { held.old ≡ None }
-    requires room { producer_capacity answers.old
+    requires slots { producer_capacity answers.old
         ≤ known_free answers.old + length (sent answers.old) }
     ensures ring { SameProducer answers.old answers.new }
-    ensures room { producer_capacity answers.new
+    ensures slots { producer_capacity answers.new
         ≤ known_free answers.new + length (sent answers.new) }
-    ensures offered { IsOffered (producer_capacity answers.old) answer result
+    ensures put_or_held { IsPutOrHeld (producer_capacity answers.old) answer result
         (sent answers.old) (sent answers.new) held.new }
 {
     if answers.is_full() {
@@ -51,7 +51,7 @@ pub struct LaneBack {
         (sent answers ++ option_to_list held) ∥₁ },
     // A slot is known to be free until as many answers were put as the ring holds. So no step is
     // `Waiting` before that.
-    pub ghost room: { producer_capacity answers ≤ known_free answers + length (sent answers) },
+    pub ghost slots: { producer_capacity answers ≤ known_free answers + length (sent answers) },
 }
 
 impl LaneBack {
@@ -76,7 +76,7 @@ impl LaneBack {
             return Step::Done;
         }
         if let Some(answer) = self.held.take() {
-            return offer(&mut self.answers, &mut self.held, answer);
+            return put_or_hold(&mut self.answers, &mut self.held, answer);
         }
         if self.messages.is_empty() {
             return Step::Idle;
@@ -86,10 +86,10 @@ impl LaneBack {
                 self.finished = true;
                 Step::Done
             }
-            Message::Work(job) => {
+            Message::NewJob(job) => {
                 gate.enter(job.number);
                 let answer = grade_by(&mut self.reporter, alloc, job);
-                offer(&mut self.answers, &mut self.held, answer)
+                put_or_hold(&mut self.answers, &mut self.held, answer)
             }
         }
     }

@@ -11,15 +11,15 @@ use crate::faults::{FinishFault, SendFault, SettleFault};
 use crate::fronts::LaneFront;
 use crate::gates::Gate;
 use crate::jobs::Job;
+use crate::lane_pair::open_ends;
 use crate::lanes::Lane;
-use crate::opening::open_ends;
 use crate::settling::settle;
 use crate::steps::Step;
 use grid_core::NoMemory;
 use std::alloc::Global;
 
 /// The greatest capacity of a batch lane: 10,000 jobs, the most of a survey, and the finish.
-pub const LARGEST_BATCH: usize = 10_001;
+pub const MAX_BATCH: usize = 10_001;
 
 /// A lane with both ends in one value, for a thread that sends, grades and takes in batches.
 #[derive(Drop)]
@@ -33,7 +33,7 @@ impl BatchLane {
     ghost use Rattle.std.specs.Prelude.{◌≡◌, ◌≤◌, IfOk, IfErr, MatchResult, length, take, true};
     ghost use Rattle.lane_core.specs.Messages.{jobs_of, finish_is_last};
     ghost use Rattle.lane_core.specs.Answers.{AreAnswersTo};
-    ghost use Rattle.lane_core.specs.Lane.{opening_front, opening_back, IsFinished, IsDrained};
+    ghost use Rattle.lane_core.specs.Lane.{initial_front, initial_back, IsFinished, IsDrained};
     ghost use Rattle.lane_core.specs.Settling.{IsSettleFault};
     ghost use Rattle.lane_core.specs.Batch.{batch_front, batch_back, batch_capacity, SameEnds};
 
@@ -41,10 +41,10 @@ impl BatchLane {
     /// Returns `NoMemory` if an allocation fails.
     pub fn new(alloc: Global, capacity: usize) -> Result<BatchLane, NoMemory>
         requires least { 1 ≤ capacity }
-        requires most { capacity ≤ LARGEST_BATCH }
+        requires most { capacity ≤ MAX_BATCH }
         ensures capacity { IfOk result (λ lane. batch_capacity lane ≡ capacity) }
-        ensures front { IfOk result (λ lane. batch_front lane ≡ opening_front) }
-        ensures back { IfOk result (λ lane. batch_back lane ≡ opening_back) }
+        ensures front { IfOk result (λ lane. batch_front lane ≡ initial_front) }
+        ensures back { IfOk result (λ lane. batch_back lane ≡ initial_back) }
     {
         let (front, back) = open_ends(alloc, capacity)?;
         Ok(BatchLane { front, back })

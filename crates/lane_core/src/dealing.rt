@@ -15,7 +15,7 @@ use std::alloc::Global;
 use std::collections::VecDeque;
 
 /// The most answers that one turn takes.
-pub const MOST_TAKEN: usize = 64;
+pub const MAX_TAKEN: usize = 64;
 
 /// Takes one turn at a lane. Sends jobs from the front of `waiting` until none is left or one is
 /// refused, which is put back at the front; sends the finish if none is left; and appends answers
@@ -85,7 +85,7 @@ fn take_answers<L: Lane>(lane: &mut L, got: &mut Vec<Answer>) -> bool
     ensures no_growth { vec_capacity got.new ≡ vec_capacity got.old }
 {
     let mut any = false;
-    for _ in 0..MOST_TAKEN {
+    for _ in 0..MAX_TAKEN {
         // Tested first, since an answer that is taken cannot go back into the lane.
         if got.len() == got.capacity() {
             break;

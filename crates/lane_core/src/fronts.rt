@@ -22,7 +22,7 @@ pub struct LaneFront {
     pub ghost last: { finish_is_last (sent messages) ≡ true },
     // A slot is known to be free until as many messages were sent as the ring holds. So no call
     // returns `Full` before that.
-    pub ghost room: { producer_capacity messages ≤ known_free messages + length (sent messages) },
+    pub ghost slots: { producer_capacity messages ≤ known_free messages + length (sent messages) },
 }
 
 impl LaneFront {
@@ -63,7 +63,7 @@ impl Lane for LaneFront {
         if self.messages.is_full() {
             return Err(SendFault::Full(job));
         }
-        self.messages.push_reserved(Message::Work(job));
+        self.messages.push_reserved(Message::NewJob(job));
         Ok(())
     }
 

@@ -1,13 +1,13 @@
 //! Jobs: puzzles to be graded.
 
 ghost use Rattle.std.specs.Prelude.{◌≡◌, ◌≤◌};
-ghost use Rattle.lane_core.specs.declared.jobs.TheConstants.{MOST_GUESSES};
+ghost use Rattle.lane_core.specs.declared.jobs.TheConstants.{MAX_GUESSES};
 
 use grid_core::Puzzle;
 use solve_core::Pick;
 
 /// The greatest limit on guesses that a job may have.
-pub const MOST_GUESSES: u32 = 1_000_000;
+pub const MAX_GUESSES: u32 = 1_000_000;
 
 /// A puzzle to be graded, with a number, a limit on guesses (at most 1,000,000) and a pick, the
 /// rule that chooses the cell of each guess.
@@ -21,14 +21,14 @@ pub struct Job {
     pub guesses: u32,
     /// The rule that chooses the cell of each guess.
     pub pick: Pick,
-    pub ghost within_limit: { guesses ≤ MOST_GUESSES },
+    pub ghost within_limit: { guesses ≤ MAX_GUESSES },
 }
 
 impl Job {
     /// Returns the job of these parts. `guesses`, the limit on guesses, has to be at most
     /// 1,000,000.
     pub fn new(number: u32, puzzle: Puzzle, guesses: u32, pick: Pick) -> Job
-        requires { guesses ≤ MOST_GUESSES }
+        requires { guesses ≤ MAX_GUESSES }
         ensures number { result.number ≡ number }
         ensures puzzle { result.puzzle ≡ puzzle }
         ensures guesses { result.guesses ≡ guesses }

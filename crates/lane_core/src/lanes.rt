@@ -29,7 +29,7 @@ pub trait Lane {
     fn send(&mut self, job: Job) -> Result<(), SendFault>
         ensures lane { same_lane self.old self.new }
         ensures ok { OnOk result
-            (PutsMessage (Message.Work job) (lists self.old) (lists self.new)) }
+            (PutsMessage (Message.NewJob job) (lists self.old) (lists self.new)) }
         ensures err { OnErr result (lists self.new ≡ lists self.old) }
         ensures refused { IfErr result
             (λ fault. IsRefusal (capacity self.old) (lists self.old) job fault) }

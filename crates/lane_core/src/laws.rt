@@ -5,14 +5,14 @@ ghost use Rattle.std.specs.Prelude.{◌≡◌, ℕ, List, length, take, true};
 ghost use mathlib.Core.List.{IsPrefix};
 ghost use Rattle.lane_core.specs.Messages.{jobs_of, finish_is_last};
 ghost use Rattle.lane_core.specs.Answers.{AreAnswersTo};
-ghost use Rattle.lane_core.specs.Lane.{Lane, Event, Run, opening, IsAnswered, IsFinished, IsDrained};
+ghost use Rattle.lane_core.specs.Lane.{Lane, Event, Run, initial_lane, IsAnswered, IsFinished, IsDrained};
 ghost use Rattle.lane_core.specs.Ends.{front_lists, back_lists};
 ghost use Rattle.lane_core.specs.declared.fronts.LaneFront.{LaneFront};
 ghost use Rattle.lane_core.specs.declared.backs.LaneBack.{LaneBack};
-ghost use Rattle.lane_core.specs.declared.jobs.TheConstants.{MOST_GUESSES};
-ghost use Rattle.lane_core.specs.declared.opening.TheConstants.{LARGEST_RING};
-ghost use Rattle.lane_core.specs.declared.batches.TheConstants.{LARGEST_BATCH};
-ghost use Rattle.lane_core.specs.declared.dealing.TheConstants.{MOST_TAKEN};
+ghost use Rattle.lane_core.specs.declared.jobs.TheConstants.{MAX_GUESSES};
+ghost use Rattle.lane_core.specs.declared.lane_pair.TheConstants.{MAX_RING};
+ghost use Rattle.lane_core.specs.declared.batches.TheConstants.{MAX_BATCH};
+ghost use Rattle.lane_core.specs.declared.dealing.TheConstants.{MAX_TAKEN};
 
 /// The answers put, followed by the one held, if any, are those to the jobs taken, one for each and
 /// in the same order. So the answers received are those to the first jobs sent, as many as there
@@ -20,19 +20,19 @@ ghost use Rattle.lane_core.specs.declared.dealing.TheConstants.{MOST_TAKEN};
 #[tactic(auto, using(crate::proofs::SettlingLemmas::lawful))]
 pub fn answers_in_order()
     ensures answered { (capacity : ℕ) (events : List Event) (lane : Lane)
-        → Run (opening capacity) events lane
+        → Run (initial_lane capacity) events lane
         → IsAnswered lane.back }
     ensures taken { (capacity : ℕ) (events : List Event) (lane : Lane)
-        → Run (opening capacity) events lane
+        → Run (initial_lane capacity) events lane
         → IsPrefix lane.back.taken lane.front.sent }
     ensures received { (capacity : ℕ) (events : List Event) (lane : Lane)
-        → Run (opening capacity) events lane
+        → Run (initial_lane capacity) events lane
         → IsPrefix lane.front.received lane.back.put }
     ensures last { (capacity : ℕ) (events : List Event) (lane : Lane)
-        → Run (opening capacity) events lane
+        → Run (initial_lane capacity) events lane
         → finish_is_last lane.front.sent ≡ true }
     ensures so_far { (capacity : ℕ) (events : List Event) (lane : Lane)
-        → Run (opening capacity) events lane
+        → Run (initial_lane capacity) events lane
         → AreAnswersTo (take (length lane.front.received) (jobs_of lane.front.sent))
         lane.front.received }
 {}
@@ -42,7 +42,7 @@ pub fn answers_in_order()
 #[tactic(auto, using(crate::proofs::SettlingLemmas::lawful))]
 pub fn drained_lanes_are_answered()
     ensures { (capacity : ℕ) (events : List Event) (lane : Lane)
-        → Run (opening capacity) events lane
+        → Run (initial_lane capacity) events lane
         → IsFinished lane.back → IsDrained lane.front lane.back
         → AreAnswersTo (jobs_of lane.front.sent) lane.front.received }
 {}
@@ -62,8 +62,8 @@ pub fn fronts_end_with_the_finish()
 /// The limits on guesses, on the capacities of lanes and on the answers that a turn takes have
 /// these values.
 pub fn limits_are_numbers()
-    ensures guesses { MOST_GUESSES ≡ 1000000 }
-    ensures ring { LARGEST_RING ≡ 64 }
-    ensures batch { LARGEST_BATCH ≡ 10001 }
-    ensures taken { MOST_TAKEN ≡ 64 }
+    ensures guesses { MAX_GUESSES ≡ 1000000 }
+    ensures ring { MAX_RING ≡ 64 }
+    ensures batch { MAX_BATCH ≡ 10001 }
+    ensures taken { MAX_TAKEN ≡ 64 }
 {}

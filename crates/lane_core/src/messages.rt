@@ -6,7 +6,7 @@ use crate::jobs::Job;
 #[derive(Debug, Drop)]
 pub enum Message {
     /// A job to be graded.
-    Work(Job),
+    NewJob(Job),
     /// The finish: no job follows.
     Finish,
 }

@@ -126,7 +126,7 @@ fn finished(reply: Result<(), FinishFault>) -> Reply {
 
 /// Returns an answer as a reply: `Refused` if it has no report, and `Mistaken` if its puzzle or its
 /// report is that of another job.
-pub(crate) fn told_of(answer: &Answer) -> Reply {
+pub(crate) fn result_of(answer: &Answer) -> Reply {
     let number = answer.number();
     let width = width_of(number);
     if answer.puzzle().width() != width {
@@ -144,7 +144,7 @@ pub(crate) fn told_of(answer: &Answer) -> Reply {
 /// Returns a result of `take` as a reply.
 fn taken(reply: Option<Answer>) -> Reply {
     match reply {
-        Some(answer) => told_of(&answer),
+        Some(answer) => result_of(&answer),
         None => Reply::Nothing,
     }
 }
@@ -190,18 +190,18 @@ pub(crate) fn take_turns<L: Called>(
 }
 
 /// Takes turns at a lane, with `count` jobs from the number `first` on and a list with a capacity
-/// of `room` answers. Returns whether the lane can be settled afterwards.
+/// of `capacity` answers. Returns whether the lane can be settled afterwards.
 pub(crate) fn deal_jobs<L: Called>(
     rt: &(impl Abort + AllocGlobal),
     lane: Option<L>,
     first: u32,
     count: u32,
-    room: usize,
+    capacity: usize,
     turns: &[Turn],
 ) -> Result<bool, Fail> {
     let mut lane = lane.ok_or("memory")?;
     let mut waiting = jobs(rt.alloc(), first, count)?;
-    let mut got = Vec::with_capacity(rt.alloc(), room)?;
+    let mut got = Vec::with_capacity(rt.alloc(), capacity)?;
     take_turns(rt, &mut lane, &mut waiting, &mut got, turns);
     Ok(lane.end().is_ok())
 }
@@ -218,7 +218,7 @@ impl Both {
     /// Opens a lane. `None` if an allocation fails.
     pub(crate) fn open(alloc: Global, capacity: usize) -> Option<Both>
         requires least { 1 ≤ capacity }
-        requires most { capacity ≤ LARGEST_RING }
+        requires most { capacity ≤ MAX_RING }
     {
         let (front, back) = open_lane(alloc, capacity).ok()?;
         Some(Both { front, back })
@@ -261,7 +261,7 @@ impl Batch {
     /// Opens a batch lane. `None` if an allocation fails.
     pub(crate) fn open(alloc: Global, capacity: usize) -> Option<Batch>
         requires least { 1 ≤ capacity }
-        requires most { capacity ≤ LARGEST_BATCH }
+        requires most { capacity ≤ MAX_BATCH }
     {
         let lane = BatchLane::new(alloc, capacity).ok()?;
         Some(Batch { lane })

@@ -2,9 +2,9 @@
 //! turn, and calls that allocate nothing are made with every allocation failing.
 
 use crate::tests_lanes::{Batch, Call, Called, Reply, Turn, jobs, puzzle_with, take_turns};
+use alloc_failures::{CallResult, arm, disarm, expected_if, is_active, sweep};
 use grid_core::NoMemory;
 use lane_core::*;
-use refusals::{Told, is_heeded, refuse, sweep, told_if, was_refused};
 use solve_core::Pick;
 use std::alloc::Global;
 use std::collections::VecDeque;
@@ -13,35 +13,35 @@ use std::test::Fail;
 
 /// Classifies the result of opening a batch lane. The lane has to have no answer, and to accept the
 /// finish.
-fn told_of_lane<L: Lane + Drop>(answer: Result<L, NoMemory>) -> Told {
+fn result_of_lane<L: Lane + Drop>(answer: Result<L, NoMemory>) -> CallResult {
     match answer {
-        Ok(mut lane) => told_if(lane.take().is_none() && lane.finish().is_ok()),
-        Err(NoMemory) => Told::NoMemory,
+        Ok(mut lane) => expected_if(lane.take().is_none() && lane.finish().is_ok()),
+        Err(NoMemory) => CallResult::NoMemory,
     }
 }
 
 /// Classifies the result of `open_lane`. The front has to have sent no finish, and to have no
 /// answer.
-fn told_of_ends(answer: Result<(LaneFront, LaneBack), NoMemory>) -> Told {
+fn result_of_ends(answer: Result<(LaneFront, LaneBack), NoMemory>) -> CallResult {
     match answer {
-        Ok((mut front, _)) => told_if(!front.has_sent_finish() && front.take().is_none()),
-        Err(NoMemory) => Told::NoMemory,
+        Ok((mut front, _)) => expected_if(!front.has_sent_finish() && front.take().is_none()),
+        Err(NoMemory) => CallResult::NoMemory,
     }
 }
 
 #[test]
 fn lanes_are_opened_or_refused(rt: HostRuntime) -> Result<(), Fail> {
     let alloc = rt.alloc();
-    sweep(alloc, || told_of_lane(BatchLane::new(alloc, 3)))?;
-    sweep(alloc, || told_of_ends(open_lane(alloc, 3)))?;
+    sweep(alloc, || result_of_lane(BatchLane::new(alloc, 3)))?;
+    sweep(alloc, || result_of_ends(open_lane(alloc, 3)))?;
     Ok(())
 }
 
 /// Classifies the answer to job 7.
-fn told_of_answer(answer: &Answer) -> Told {
+fn result_of_answer(answer: &Answer) -> CallResult {
     match answer.outcome() {
-        Ok(_) => told_if(answer.number() == 7 && answer.guesses() == 1000),
-        Err(NoMemory) => Told::NoMemory,
+        Ok(_) => expected_if(answer.number() == 7 && answer.guesses() == 1000),
+        Err(NoMemory) => CallResult::NoMemory,
     }
 }
 
@@ -50,8 +50,8 @@ fn jobs_are_graded_or_refused(rt: HostRuntime) -> Result<(), Fail> {
     let alloc = rt.alloc();
     let puzzle = puzzle_with(alloc, 8, 1, &[8], &[1])?;
     sweep(alloc, || match puzzle.copy(alloc) {
-        Ok(puzzle) => told_of_answer(&grade(alloc, Job::new(7, puzzle, 1000, Pick::First))),
-        Err(NoMemory) => Told::NoMemory,
+        Ok(puzzle) => result_of_answer(&grade(alloc, Job::new(7, puzzle, 1000, Pick::First))),
+        Err(NoMemory) => CallResult::NoMemory,
     })?;
     Ok(())
 }
@@ -64,9 +64,9 @@ fn take_turns_in_place<L: Called>(
     got: &mut Vec<Answer>,
     turns: &[Turn],
 ) {
-    refuse(rt.alloc(), 0);
+    arm(rt.alloc(), 0);
     take_turns(rt, lane, waiting, got, turns);
-    assert!(rt; !was_refused(rt.alloc()), "no growth");
+    assert!(rt; !disarm(rt.alloc()), "no growth");
 }
 
 /// Two jobs are sent, the second one by a deal, which sends the finish too.
@@ -92,9 +92,9 @@ fn assert_no_growth<L: Called>(
     take_turns_in_place(rt, &mut lane, &mut waiting, &mut got, &SENDING);
     lane.call(rt.alloc(), Call::Work, &mut waiting);
     take_turns_in_place(rt, &mut lane, &mut waiting, &mut got, &TAKING);
-    refuse(rt.alloc(), 0);
+    arm(rt.alloc(), 0);
     let ended = lane.end().is_ok();
-    assert!(rt; !was_refused(rt.alloc()), "no growth");
+    assert!(rt; !disarm(rt.alloc()), "no growth");
     assert!(rt; ended);
     Ok(())
 }
@@ -102,6 +102,6 @@ fn assert_no_growth<L: Called>(
 #[test]
 fn lanes_take_no_memory(rt: HostRuntime) -> Result<(), Fail> {
     assert_no_growth(&rt, Batch::open(rt.alloc(), 3))?;
-    assert!(rt; is_heeded(rt.alloc()));
+    assert!(rt; is_active(rt.alloc()));
     Ok(())
 }

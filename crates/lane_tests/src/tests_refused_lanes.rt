@@ -2,10 +2,10 @@
 //! what no contract says: whether an end finds a ring full or empty.
 
 use crate::tests_lanes::{
-    Batch, Both, Call, Called, Reply, Turn, jobs, jobs_for, take_turns, told_of,
+    Batch, Both, Call, Called, Reply, Turn, jobs, jobs_for, result_of, take_turns,
 };
+use alloc_failures::{arm, disarm};
 use lane_core::*;
-use refusals::{refuse, was_refused};
 use std::alloc::Global;
 use std::collections::VecDeque;
 use std::process::Abort;
@@ -146,7 +146,7 @@ fn follow_to_the_end<L: Called>(
 fn are_answers(rt: &impl Abort, answers: &[Answer]) -> bool {
     let mut all = true;
     for (answer, number) in answers.iter().zip(1..4u32) {
-        if !is_told(rt, told_of(answer), Reply::Answered(number)) {
+        if !is_told(rt, result_of(answer), Reply::Answered(number)) {
             all = false;
         }
     }
@@ -217,9 +217,9 @@ fn follow_all(rt: &(impl Abort + AllocGlobal), scene: Scene) -> Result<(), Fail>
     for growth in 1..MOST_GROWTHS {
         // Made before the tool is armed, so that these allocations are not counted.
         let mut jobs = scene.jobs(alloc)?;
-        refuse(alloc, growth);
+        arm(alloc, growth);
         let all = scene.follow(rt, &mut jobs);
-        let refused = was_refused(alloc);
+        let refused = disarm(alloc);
         assert!(rt; refused || all == Some(true), "growth {growth}");
         if !refused {
             return Ok(());

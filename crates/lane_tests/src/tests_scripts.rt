@@ -109,7 +109,7 @@ impl Counts {
             return Step::Done;
         }
         if self.held {
-            return self.offer();
+            return self.put_or_hold();
         }
         if self.taken == self.sent {
             return Step::Idle;
@@ -121,11 +121,11 @@ impl Counts {
             self.finish_taken = true;
             return Step::Done;
         }
-        self.offer()
+        self.put_or_hold()
     }
 
     /// Counts an answer as put, or as held if the ring of answers is full.
-    fn offer(&mut self) -> Step {
+    fn put_or_hold(&mut self) -> Step {
         self.held = self.put == self.received.wrapping_add(self.capacity);
         if self.held {
             return Step::Waiting;
@@ -223,7 +223,7 @@ fn follow_script<L: Called>(
 /// Makes the calls of 1,000 scripts, each at a lane of its own of this capacity.
 fn follow_scripts(rt: &impl Abort, alloc: Global, capacity: u32) -> Result<(), Fail>
     requires least { 1 ≤ capacity }
-    requires most { capacity ≤ LARGEST_RING }
+    requires most { capacity ≤ MAX_RING }
 {
     let mut state = 1;
     for _ in 0..1000 {

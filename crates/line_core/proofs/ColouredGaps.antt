@@ -1,7 +1,7 @@
 -- The support of a line before a gap, once one of its cells has a colour: step by step along the line.
-use Rattle.line_core.proofs.Names.{◌↔◌, rules, ◌≡◌, ◌≢◌, ℕ, zero, suc, ◌+◌, ◌-◌, ◌<◌, ◌≤◌, Bool, true, false, List, [], ◌∷◌, length, refl, sym, ap, ◌∙◌, arith, add-one, ◌⊎◌, inl, inr, get_or, drop, cases_lt, and_from, and_parts, Cell, Unknown, allows, agrees, behind, MayBe, IsGapAfter, IsEndAfter, IsGap, IsGapAhead, IsWholeEnd, IsFlooded, AllFrom, length-set, get_or-set_other, get_or-set_same, replicate, ◌++◌, drop-cons, cases_eq, colour, coloured, CanBeBefore, CanBeUpTo, IsWholeGap}
-use Rattle.line_core.proofs.Joining.{closed_behind_to, closed_behind_from, closed_ahead_from, agrees_span, runs_first}
-use Rattle.line_core.proofs.Reaching.{gap_after_to, gap_after_from, first_gap_to, first_gap_from}
+use Rattle.line_core.proofs.Names.{◌↔◌, rules, ◌≡◌, ◌≢◌, ℕ, zero, suc, ◌+◌, ◌-◌, ◌<◌, ◌≤◌, Bool, true, false, List, [], ◌∷◌, length, refl, sym, ap, ◌∙◌, arith, add-one, ◌⊎◌, inl, inr, get_or, drop, cases_lt, and_from, and_parts, Cell, Unknown, allows, agrees, reversed_prefix, MayBe, IsGapAfter, IsEndAfter, IsPrefixGap, IsSuffixGap, IsFeasibleEnd, IsFlooded, AllFrom, length-set, get_or-set_other, get_or-set_same, replicate, ◌++◌, drop-cons, cases_eq, colour, coloured, CanBeBefore, CanBeUpTo, IsFeasibleGap}
+use Rattle.line_core.proofs.Joining.{closed_prefix_to, closed_prefix_from, closed_suffix_from, agrees_span, runs_first}
+use Rattle.line_core.proofs.GapFloods.{gap_after_to, gap_after_from, first_gap_to, first_gap_from}
 
 pub colour_is : (v w : Bool) → (allows (colour v) w ≡ true) ↔ (v ≡ w)
 colour_is v w = search rules
@@ -28,7 +28,7 @@ coloured_less l k v here w x m = (omega (arith, m.0, length-set l k (colour v)),
 
 -- a full line that agrees with a reversed prefix of the line with a colour agrees with that of the line
 agrees_less : (l : List Cell) (k : ℕ) (v : Bool) → MayBe l v k → (i : ℕ) (x : List Bool)
-    → agrees (behind Unknown (coloured l k v) i) x ≡ true → agrees (behind Unknown l i) x ≡ true
+    → agrees (reversed_prefix Unknown (coloured l k v) i) x ≡ true → agrees (reversed_prefix Unknown l i) x ≡ true
 agrees_less l k v here (suc i) (b ∷ x) h = search (rules, and_parts, and_from, coloured_allows, agrees_less l k v here i x)
 agrees_less l k v here i x h = search rules
 
@@ -43,10 +43,11 @@ pub end_less : (l : List Cell) (k : ℕ) (v : Bool) → MayBe l v k → (rs : Li
 end_less l k v here rs n e x = search (rules, agrees_less l k v here (e + 1 - n), coloured_less l k v here true, x.1.1)
 
 -- a reversed prefix is unchanged if the colour is at or after its end
-pub behind_coloured : (l : List Cell) (k : ℕ) (v : Bool) (i : ℕ) → i ≤ k → behind Unknown (coloured l k v) i ≡ behind Unknown l i
-behind_coloured l k v zero h = refl
-behind_coloured l k v (suc i) h = let ne : i ≢ k = omega arith in
-    rw (get_or-set_other l k i (colour v) Unknown ne, behind_coloured l k v i (omega arith)) refl
+pub reversed_prefix_coloured : (l : List Cell) (k : ℕ) (v : Bool) (i : ℕ) → i ≤ k
+    → reversed_prefix Unknown (coloured l k v) i ≡ reversed_prefix Unknown l i
+reversed_prefix_coloured l k v zero h = refl
+reversed_prefix_coloured l k v (suc i) h = let ne : i ≢ k = omega arith in
+    rw (get_or-set_other l k i (colour v) Unknown ne, reversed_prefix_coloured l k v i (omega arith)) refl
 
 -- ---- one step along the line
 
@@ -68,7 +69,7 @@ end_step_to l rs n e k v some here le x =
     let first = (x.1.1 0 some).0 in
     elim (cases_lt k (e + 1 - n)) [
       | inl low ↦
-          (let gap = closed_behind_to (coloured l k v) rs (e + 1 - n) (omega (arith, length-set l k (colour v))) x.1.0 in
+          (let gap = closed_prefix_to (coloured l k v) rs (e + 1 - n) (omega (arith, length-set l k (colour v))) x.1.0 in
           let start : e + 1 - n - 1 ≡ e - n = omega arith in search rules)
       | inr high ↦
           (let at : e + 1 - n + (k - (e + 1 - n)) ≡ k = omega arith in
@@ -82,11 +83,11 @@ end_step_from l rs n e k v x (inl (true_is, from, to)) =
     let here = rw at at (x.1.1 (k - (e + 1 - n)) (omega (arith, x.0))) in
     let cells : AllFrom (MayBe (coloured l k v) true) n (e + 1 - n) =
     λ z b. search (rules, cases_eq (e + 1 - n + z) k, true_is, coloured_same l k true here.0, coloured_other, x.1.1 z b) in
-    search (rules, behind_coloured)
+    search (rules, reversed_prefix_coloured)
 end_step_from l rs n e k v x (inr (enough, (low, may, gap))) =
     let start : e - n ≡ e + 1 - n - 1 = omega arith in
-    let behind = closed_behind_from (coloured l k v) rs (e + 1 - n) (inr (omega arith, rw start at gap)) in
-    (may, omega arith, (omega arith, (behind, λ z b. coloured_other l k v true (e + 1 - n + z) (omega arith) (x.1.1 z b))))
+    let front = closed_prefix_from (coloured l k v) rs (e + 1 - n) (inr (omega arith, rw start at gap)) in
+    (may, omega arith, (omega arith, (front, λ z b. coloured_other l k v true (e + 1 - n + z) (omega arith) (x.1.1 z b))))
 
 -- how the cells before gap `i` can be coloured: its own cell is blank, and a cell before it has a colour that goes with
 -- the gap one cell before, or with the end of the run one cell before
@@ -105,7 +106,7 @@ before_to l rs n i v k some h = elim (cases_eq k i) [
 
 pub before_from : (l : List Cell) (rs : List ℕ) (n i : ℕ) (v : Bool) (k : ℕ) → 0 < n → IsGapAfter l (n ∷ rs) i → Step l rs n i v k
     → CanBeBefore l (n ∷ rs) i v k
-before_from l rs n i v k some g (inl (at, blank)) = search (rules, at, blank, behind_coloured, coloured_same)
+before_from l rs n i v k some g (inl (at, blank)) = search (rules, at, blank, reversed_prefix_coloured, coloured_same)
 before_from l rs n i v k some g (inr (h, x)) =
     search (rules, end_step_from l rs n (i - 1) k v, gap_step_from (coloured l k v) rs n i some, coloured_other)
 
@@ -136,26 +137,28 @@ first_from l i k g le =
 -- ---- feasible gaps and ends
 
 -- the cell before a feasible gap is a feasible gap too, if the cells before it allow that
-pub whole_back : (l : List Cell) (clue : List ℕ) (j i : ℕ) → j ≤ length clue → 1 ≤ i → IsGapAhead l clue j i → IsGap l clue j (i - 1)
-    → IsWholeGap l clue j (i - 1)
-whole_back l clue j i jl some a g =
-    let same : i - 1 + 1 ≡ i = omega arith in let b = closed_ahead_from l clue j i (inr a) in search (rules, same)
+pub feasible_back : (l : List Cell) (clue : List ℕ) (j i : ℕ) → j ≤ length clue → 1 ≤ i → IsSuffixGap l clue j i
+    → IsPrefixGap l clue j (i - 1)
+    → IsFeasibleGap l clue j (i - 1)
+feasible_back l clue j i jl some a g =
+    let same : i - 1 + 1 ≡ i = omega arith in let b = closed_suffix_from l clue j i (inr a) in search (rules, same)
 
 -- the cell before a feasible gap is a feasible end of the run before the gap, if the cells before it allow that
-pub whole_end_back : (l : List Cell) (clue : List ℕ) (j i : ℕ) → 1 ≤ i → IsGapAhead l clue (suc j) i
-    → IsEndAfter l (behind 0 clue j) (get_or clue j 0) (i - 1) → IsWholeEnd l clue j (i - 1)
-whole_end_back l clue j i some a e = search (rules, add-one, closed_ahead_from)
+pub feasible_end_back : (l : List Cell) (clue : List ℕ) (j i : ℕ) → 1 ≤ i → IsSuffixGap l clue (suc j) i
+    → IsEndAfter l (reversed_prefix 0 clue j) (get_or clue j 0) (i - 1) → IsFeasibleEnd l clue j (i - 1)
+feasible_end_back l clue j i some a e = search (rules, add-one, closed_suffix_from)
 
 -- a gap right before a feasible run is feasible
-pub whole_before_end : (l : List Cell) (clue : List ℕ) (j e : ℕ) → j < length clue → 0 < get_or clue j 0 → get_or clue j 0 ≤ e
-    → IsWholeEnd l clue j e → IsWholeGap l clue j (e - get_or clue j 0)
-whole_before_end l clue j e jl some far w =
+pub feasible_before_end : (l : List Cell) (clue : List ℕ) (j e : ℕ) → j < length clue → 0 < get_or clue j 0 → get_or clue j 0 ≤ e
+    → IsFeasibleEnd l clue j e → IsFeasibleGap l clue j (e - get_or clue j 0)
+feasible_before_end l clue j e jl some far w =
     let c = get_or clue j 0 in
     let s = e + 1 - c in
     let start : s - 1 ≡ e - c = omega arith in
     let next : e - c + 1 ≡ s = omega arith in
     let first : s + 0 < length l = (w.0.1.1 0 some).0 in
-    let g : IsGapAfter l (behind 0 clue j) (e - c) = search (rules, closed_behind_to l (behind 0 clue j) s (omega arith) w.0.1.0, start) in
+    let g : IsGapAfter l (reversed_prefix 0 clue j) (e - c) =
+    search (rules, closed_prefix_to l (reversed_prefix 0 clue j) s (omega arith) w.0.1.0, start) in
     let b = w.1 in
     let agree = agrees_span l true c s (e + 1) b.0 (omega arith) w.0.1.1 b.1 in
     let clue_at : c ∷ drop (j + 1) clue ≡ drop j clue = rw add-one (sym (drop-cons clue j 0 jl)) in

@@ -187,8 +187,8 @@ AtMost-antisym (Some c) (Some d) h k = ap (λ (cells : List Cell). Some cells) (
 AtMost-antisym o q h k = search rules
 
 -- deducing a deduced line changes nothing, since each placing of the line is one of the deduced line
-pub deduced-settled : (l d : List Cell) (clue : List ℕ) → deduced l clue ≡ Some d → deduced d clue ≡ Some d
-deduced-settled l d clue e =
+pub deduced-idempotent : (l d : List Cell) (clue : List ℕ) → deduced l clue ≡ Some d → deduced d clue ≡ Some d
+deduced-idempotent l d clue e =
     AtMost-antisym (deduced d clue) (Some d) (rw e at (deduced-greatest l clue (deduced d clue) (λ x p.
     deduced-below d clue x (record { extends = rw e at (deduced-below l clue x p); runs_are = p.runs_are })))) (deduced-above d clue)
 
@@ -196,4 +196,4 @@ deduced-settled l d clue e =
 pub length-deduced : (l d : List Cell) (clue : List ℕ) → Some d ≡ deduced l clue → length d ≡ length l
 length-deduced l d clue e = sym (length-Extends l d (rw (sym e) at (deduced-above l clue)))
 
-pub ruleset laws = (deduced-above, deduced-below, deduced-monotone, deduced-settled, test_is)
+pub ruleset laws = (deduced-above, deduced-below, deduced-monotone, deduced-idempotent, test_is)

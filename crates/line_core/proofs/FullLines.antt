@@ -1,11 +1,11 @@
--- A full line: it is the one placing of its runs, and `passed_runs` compares these with the clue.
-use Rattle.line_core.proofs.Names.{◌++◌, append-nil, append_assoc, length-reverse, lengths_turned, length_at, reverse, AreLengths, length-append, length-drop, take, ArePositive, rules, ◌≡◌, ◌≢◌, ◌↔◌, ℕ, zero, suc, ◌+◌, ◌<◌, ◌≤◌, Bool, true, false, not, cond, List, [], ◌∷◌, length, map, Option, Some, None, refl, sym, ap, ◌∙◌, subst, arith, add-one, drop, get_or, drop-cons, drop_of_length-le, ext_get_or, false_from_ne_true, Cell, Unknown, allows, agrees, is_filled, runs, has_by, runs_after, Has, has, IsMaskOf, has_true, true_has, mask_same, MayBe, runs_after-zero, runs_after-true, runs_after-close, runs_after-nil, none_has, add_comm, get_or-drop, common_steps}
-use Rattle.line_core.specs.steps.Full.{IsFull, IsFilled, turned}
-use Rattle.line_core.proofs.WholeEnds.{IsTold, told_mask, none_told}
+-- A full line: it is the one placing of its runs, and `match_clue_prefix` compares these with the clue.
+use Rattle.line_core.proofs.Names.{◌++◌, append-nil, append_assoc, length-reverse, lengths_mirrored, length_at, reverse, AreLengths, length-append, length-drop, take, ArePositive, rules, ◌≡◌, ◌≢◌, ◌↔◌, ℕ, zero, suc, ◌+◌, ◌<◌, ◌≤◌, Bool, true, false, not, cond, List, [], ◌∷◌, length, map, Option, Some, None, refl, sym, ap, ◌∙◌, subst, arith, add-one, drop, get_or, drop-cons, drop_of_length-le, ext_get_or, false_from_ne_true, Cell, Unknown, allows, agrees, is_filled, runs, has_by, runs_after, Has, has, IsMaskOf, has_true, true_has, mask_same, MayBe, runs_after-zero, runs_after-true, runs_after-close, runs_after-nil, none_has, add_comm, get_or-drop, common_steps}
+use Rattle.line_core.specs.steps.Full.{IsFull, IsFilled, mirrored_if}
+use Rattle.line_core.proofs.FeasibleEnds.{IsInSupport, in_support_mask, none_in_support}
 use Rattle.line_core.proofs.Joining.{length-agrees}
 use Rattle.line_core.proofs.RunStarts.{covered}
 use Rattle.std.proofs.Math.Seq.{take-suc}
-use Rattle.place_sets.proofs.WordSteps.{some_place}
+use Rattle.bit_sets.proofs.WordSteps.{some_index}
 use Rattle.line_core.proofs.Painting.{agrees_at}
 
 -- ---- the one full line that agrees
@@ -29,14 +29,15 @@ full_is l x full agree = ext_get_or false x (map is_filled l) (search (rules, le
     sym (only_be l (map is_filled l) _ k full (agrees_filled l) (may_be l x _ k agree (omega (arith, length-agrees l x agree)) refl)))
 
 -- if its runs are the clue, its support is the colours of its cells
-pub full_told : (l : List Cell) (clue : List ℕ) (v : Bool) (m : ℕ) → ArePositive clue → IsFull l → runs (map is_filled l) ≡ clue
-    → IsMaskOf (MayBe l v) m → IsMaskOf (IsTold l clue v) m
-full_told l clue v m pos full is p = search (rules, told_mask, agrees_filled, only_be, may_be)
+pub full_in_support : (l : List Cell) (clue : List ℕ) (v : Bool) (m : ℕ) → ArePositive clue → IsFull l → runs (map is_filled l) ≡ clue
+    → IsMaskOf (MayBe l v) m → IsMaskOf (IsInSupport l clue v) m
+full_in_support l clue v m pos full is p = search (rules, in_support_mask, agrees_filled, only_be, may_be)
 
 -- if its runs are not the clue, its support is empty
-pub dead_told : (l : List Cell) (clue : List ℕ) (v : Bool) (m : ℕ) → ArePositive clue → IsFull l → (runs (map is_filled l) ≡ clue → ⊥)
-    → m ≡ 0 → IsMaskOf (IsTold l clue v) m
-dead_told l clue v m pos full other e = none_told l clue v m pos e (λ x agree is. other (ap runs (sym (full_is l x full agree)) ∙ is))
+pub dead_in_support : (l : List Cell) (clue : List ℕ) (v : Bool) (m : ℕ) → ArePositive clue → IsFull l → (runs (map is_filled l) ≡ clue → ⊥)
+    → m ≡ 0 → IsMaskOf (IsInSupport l clue v) m
+dead_in_support l clue v m pos full other e =
+    none_in_support l clue v m pos e (λ x agree is. other (ap runs (sym (full_is l x full agree)) ∙ is))
 
 -- ---- comparing its runs with the clue
 
@@ -47,7 +48,7 @@ runs_past (suc n) [] = Some []
 runs_past (suc n) (true ∷ y) = None
 runs_past (suc n) (false ∷ y) = runs_past n y
 
--- the invariant of `passed_runs` after `j` numbers of `clue`: `left` is the mask of cells, of which the first `least`
+-- the invariant of `match_clue_prefix` after `j` numbers of `clue`: `left` is the mask of cells, of which the first `least`
 -- must be blank, and whose runs continue the first `j` runs of `cells`
 pub record IsWalked (cells : List Bool) (clue : List ℕ) (j least left : ℕ) : Type 0 where
   pub rest : List Bool
@@ -165,18 +166,18 @@ module _ (cells : List Bool) (clue : List ℕ) (j least left : ℕ) (p : IsWalke
   pub walk_last : length clue ≤ j → 0 < left → (others : List ℕ) → runs cells ++ others ≡ clue → ⊥
   walk_last h some others is =
       let t = p.to others is in
-      let c = covered p.rest t.0 _ (past_runs least p.rest t.0 t.1) (p.rest_is.to _ (some_place left some).1) in
+      let c = covered p.rest t.0 _ (past_runs least p.rest t.0 t.1) (p.rest_is.to _ (some_index left some).1) in
       absurd (omega (arith, c.inside, length-append t.0 others, ap length t.2, length-drop j clue))
 
 -- ---- a clue read from the other end
 
-pub length-turned : {A : Type 0} (t : Bool) (xs : List A) → length (turned t xs) ≡ length xs
-length-turned true xs = length-reverse xs
-length-turned false xs = refl
+pub length-mirrored_if : {A : Type 0} (t : Bool) (xs : List A) → length (mirrored_if t xs) ≡ length xs
+length-mirrored_if true xs = length-reverse xs
+length-mirrored_if false xs = refl
 
-pub number_seen : (t : Bool) (width : ℕ) (clue : List ℕ) (j n : ℕ) → AreLengths width clue → j < length clue
-    → n ≡ get_or (turned t clue) j 0
+pub mirrored_number : (t : Bool) (width : ℕ) (clue : List ℕ) (j n : ℕ) → AreLengths width clue → j < length clue
+    → n ≡ get_or (mirrored_if t clue) j 0
     → (0 < n) × (n ≤ width)
-number_seen true width clue j n are h e =
-    rw e (length_at width (reverse clue) j (lengths_turned width clue are) (omega (arith, length-reverse clue)))
-number_seen false width clue j n are h e = rw e (length_at width clue j are h)
+mirrored_number true width clue j n are h e =
+    rw e (length_at width (reverse clue) j (lengths_mirrored width clue are) (omega (arith, length-reverse clue)))
+mirrored_number false width clue j n are h e = rw e (length_at width clue j are h)

@@ -1,7 +1,7 @@
 -- The rows of a table of prefix supports, written gap by gap.
-use Rattle.line_core.proofs.Names.{Bool, CanBeSeen, ◌↔◌, ◌⊎◌, ◌∷◌, rules, eqb-true, none_has, true, ◌≡◌, ◌≢◌, ◌∙◌, ℕ, zero, suc, ◌+◌, ◌-◌, ◌<◌, ◌≤◌, List, ◌++◌, length, false, refl, sym, subst, arith, zero-add, inl, inr, get_or, set, take, map, Cell, Has, IsMaskOf, IsShifted, IsGapAfter, IsWholeEnd, behind, nat_eq, ◌*◌, ◌/◌, get_or-set_other, get_or-set_same, true≢false, drop, [], length-drop, drop_of_length-le, append-nil, get_or-take, get_or-drop, get_or-append-add, get_or_append_left, length-take-le, take_all, cases_eq, cases_lt, bit_at, IsMarked, number_at, length_at, add-one, AreLengths, ColourMasks, no_colours, AreColoursBefore, IsWholeGap, IsSeenIn, HasColour, AreMasks, AreMore, seen, IsRow, bit_at-suc, bit_at_lowest, bit_at-lt, same_from_bits}
-use Rattle.line_core.proofs.ColouredGaps.{before_from, before_to, gap_less, whole_back, whole_end_back, whole_before_end, Step}
-use Rattle.line_core.proofs.ColourMasks.{masks_are, masks_same}
+use Rattle.line_core.proofs.Names.{Bool, CanBeMirrored, ◌↔◌, ◌⊎◌, ◌∷◌, rules, eqb-true, none_has, true, ◌≡◌, ◌≢◌, ◌∙◌, ℕ, zero, suc, ◌+◌, ◌-◌, ◌<◌, ◌≤◌, List, ◌++◌, length, false, refl, sym, subst, arith, zero-add, inl, inr, get_or, set, take, map, Cell, Has, IsMaskOf, IsShifted, IsGapAfter, IsFeasibleEnd, reversed_prefix, nat_eq, ◌*◌, ◌/◌, get_or-set_other, get_or-set_same, true≢false, drop, [], length-drop, drop_of_length-le, append-nil, get_or-take, get_or-drop, get_or-append-add, get_or_append_left, length-take-le, take_all, cases_eq, cases_lt, bit_at, IsWithBit, bits_at, length_at, add-one, AreLengths, SupportMasks, no_support, IsPrefixSupport, IsFeasibleGap, IsMirroredIn, HasColour, AreMasks, AreMore, mirror_index, IsRow, bit_at-suc, bit_at_lowest, bit_at-lt, same_from_bits}
+use Rattle.line_core.proofs.ColouredGaps.{before_from, before_to, gap_less, feasible_back, feasible_end_back, feasible_before_end, Step}
+use Rattle.line_core.proofs.SupportMasks.{masks_are, masks_same}
 
 -- a number is less than another if they differ in one bit, which only the other has
 bit_less : (p a b : ℕ) → bit_at a p ≡ 1 → bit_at b p ≡ 0 → ((i : ℕ) → i ≢ p → bit_at b i ≡ bit_at a i) → b < a
@@ -13,7 +13,7 @@ bit_less (suc p) a b h none same =
     (λ i ne. sym (bit_at-suc b i) ∙ same (suc i) (omega (arith, ne)) ∙ bit_at-suc a i) in omega arith
 
 -- a mask with one index removed is less
-pub mask_less : (a b p : ℕ) → Has a p → IsMaskOf (IsMarked (Has a) p false) b → b < a
+pub mask_less : (a b p : ℕ) → Has a p → IsMaskOf (IsWithBit (Has a) p false) b → b < a
 mask_less a b p h m = bit_less p a b h (grind (arith, bit_at-lt, true≢false)) (λ i ne. grind (arith, bit_at-lt, true≢false))
 
 -- a loop over the indices of `all` has written those that are not in `left`: the element of `row` at each satisfies `Q`
@@ -27,7 +27,7 @@ walk_none all Q none row = record { within = λ i h. h; done = λ i h lacks. abs
 
 -- a step of the loop writes one element and removes its index from `left`
 pub walk_more : {A : Type 0} (all left next p q : ℕ) (Q : ℕ → A → Type 0) (none : A) (row : List A) (v : A) → p < length row → q ≡ p
-    → IsMaskOf (IsMarked (Has left) p false) next → Q p v → IsWalk all left Q none row → IsWalk all next Q none (set row q v)
+    → IsMaskOf (IsWithBit (Has left) p false) next → Q p v → IsWalk all left Q none row → IsWalk all next Q none (set row q v)
 walk_more all left next p q Q none row v inside at m here w = record {
   within = λ i h. elim (m.to i h) [ inl x ↦ w.within i x.0 | inr x ↦ absurd (true≢false (sym x.1)) ];
   done = λ i h lacks. search (rules, cases_eq i p, get_or-set_same row p v none inside, get_or-set_other, w.done i h, m.from i);
@@ -40,12 +40,12 @@ pub walk_last : {A : Type 0} (all left : ℕ) (Q : ℕ → A → Type 0) (none :
 walk_last all left Q none row e w i h = w.done i h (none_has left i (eqb-true left 0 e))
 
 -- an index of a feasible gap that is still to be written is inside a row
-pub left_inside : (l : List Cell) (clue : List ℕ) (j gaps left p : ℕ) (Q : ℕ → ColourMasks → Type 0) (row : List ColourMasks)
-    → IsWalk gaps left Q no_colours row → Has left p → IsMaskOf (IsWholeGap l clue j) gaps → length l ≤ 128 → p < 128
+pub left_inside : (l : List Cell) (clue : List ℕ) (j gaps left p : ℕ) (Q : ℕ → SupportMasks → Type 0) (row : List SupportMasks)
+    → IsWalk gaps left Q no_support row → Has left p → IsMaskOf (IsFeasibleGap l clue j) gaps → length l ≤ 128 → p < 128
 left_inside l clue j gaps left p Q row walk h m short = omega (arith, (m.to p (walk.within p h)).0.0.0)
 
-pub first_inside : (l : List Cell) (gaps left p : ℕ) (Q : ℕ → ColourMasks → Type 0) (row : List ColourMasks)
-    → IsWalk gaps left Q no_colours row → Has left p → ((i : ℕ) → Has gaps i → IsGapAfter l [] i) → p < length l
+pub first_inside : (l : List Cell) (gaps left p : ℕ) (Q : ℕ → SupportMasks → Type 0) (row : List SupportMasks)
+    → IsWalk gaps left Q no_support row → Has left p → ((i : ℕ) → Has gaps i → IsGapAfter l [] i) → p < length l
 first_inside l gaps left p Q row walk h gap = (gap p (walk.within p h)).0.0
 
 pub ruleset walks = (left_inside, first_inside, mask_less, walk_none)
@@ -55,7 +55,7 @@ abbrev pub IsLast : {A : Type 0} → ℕ → ℕ → (ℕ → A → Type 0) → 
 IsLast all left Q last = (i k : ℕ) → Has all i → (Has left i → ⊥) → Has left k → (i < k) × (k ≡ i + 1 → Q i last)
 
 pub last_more : {A : Type 0} (all left next p : ℕ) (Q : ℕ → A → Type 0) (last v : A) → Has left p → ((i : ℕ) → Has left i → p ≤ i)
-    → IsMaskOf (IsMarked (Has left) p false) next → Q p v → IsLast all left Q last → IsLast all next Q v
+    → IsMaskOf (IsWithBit (Has left) p false) next → Q p v → IsLast all left Q last → IsLast all next Q v
 last_more all left next p Q last v first least m here old i k h lacks there =
     let after : Has left k × (k ≢ p) = elim (m.to k there) [ inl x ↦ x | inr x ↦ absurd (true≢false (sym x.1)) ] in
     let far = least k after.0 in
@@ -66,50 +66,54 @@ last_more all left next p Q last v first least m here old i k h lacks there =
     ]
 
 -- the prefix support at a gap after run `j`, from that at the gap one cell before and from the row before
-pub next_told : (t : Bool) (l : List Cell) (clue : List ℕ) (j w gaps left ends longer ended p : ℕ) (before rows : List ColourMasks)
-    (last old m : ColourMasks) → AreLengths w clue → j < length clue → length l ≤ 128 → IsMaskOf (IsWholeGap l clue (j + 1)) gaps
-    → IsMaskOf (IsWholeEnd l clue j) ends → IsMaskOf (IsShifted w (Has gaps) 1) longer → IsMaskOf (IsShifted w (Has ends) 1) ended → p < w
+pub next_prefix_support : (t : Bool) (l : List Cell) (clue : List ℕ) (j w gaps left ends longer ended p : ℕ)
+    (before rows : List SupportMasks)
+    (last old m : SupportMasks) → AreLengths w clue → j < length clue → length l ≤ 128 → IsMaskOf (IsFeasibleGap l clue (j + 1)) gaps
+    → IsMaskOf (IsFeasibleEnd l clue j) ends → IsMaskOf (IsShifted w (Has gaps) 1) longer
+    → IsMaskOf (IsShifted w (Has ends) 1) ended → p < w
     → Has gaps p → Has left p → ((i : ℕ) → Has left i → p ≤ i) → before ≡ take 128 rows → IsRow t l clue j 0 rows
-    → IsLast gaps left (AreColoursBefore t l (behind 0 clue (j + 1))) last
-    → AreMasks (λ v k. ((v ≡ false) × IsSeenIn t (length l) p (p + 1) k) ⊎ (Has longer p × HasColour last v k)) old
-    → (let n = get_or clue j 0 in AreMore (λ v k. Has ended p × (((v ≡ true) × IsSeenIn t (length l) (p - n) p k)
-    ⊎ ((n < p) × HasColour (get_or before (p - n - 1) no_colours) v k))) old m)
-    → AreColoursBefore t l (behind 0 clue (j + 1)) p m
-next_told t l clue j w gaps left ends longer ended p before rows last old m are jl short ps es lm em pw is here low front told ahead a b =
+    → IsLast gaps left (IsPrefixSupport t l (reversed_prefix 0 clue (j + 1))) last
+    → AreMasks (λ v k. ((v ≡ false) × IsMirroredIn t (length l) p (p + 1) k) ⊎ (Has longer p × HasColour last v k)) old
+    → (let n = get_or clue j 0 in AreMore (λ v k. Has ended p × (((v ≡ true) × IsMirroredIn t (length l) (p - n) p k)
+    ⊎ ((n < p) × HasColour (get_or before (p - n - 1) no_support) v k))) old m)
+    → IsPrefixSupport t l (reversed_prefix 0 clue (j + 1)) p m
+next_prefix_support t l clue j w gaps left ends longer ended p before rows last old m are jl short ps es lm em pw is here low front given
+    suffix a b =
     rw (add-one j) (masks_same _ _ m b (λ v k. (
-      λ h. let y = to v k h in (y.0, before_from l runs n p v (seen t (length l) k) some whole.0 y.1),
-      λ h. from v k h.0 (before_to l runs n p v (seen t (length l) k) some h.1),
+      λ h. let y = to v k h in (y.0, before_from l runs n p v (mirror_index t (length l) k) some whole.0 y.1),
+      λ h. from v k h.0 (before_to l runs n p v (mirror_index t (length l) k) some h.1),
     )))
   where
     n : ℕ
     n = get_or clue j 0
 
     runs : List ℕ
-    runs = behind 0 clue j
+    runs = reversed_prefix 0 clue j
 
     some : 0 < n
     some = (length_at w clue j are jl).0
 
-    gs : IsMaskOf (IsWholeGap l clue (suc j)) gaps
+    gs : IsMaskOf (IsFeasibleGap l clue (suc j)) gaps
     gs = rw (add-one j) at ps
 
-    whole : IsWholeGap l clue (suc j) p
+    whole : IsFeasibleGap l clue (suc j) p
     whole = gs.to p is
 
-    at_last : Has longer p → (v : Bool) (k : ℕ) → HasColour last v k ↔ CanBeSeen t l (n ∷ runs) (p - 1) v k
+    at_last : Has longer p → (v : Bool) (k : ℕ) → HasColour last v k ↔ CanBeMirrored t l (n ∷ runs) (p - 1) v k
     at_last h = let x = lm.to p h in
-        rw (add-one j) at (masks_are _ last ((ahead (p - 1) p x.2 (λ n. omega (arith, x.1, low (p - 1) n)) here).1 (omega (arith, x.1))))
+        rw (add-one j) at (masks_are _ last ((suffix (p - 1) p x.2 (λ n. omega (arith, x.1, low (p - 1) n)) here).1 (omega (arith, x.1))))
 
     in_before : Has ended p → n < p → (v : Bool) (k : ℕ)
-        → HasColour (get_or before (p - n - 1) no_colours) v k ↔ CanBeSeen t l runs (p - 1 - n) v k
+        → HasColour (get_or before (p - n - 1) no_support) v k ↔ CanBeMirrored t l runs (p - 1 - n) v k
     in_before h far =
-        let gap = whole_before_end l clue j (p - 1) jl some (omega arith) (es.to (p - 1) (em.to p h).2) in
+        let gap = feasible_before_end l clue j (p - 1) jl some (omega arith) (es.to (p - 1) (em.to p h).2) in
         let e : p - 1 - n ≡ p - n - 1 = omega arith in
         let inside : p - 1 - n < 128 = omega (arith, gap.0.0.0) in
-        masks_are _ _ (rw (sym e, front, get_or-take 128 rows (p - 1 - n) no_colours inside) (rw zero-add at (told (p - 1 - n) gap)))
+        masks_are _ _ (rw (sym e, front, get_or-take 128 rows (p - 1 - n) no_support inside) (rw zero-add at (given (p - 1 - n) gap)))
 
-    to : (v : Bool) (k : ℕ) → HasColour old v k ⊎ (Has ended p × (((v ≡ true) × IsSeenIn t (length l) (p - n) p k)
-        ⊎ ((n < p) × HasColour (get_or before (p - n - 1) no_colours) v k))) → (k < length l) × Step l runs n p v (seen t (length l) k)
+    to : (v : Bool) (k : ℕ) → HasColour old v k ⊎ (Has ended p × (((v ≡ true) × IsMirroredIn t (length l) (p - n) p k)
+        ⊎ ((n < p) × HasColour (get_or before (p - n - 1) no_support) v k)))
+        → (k < length l) × Step l runs n p v (mirror_index t (length l) k)
     to v k (inl x) = elim ((masks_are _ old a v k).0 x) [
       | inl (blank, own) ↦ (own.0, inl (omega (arith, own.1), blank))
       | inr (h, y) ↦ (let z = (at_last h v k).0 y in (z.0, inr ((lm.to p h).1, inl z.1)))
@@ -118,12 +122,12 @@ next_told t l clue j w gaps left ends longer ended p before rows last old m are 
     to v k (inr (h, inr (far, x))) = let y = (in_before h far v k).0 x in
         (y.0, inr ((em.to p h).1, inr ((es.to (p - 1) (em.to p h).2).0, inr (omega arith, y.1))))
 
-    from : (v : Bool) (k : ℕ) → k < length l → Step l runs n p v (seen t (length l) k)
-        → HasColour old v k ⊎ (Has ended p × (((v ≡ true) × IsSeenIn t (length l) (p - n) p k)
-        ⊎ ((n < p) × HasColour (get_or before (p - n - 1) no_colours) v k)))
+    from : (v : Bool) (k : ℕ) → k < length l → Step l runs n p v (mirror_index t (length l) k)
+        → HasColour old v k ⊎ (Has ended p × (((v ≡ true) × IsMirroredIn t (length l) (p - n) p k)
+        ⊎ ((n < p) × HasColour (get_or before (p - n - 1) no_support) v k)))
     from v k kl (inl (at, blank)) = search (rules, masks_are _ old a v k)
     from v k kl (inr (one, inl y)) =
-        let g = gs.from (p - 1) (whole_back l clue (suc j) p jl one whole.1 (gap_less l _ v y.1 (n ∷ runs) (p - 1) y.2)) in
+        let g = gs.from (p - 1) (feasible_back l clue (suc j) p jl one whole.1 (gap_less l _ v y.1 (n ∷ runs) (p - 1) y.2)) in
         let x = lm.from p (pw, one, g) in
         search (rules, masks_are _ old a v k, at_last)
     from v k kl (inr (one, inr (e, y))) = inr (
@@ -135,53 +139,53 @@ next_told t l clue j w gaps left ends longer ended p before rows last old m are 
     )
       where
         ends_here : Has ended p
-        ends_here = em.from p (pw, one, es.from (p - 1) (whole_end_back l clue j p one whole.1 e))
+        ends_here = em.from p (pw, one, es.from (p - 1) (feasible_end_back l clue j p one whole.1 e))
 
 -- a stored mask that is read from a list is the mask at that index
-pub kept_is : {A : Type 0} (number : A → ℕ) (P : ℕ → Type 0) (xs : List A) (i : ℕ) (d : A) (m : ℕ) → i < length xs
-    → m ≡ number (get_or xs i d) → IsMaskOf P (get_or (map number xs) i 0) → IsMaskOf P m
-kept_is number P xs i d m inside e p = subst (IsMaskOf P) (sym (e ∙ number_at number xs i d inside)) p
+pub stored_is : {A : Type 0} (bits : A → ℕ) (P : ℕ → Type 0) (xs : List A) (i : ℕ) (d : A) (m : ℕ) → i < length xs
+    → m ≡ bits (get_or xs i d) → IsMaskOf P (get_or (map bits xs) i 0) → IsMaskOf P m
+stored_is bits P xs i d m inside e p = subst (IsMaskOf P) (sym (e ∙ bits_at bits xs i d inside)) p
 
 -- the rows for up to `j` runs hold their prefix supports
-abbrev pub AreRowsTo : Bool → List Cell → List ℕ → ℕ → List ColourMasks → Type 0
+abbrev pub AreRowsTo : Bool → List Cell → List ℕ → ℕ → List SupportMasks → Type 0
 AreRowsTo t l clue j table = (q : ℕ) → q ≤ j → IsRow t l clue q (128 * q) table
 
-pub rows_none : (t : Bool) (l : List Cell) (clue : List ℕ) (table : List ColourMasks)
-    → ((i : ℕ) → IsWholeGap l clue 0 i → AreColoursBefore t l [] i (get_or table i no_colours)) → AreRowsTo t l clue 0 table
-rows_none t l clue table told q h i whole = let e : q ≡ 0 = omega arith in rw (e, zero-add) (told i (rw e at whole))
+pub rows_none : (t : Bool) (l : List Cell) (clue : List ℕ) (table : List SupportMasks)
+    → ((i : ℕ) → IsFeasibleGap l clue 0 i → IsPrefixSupport t l [] i (get_or table i no_support)) → AreRowsTo t l clue 0 table
+rows_none t l clue table given q h i whole = let e : q ≡ 0 = omega arith in rw (e, zero-add) (given i (rw e at whole))
 
 -- the part of a list from an index on is what is left of it, and follows the first part when it is put back
-pub part_is : (a : ℕ) (xs : List ColourMasks) → take (length xs - a) (drop a xs) ≡ drop a xs
+pub part_is : (a : ℕ) (xs : List SupportMasks) → take (length xs - a) (drop a xs) ≡ drop a xs
 part_is a xs = take_all (length xs - a) (drop a xs) (omega (arith, length-drop a xs))
 
-pub part_long : (a : ℕ) (xs : List ColourMasks) → length (take (length xs - a) (drop a xs)) ≡ length xs - a
+pub part_long : (a : ℕ) (xs : List SupportMasks) → length (take (length xs - a) (drop a xs)) ≡ length xs - a
 part_long a xs = rw part_is (length-drop a xs)
 
-pub put_back : (a : ℕ) (xs ys : List ColourMasks) → take a xs ++ (ys ++ drop (length xs - a) (drop a xs)) ≡ take a xs ++ ys
+pub put_back : (a : ℕ) (xs ys : List SupportMasks) → take a xs ++ (ys ++ drop (length xs - a) (drop a xs)) ≡ take a xs ++ ys
 put_back a xs ys = rw (drop_of_length-le (drop a xs) {i = length xs - a} (omega (arith, length-drop a xs)), append-nil) refl
 
 -- the row for `j` runs, as it is read from the table
-pub row_at : (t : Bool) (l : List Cell) (clue : List ℕ) (j : ℕ) (table : List ColourMasks) → AreRowsTo t l clue j table
+pub row_at : (t : Bool) (l : List Cell) (clue : List ℕ) (j : ℕ) (table : List SupportMasks) → AreRowsTo t l clue j table
     → IsRow t l clue j 0 (take (length table - 128 * j) (drop (128 * j) table))
-row_at t l clue j table told i whole =
-    rw (part_is, get_or-drop (128 * j) table (0 + i) no_colours, zero-add i) (told j (omega arith) i whole)
+row_at t l clue j table given i whole =
+    rw (part_is, get_or-drop (128 * j) table (0 + i) no_support, zero-add i) (given j (omega arith) i whole)
 
 -- the next row is written after the row for `j` runs
-pub rows_more : (t : Bool) (l : List Cell) (clue : List ℕ) (j : ℕ) (table new : List ColourMasks) → length l ≤ 128 → 128 * j ≤ length table
+pub rows_more : (t : Bool) (l : List Cell) (clue : List ℕ) (j : ℕ) (table new : List SupportMasks) → length l ≤ 128 → 128 * j ≤ length table
     → AreRowsTo t l clue j table → IsRow t l clue (j + 1) 128 new
-    → ((k : ℕ) → k < 128 → get_or new k no_colours ≡ get_or (take (length table - 128 * j) (drop (128 * j) table)) k no_colours)
+    → ((k : ℕ) → k < 128 → get_or new k no_support ≡ get_or (take (length table - 128 * j) (drop (128 * j) table)) k no_support)
     → AreRowsTo t l clue (j + 1) (take (128 * j) table ++ (new ++ drop (length table - 128 * j) (drop (128 * j) table)))
-rows_more t l clue j table new short room told next same q le i whole =
+rows_more t l clue j table new short fits given next same q le i whole =
     let front = take (128 * j) table in
-    let size : length front ≡ 128 * j = length-take-le (128 * j) table room in
+    let size : length front ≡ 128 * j = length-take-le (128 * j) table fits in
     let within : i < 128 = omega (arith, whole.0.0.0) in
-    let back : (k : ℕ) → get_or (front ++ new) (128 * j + k) no_colours ≡ get_or new k no_colours =
-    λ k. rw size at (get_or-append-add front new k no_colours) in
+    let back : (k : ℕ) → get_or (front ++ new) (128 * j + k) no_support ≡ get_or new k no_support =
+    λ k. rw size at (get_or-append-add front new k no_support) in
     rw put_back (elim (cases_lt q j) [
       | inl low ↦
-          (let inside : 128 * q + i < 128 * j = omega arith in search (rules, get_or_append_left, get_or-take, told q))
+          (let inside : 128 * q + i < 128 * j = omega arith in search (rules, get_or_append_left, get_or-take, given q))
       | inr high ↦ elim (cases_eq q j) [
-        | inl e ↦ rw (e, back i, same i within, part_is, get_or-drop (128 * j) table i no_colours) (told j (omega arith) i (rw e at whole))
+        | inl e ↦ rw (e, back i, same i within, part_is, get_or-drop (128 * j) table i no_support) (given j (omega arith) i (rw e at whole))
         | inr ne ↦
             (let e : q ≡ j + 1 = omega arith in
             let at : 128 * (j + 1) + i ≡ 128 * j + (128 + i) = omega arith in rw (e, at, back (128 + i)) (next i (rw e at whole)))

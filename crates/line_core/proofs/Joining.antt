@@ -1,6 +1,6 @@
 -- A line cut at a cell: placings of both parts make a placing of the whole, and a placing of the whole falls into two.
-use Rattle.line_core.proofs.Names.{common_steps, rules, ◌≡◌, ◌↔◌, ℕ, zero, suc, ◌+◌, ◌-◌, ◌<◌, ◌≤◌, Bool, true, false, List, [], ◌∷◌, ◌++◌, length, replicate, refl, sym, ap, ◌∙◌, arith, add-zero, ◌⊎◌, inl, inr, drop, get_or, drop-cons, add-one, drop_of_length-le, length-drop, reverse, runs_after, get_or-reverse, length-reverse, cases_lt, and_from, and_parts, Cell, Unknown, allows, agrees, runs, AllFrom, behind, HasPlacing, MayBeginBlank, MayBe, IsGapAfter, IsGap, IsGapAhead, IsBlankable, ArePositive, runs_after-zero, runs_after-true, runs_after-close, runs_after-nil}
-use Rattle.line_core.proofs.Certain.{CanBe}
+use Rattle.line_core.proofs.Names.{common_steps, rules, ◌≡◌, ◌↔◌, ℕ, zero, suc, ◌+◌, ◌-◌, ◌<◌, ◌≤◌, Bool, true, false, List, [], ◌∷◌, ◌++◌, length, replicate, refl, sym, ap, ◌∙◌, arith, add-zero, ◌⊎◌, inl, inr, drop, get_or, drop-cons, add-one, drop_of_length-le, length-drop, reverse, runs_after, get_or-reverse, length-reverse, cases_lt, and_from, and_parts, Cell, Unknown, allows, agrees, runs, AllFrom, reversed_prefix, HasPlacing, MayBeginBlank, MayBe, IsGapAfter, IsPrefixGap, IsSuffixGap, IsBlankable, ArePositive, runs_after-zero, runs_after-true, runs_after-close, runs_after-nil}
+use Rattle.line_core.proofs.DeducedCells.{CanBe}
 
 -- a full line that agrees with a line is as long as it
 pub length-agrees : (l : List Cell) (x : List Bool) → agrees l x ≡ true → length x ≡ length l
@@ -20,14 +20,15 @@ onto [] after = after
 onto (x ∷ before) after = onto before (x ∷ after)
 
 -- the reversed prefix up to index `i` has `i` elements
-pub length_behind : {A : Type 0} (d : A) (xs : List A) (i : ℕ) → length (behind d xs i) ≡ i
-length_behind d xs zero = refl
-length_behind d xs (suc i) = ap suc (length_behind d xs i)
+pub length_reversed_prefix : {A : Type 0} (d : A) (xs : List A) (i : ℕ) → length (reversed_prefix d xs i) ≡ i
+length_reversed_prefix d xs zero = refl
+length_reversed_prefix d xs (suc i) = ap suc (length_reversed_prefix d xs i)
 
 -- a reversed prefix, reversed in front of the rest of the list, is the list
-pub onto_behind : {A : Type 0} (d : A) (xs : List A) (i : ℕ) → i ≤ length xs → onto (behind d xs i) (drop i xs) ≡ xs
-onto_behind d xs zero h = refl
-onto_behind d xs (suc i) h = ap (onto (behind d xs i)) (sym (drop-cons xs i d h)) ∙ onto_behind d xs i (omega arith)
+pub onto_reversed_prefix : {A : Type 0} (d : A) (xs : List A) (i : ℕ) → i ≤ length xs → onto (reversed_prefix d xs i) (drop i xs) ≡ xs
+onto_reversed_prefix d xs zero h = refl
+onto_reversed_prefix d xs (suc i) h =
+    ap (onto (reversed_prefix d xs i)) (sym (drop-cons xs i d h)) ∙ onto_reversed_prefix d xs i (omega arith)
 
 -- after the elements of the first list come those of the second
 pub get_or-onto : {A : Type 0} (d : A) (a b : List A) (z : ℕ) → get_or (onto a b) (length a + z) d ≡ get_or b z d
@@ -55,7 +56,7 @@ drop_head (x ∷ xs) (suc i) r q e = let t = drop_head xs i r q e in (t.0, t.1, 
 
 -- a clue of two parts: `p` is its reversed prefix, and `q` the numbers after it
 pub onto_split : (p q clue : List ℕ) → onto p q ≡ clue
-    → (p ≡ behind 0 clue (length p)) × (q ≡ drop (length p) clue) × (length p ≤ length clue)
+    → (p ≡ reversed_prefix 0 clue (length p)) × (q ≡ drop (length p) clue) × (length p ≤ length clue)
 onto_split [] q clue e = (refl, e, omega arith)
 onto_split (r ∷ p) q clue e = search (rules, drop_head, onto_split p (r ∷ q) clue e)
 
@@ -140,23 +141,27 @@ begins_some y b h = search rules
 
 -- a cell that is blankable by the feasible gaps is blank in a placing
 pub blankable_to : (l : List Cell) (clue : List ℕ) (i : ℕ) → IsBlankable l clue i → CanBe l clue false i
-blankable_to l clue i (j, jl, gap, ahead) =
+blankable_to l clue i (j, jl, gap, suffix) =
     let a = gap.1 in
-    let b = ahead.1 in
-    let at : length a.0 + 0 ≡ i = omega (arith, length-agrees (behind Unknown l i) a.0 a.1, length_behind Unknown l i) in
+    let b = suffix.1 in
+    let at : length a.0 + 0 ≡ i = omega (arith, length-agrees (reversed_prefix Unknown l i) a.0 a.1, length_reversed_prefix Unknown l i) in
     let here : agrees (drop i l) (false ∷ b.0) ≡ true = search (rules, drop-cons, and_from, add-one) in
-    let whole = agrees_onto (behind Unknown l i) (drop i l) a.0 (false ∷ b.0) a.1 here in
-    (onto a.0 (false ∷ b.0), search (rules, onto_behind), search (rules, runs_cut, onto_behind), search (rules, get_or-onto))
+    let whole = agrees_onto (reversed_prefix Unknown l i) (drop i l) a.0 (false ∷ b.0) a.1 here in (
+      onto a.0 (false ∷ b.0),
+      search (rules, onto_reversed_prefix),
+      search (rules, runs_cut, onto_reversed_prefix),
+      search (rules, get_or-onto),
+    )
 
 -- a cell that is blank in a placing is blankable by the feasible gaps
 pub blankable_from : (l : List Cell) (clue : List ℕ) (i : ℕ) → i < length l → CanBe l clue false i → IsBlankable l clue i
 blankable_from l clue i h (x, agree, is, at) =
-    let a = behind false x i in
+    let a = reversed_prefix false x i in
     let b = drop (suc i) x in
-    let whole : onto a (false ∷ b) ≡ x = grind (arith, common_steps, onto_behind, drop-cons, length-agrees l x agree) in
+    let whole : onto a (false ∷ b) ≡ x = grind (arith, common_steps, onto_reversed_prefix, drop-cons, length-agrees l x agree) in
     let parts = onto_split (runs a) (runs b) clue (sym (runs_cut a b) ∙ ap runs whole ∙ is) in
-    let cut = onto_agrees (behind Unknown l i) (drop i l) a (false ∷ b) in
-    grind (arith, common_steps, drop_past, add-one, cut, length_behind, onto_behind)
+    let cut = onto_agrees (reversed_prefix Unknown l i) (drop i l) a (false ∷ b) in
+    grind (arith, common_steps, drop_past, add-one, cut, length_reversed_prefix, onto_reversed_prefix)
 
 -- ---- before an index comes the start of the line or a gap
 
@@ -172,38 +177,39 @@ closed_first c cells cs =
     (λ x. search rules, λ (a, (y, agree, is)). (false ∷ y, and_from (allows c false) (agrees cells y) a agree, is, refl))
 
 -- no run ends right before index `s`: so it is the start of the line, or follows a gap
-pub closed_behind_to : (l : List Cell) (runs : List ℕ) (s : ℕ) → s ≤ length l → MayBeginBlank (behind Unknown l s) runs
+pub closed_prefix_to : (l : List Cell) (runs : List ℕ) (s : ℕ) → s ≤ length l → MayBeginBlank (reversed_prefix Unknown l s) runs
     → ((s ≡ 0) × (length runs ≡ 0)) ⊎ ((1 ≤ s) × IsGapAfter l runs (s - 1))
-closed_behind_to l runs s sl h = search rules
+closed_prefix_to l runs s sl h = search rules
 
 -- at the start of the line, and after a gap, no run ends right before
-pub closed_behind_from : (l : List Cell) (runs : List ℕ) (s : ℕ) → ((s ≡ 0) × (length runs ≡ 0)) ⊎ ((1 ≤ s) × IsGapAfter l runs (s - 1))
-    → MayBeginBlank (behind Unknown l s) runs
-closed_behind_from l runs zero h = search (rules, closed_none)
-closed_behind_from l runs (suc s) h = search (rules, (closed_first (get_or l s Unknown) (behind Unknown l s) runs).1)
+pub closed_prefix_from : (l : List Cell) (runs : List ℕ) (s : ℕ) → ((s ≡ 0) × (length runs ≡ 0)) ⊎ ((1 ≤ s) × IsGapAfter l runs (s - 1))
+    → MayBeginBlank (reversed_prefix Unknown l s) runs
+closed_prefix_from l runs zero h = search (rules, closed_none)
+closed_prefix_from l runs (suc s) h = search (rules, (closed_first (get_or l s Unknown) (reversed_prefix Unknown l s) runs).1)
 
 -- ---- the mirrored line and clue
 
-behind_reversed : {A : Type 0} (d : A) (xs : List A) (p m : ℕ) → p + m ≡ length xs → behind d (reverse xs) p ≡ drop m xs
-behind_reversed {A = A} d xs zero m e = sym (drop_of_length-le xs {i = m} (omega arith))
-behind_reversed {A = A} d xs (suc p) m e = search (rules, get_or-reverse, drop-cons, behind_reversed d xs p (suc m) (omega arith))
+reversed_prefix_of_reverse : {A : Type 0} (d : A) (xs : List A) (p m : ℕ) → p + m ≡ length xs → reversed_prefix d (reverse xs) p ≡ drop m xs
+reversed_prefix_of_reverse {A = A} d xs zero m e = sym (drop_of_length-le xs {i = m} (omega arith))
+reversed_prefix_of_reverse {A = A} d xs (suc p) m e =
+    search (rules, get_or-reverse, drop-cons, reversed_prefix_of_reverse d xs p (suc m) (omega arith))
 
 -- the gaps of the mirrored line are the suffix gaps of the line
 pub reversed_gap : (l : List Cell) (clue : List ℕ) (j i : ℕ) → j ≤ length clue → i < length l
-    → IsGap (reverse l) (reverse clue) (length clue - j) (length l - 1 - i) ↔ IsGapAhead l clue j i
-reversed_gap l clue j i jl il = search (rules, get_or-reverse, behind_reversed, length-reverse)
+    → IsPrefixGap (reverse l) (reverse clue) (length clue - j) (length l - 1 - i) ↔ IsSuffixGap l clue j i
+reversed_gap l clue j i jl il = search (rules, get_or-reverse, reversed_prefix_of_reverse, length-reverse)
 
 -- no run starts at index `p`: so it is the end of the line, or a suffix gap
-pub closed_ahead_to : (l : List Cell) (clue : List ℕ) (j p : ℕ) → j ≤ length clue → p ≤ length l → MayBeginBlank (drop p l) (drop j clue)
-    → ((p ≡ length l) × (j ≡ length clue)) ⊎ IsGapAhead l clue j p
-closed_ahead_to l clue j p jl pl h = elim (cases_lt p (length l)) [
+pub closed_suffix_to : (l : List Cell) (clue : List ℕ) (j p : ℕ) → j ≤ length clue → p ≤ length l → MayBeginBlank (drop p l) (drop j clue)
+    → ((p ≡ length l) × (j ≡ length clue)) ⊎ IsSuffixGap l clue j p
+closed_suffix_to l clue j p jl pl h = elim (cases_lt p (length l)) [
   | inr past ↦ (let none = (closed_none (drop j clue)).0 (rw (drop_of_length-le l {i = p} past) at h) in search (rules, length-drop j clue))
   | inl within ↦ inr (let x = (closed_first _ _ _).0 (rw (drop-cons l p Unknown within) at h) in search (rules, add-one))
 ]
 
 -- at the end of the line, and at a suffix gap, no run starts
-pub closed_ahead_from : (l : List Cell) (clue : List ℕ) (j p : ℕ) → ((p ≡ length l) × (j ≡ length clue)) ⊎ IsGapAhead l clue j p
+pub closed_suffix_from : (l : List Cell) (clue : List ℕ) (j p : ℕ) → ((p ≡ length l) × (j ≡ length clue)) ⊎ IsSuffixGap l clue j p
     → MayBeginBlank (drop p l) (drop j clue)
-closed_ahead_from l clue j p (inl h) = search (rules, drop_of_length-le, closed_none)
-closed_ahead_from l clue j p (inr g) =
+closed_suffix_from l clue j p (inl h) = search (rules, drop_of_length-le, closed_none)
+closed_suffix_from l clue j p (inr g) =
     rw (drop-cons l p Unknown g.0.0) ((closed_first (get_or l p Unknown) (drop (suc p) l) (drop j clue)).1 (g.0.1, rw (add-one p) at g.1))

@@ -3,21 +3,21 @@ use Rattle.std.proofs.Common.{◌↔◌, ◌≡◌, ℕ, ◌+◌, ◌<◌, ◌�
 use Rattle.grid_core.specs.declared.cells.Cell.{Cell}
 use Rattle.grid_core.specs.declared.cells.Cell.TheVariants.{Unknown}
 use Rattle.grid_core.specs.Cells.{allows, is_filled}
-use Rattle.place_sets.specs.Masks.{Has, has, IsMaskOf}
-use Rattle.place_sets.proofs.HasLemmas.{true_has}
-use Rattle.place_sets.proofs.WordSteps.{none_is as is_none, some_place}
+use Rattle.bit_sets.specs.Masks.{Has, has, IsMaskOf}
+use Rattle.bit_sets.proofs.HasLemmas.{true_has}
+use Rattle.bit_sets.proofs.WordSteps.{none_is as is_none, some_index}
 use Rattle.std.proofs.lemmas.Bool.{false_from_ne_true, cases_lt}
 use Rattle.std.proofs.lemmas.List.{get_or-reverse, length-reverse}
 use Rattle.std.proofs.lemmas.Nat.Bits.{bit_at-zero}
-use Rattle.line_core.specs.steps.Reach.{MayBe, AreLengths}
+use Rattle.line_core.specs.steps.Feasibility.{MayBe, AreLengths}
 
-free_cell : (c : Cell) → (is_filled c ≡ false) ↔ (allows c false ≡ true)
-free_cell c = search rules
+not_filled_cell : (c : Cell) → (is_filled c ≡ false) ↔ (allows c false ≡ true)
+not_filled_cell c = search rules
 
 -- the cells that can be blank are those that are not in the set of filled cells
-pub free_is : (line : List Cell) (filled m : ℕ) → ((i : ℕ) → i < length line → has filled i ≡ is_filled (get_or line i Unknown))
+pub not_filled_is : (line : List Cell) (filled m : ℕ) → ((i : ℕ) → i < length line → has filled i ≡ is_filled (get_or line i Unknown))
     → IsMaskOf (λ i. (i < length line) × (has filled i ≡ false)) m → IsMaskOf (MayBe line false) m
-free_is line filled m same lacking = search (rules, free_cell)
+not_filled_is line filled m same lacking = search (rules, not_filled_cell)
 
 -- the empty mask is the mask of a property that no index has
 pub none_is : (P : ℕ → Type 0) (m : ℕ) → m ≡ 0 → ((i : ℕ) → P i → ⊥) → IsMaskOf P m
@@ -26,7 +26,7 @@ none_is P m e none = subst (IsMaskOf P) (sym e) (is_none P none)
 -- the mask of a property that no index has is empty
 pub none_in : (P : ℕ → Type 0) (m : ℕ) → IsMaskOf P m → ((i : ℕ) → P i → ⊥) → m ≡ 0
 none_in P m p none =
-    elim (cases_lt 0 m) [ inl some ↦ (let x = some_place m some in absurd (none x.0 (p.to x.0 x.1))) | inr e ↦ omega arith ]
+    elim (cases_lt 0 m) [ inl some ↦ (let x = some_index m some in absurd (none x.0 (p.to x.0 x.1))) | inr e ↦ omega arith ]
 
 pub none_has : (m i : ℕ) → m ≡ 0 → Has m i → ⊥
 none_has m i e h = let z : Has 0 i = subst (λ (k : ℕ). Has k i) e h in omega (arith, bit_at-zero i)
@@ -45,8 +45,8 @@ pub length_at : (width : ℕ) (clue : List ℕ) (j : ℕ) → AreLengths width c
 length_at width clue j are l = (search rules, search rules)
 
 -- the numbers of a reversed clue are in the same range
-pub lengths_turned : (width : ℕ) (clue : List ℕ) → AreLengths width clue → AreLengths width (reverse clue)
-lengths_turned width clue are = record {
+pub lengths_mirrored : (width : ℕ) (clue : List ℕ) → AreLengths width clue → AreLengths width (reverse clue)
+lengths_mirrored width clue are = record {
   positive = λ k d h. search (rules, get_or-reverse, length-reverse, are.positive);
   short = λ k d h. search (rules, get_or-reverse, length-reverse, are.short);
 }

@@ -1,8 +1,8 @@
 -- The leftmost and the rightmost starts: the search of the definition finds them, and so do the feasible ends.
-use Rattle.line_core.proofs.Names.{◌↔◌, inl, inr, false_from_ne_true, rules, ◌≡◌, ℕ, suc, ◌+◌, ◌-◌, ◌<◌, ◌≤◌, Bool, true, false, not, List, [], ◌∷◌, length, map, Some, None, refl, sym, ap, ◌∙◌, arith, get_or, ext_get_or, nat_le, take, MatchBool, All, list_all, find, All-head, All-tail, All-weaker, and_parts, leb-true, le-leb, list_all-map, length-take-le, get_or-take, Cell, placings, run_starts, all_starts, Side, Left, Right, outermost, IsAsFar, IsOuterStart, Has, IsMaskOf, IsWholeEnd, IsGap, IsGapAhead, HasPlacing, ArePositive, cases_Bool, common_steps}
+use Rattle.line_core.proofs.Names.{◌↔◌, inl, inr, false_from_ne_true, rules, ◌≡◌, ℕ, suc, ◌+◌, ◌-◌, ◌<◌, ◌≤◌, Bool, true, false, not, List, [], ◌∷◌, length, map, Some, None, refl, sym, ap, ◌∙◌, arith, get_or, ext_get_or, nat_le, take, MatchBool, All, list_all, find, All-head, All-tail, All-weaker, and_parts, leb-true, le-leb, list_all-map, length-take-le, get_or-take, Cell, placings, run_starts, all_starts, Direction, Left, Right, outermost, IsAsFar, IsOuterStart, Has, IsMaskOf, IsFeasibleEnd, IsPrefixGap, IsSuffixGap, HasPlacing, ArePositive, cases_Bool, common_steps}
 use lib.Pointwise.{pointwise}
 use Rattle.line_core.proofs.Joining.{positive_at, blankable_to, blankable_from}
-use Rattle.line_core.proofs.WholeEnds.{whole_of, placing_with}
+use Rattle.line_core.proofs.FeasibleEnds.{feasible_of, placing_with}
 use Rattle.line_core.proofs.DeductionLaws.{IsPlacing, placings_listed, none_listed, not_all, agrees_is}
 use Rattle.line_core.proofs.RunStarts.{starts_from, run_starts-from, covered}
 use Rattle.line_core.proofs.Painting.{IsLaid, AreFurthest, laid, placing_of, furthest_laid}
@@ -24,16 +24,16 @@ pointwise_antisym xs ys h k =
     ext_get_or 0 xs ys (pointwise_to xs ys h).0 (λ j l. omega (arith, (pointwise_to xs ys h).1 j, (pointwise_to ys xs k).1 j))
 
 -- each start in the first list is as far in a direction as the one in the second list, or further
-abbrev pub all_as_far : Side → List ℕ → List ℕ → Bool
+abbrev pub all_as_far : Direction → List ℕ → List ℕ → Bool
 all_as_far Left = pointwise nat_le
 all_as_far Right = λ xs ys. pointwise nat_le ys xs
 
-as_far_from : (side : Side) (xs ys : List ℕ) → length xs ≡ length ys →
-    ((j : ℕ) → j < length xs → IsAsFar side (get_or xs j 0) (get_or ys j 0)) → all_as_far side xs ys ≡ true
-as_far_from side xs ys e h = search (rules, pointwise_from)
+as_far_from : (direction : Direction) (xs ys : List ℕ) → length xs ≡ length ys →
+    ((j : ℕ) → j < length xs → IsAsFar direction (get_or xs j 0) (get_or ys j 0)) → all_as_far direction xs ys ≡ true
+as_far_from direction xs ys e h = search (rules, pointwise_from)
 
-as_far_antisym : (side : Side) (xs ys : List ℕ) → all_as_far side xs ys ≡ true → all_as_far side ys xs ≡ true → xs ≡ ys
-as_far_antisym side xs ys h k = search (rules, pointwise_antisym)
+as_far_antisym : (direction : Direction) (xs ys : List ℕ) → all_as_far direction xs ys ≡ true → all_as_far direction ys xs ≡ true → xs ≡ ys
+as_far_antisym direction xs ys h k = search (rules, pointwise_antisym)
 
 -- a search finds `m` if all full lines that pass the test have the starts `m`, and one passes
 find_only : (p : List ℕ → Bool) (m : List ℕ) (ps : List (List Bool)) → All (λ x. p (run_starts x) ≡ true → run_starts x ≡ m) ps
@@ -70,21 +70,22 @@ module _ (l : List Cell) (clue : List ℕ) where
   placed m pos d = let x = placing_of l clue m pos d in search (rules, agrees_is, run_starts-from, x)
 
   -- if there is a placing, each run has a feasible end
-  pub some_end : (j : ℕ) → ArePositive clue → HasPlacing l clue → j < length clue → (e : ℕ) × IsWholeEnd l clue j e
+  pub some_end : (j : ℕ) → ArePositive clue → HasPlacing l clue → j < length clue → (e : ℕ) × IsFeasibleEnd l clue j e
   some_end j pos p h =
       let e = get_or (starts_from 0 false p.0) j 0 + get_or clue j 0 - 1 in
-      (e, whole_of l clue p.0 j e p.1 p.2 h (omega (arith, positive_at clue pos j h)))
+      (e, feasible_of l clue p.0 j e p.1 p.2 h (omega (arith, positive_at clue pos j h)))
 
   laid_end : (ss : List ℕ) (j : ℕ) → ArePositive clue → IsLaid l clue ss → j < length clue
-      → IsWholeEnd l clue j (get_or ss j 0 + get_or clue j 0 - 1)
+      → IsFeasibleEnd l clue j (get_or ss j 0 + get_or clue j 0 - 1)
   laid_end ss j pos d h =
       let (x, agree, is, starts) = placing_of l clue ss pos d in
-      whole_of l clue x j (get_or ss j 0 + get_or clue j 0 - 1) agree is h (rw starts (omega (arith, positive_at clue pos j h)))
+      feasible_of l clue x j (get_or ss j 0 + get_or clue j 0 - 1) agree is h (rw starts (omega (arith, positive_at clue pos j h)))
 
   -- a placing without runs exists exactly if the first cell can be blank as a gap before all runs
-  pub no_run_is : (gap ahead m : ℕ) → length clue ≡ 0 → 0 < length l → IsMaskOf (IsGap l clue 0) gap → IsMaskOf (IsGapAhead l clue 0) ahead
-      → IsMaskOf (λ i. Has gap i × Has ahead i) m → Has m 0 ↔ HasPlacing l clue
-  no_run_is gap ahead m none some g a q = (
+  pub no_run_is : (gap suffix m : ℕ) → length clue ≡ 0 → 0 < length l → IsMaskOf (IsPrefixGap l clue 0) gap
+      → IsMaskOf (IsSuffixGap l clue 0) suffix
+      → IsMaskOf (λ i. Has gap i × Has suffix i) m → Has m 0 ↔ HasPlacing l clue
+  no_run_is gap suffix m none some g a q = (
     λ h. let both = q.to 0 h in search (rules, blankable_to l clue 0 (0, omega arith, g.to 0 both.0, a.to 0 both.1)),
     λ (x, agree, is).
         let blank = false_from_ne_true (get_or x 0 false) (λ e. let c = covered x clue 0 is e in omega (arith, c.inside)) in
@@ -94,16 +95,17 @@ module _ (l : List Cell) (clue : List ℕ) where
 
 -- ---- in either direction
 
-module _ (side : Side) (l : List Cell) (clue : List ℕ) where
+module _ (direction : Direction) (l : List Cell) (clue : List ℕ) where
   -- the outermost starts are the first that are as far as those of all placings
-  pub outermost_found : outermost side l clue ≡ find (λ starts. list_all (all_as_far side starts) (all_starts l clue)) (all_starts l clue)
+  pub outermost_found : outermost direction l clue
+      ≡ find (λ starts. list_all (all_as_far direction starts) (all_starts l clue)) (all_starts l clue)
   outermost_found = search rules
 
   -- starts that are as far as those of every placing are those of one placing, and are the outermost
-  pub outermost_of : (m : List ℕ) → ArePositive clue → AreFurthest side l clue m → outermost side l clue ≡ Some m
+  pub outermost_of : (m : List ℕ) → ArePositive clue → AreFurthest direction l clue m → outermost direction l clue ≡ Some m
   outermost_of m pos f =
-      let x = placed l clue m pos (furthest_laid side l clue m f) in
-      let test = λ (starts : List ℕ). list_all (all_as_far side starts) (all_starts l clue) in
+      let x = placed l clue m pos (furthest_laid direction l clue m f) in
+      let test = λ (starts : List ℕ). list_all (all_as_far direction starts) (all_starts l clue) in
       let pass : test m ≡ true = grind (arith, common_steps, all_pass, as_far_from) in
       let listed = placings_listed l clue in
       let only = All-weaker (IsPlacing l clue) (λ y. test (run_starts y) ≡ true → run_starts y ≡ m)
@@ -112,7 +114,7 @@ module _ (side : Side) (l : List Cell) (clue : List ℕ) where
 
   -- if each run starts by its outermost feasible end, the starts are those of one placing, and are the outermost
   outermost_is : (m : List ℕ) → ArePositive clue → HasPlacing l clue → length m ≡ length clue
-      → ((j : ℕ) → j < length clue → IsOuterStart side l clue j (get_or m j 0)) → outermost side l clue ≡ Some m
+      → ((j : ℕ) → j < length clue → IsOuterStart direction l clue j (get_or m j 0)) → outermost direction l clue ≡ Some m
   outermost_is m pos p count each =
       outermost_of m pos (record {
         count = count;
@@ -120,23 +122,24 @@ module _ (side : Side) (l : List Cell) (clue : List ℕ) where
         some_laid = laid l clue p.0 p.1 p.2;
         each = λ j h.
             let o = each j h in
-            let x = placing_with l clue j o.end pos h o.whole in
+            let x = placing_with l clue j o.end pos h o.feasible in
             record { starts = starts_from 0 false x.0; laid_so = laid l clue x.0 x.1 x.2; at = x.3 ∙ sym o.start_is };
         furthest = λ ss d j h.
             let o = each j h in
             let far = o.outermost_so _ (laid_end l clue ss j pos d h) in search (rules, positive_at clue pos j h, o.start_is);
       })
 
-  outermost_none : (HasPlacing l clue → ⊥) → outermost side l clue ≡ None
+  outermost_none : (HasPlacing l clue → ⊥) → outermost direction l clue ≡ None
   outermost_none none =
       outermost_found
-      ∙ ap (λ (ps : List (List Bool)). find (λ starts. list_all (all_as_far side starts) (map run_starts ps)) (map run_starts ps))
+      ∙ ap (λ (ps : List (List Bool)). find (λ starts. list_all (all_as_far direction starts) (map run_starts ps)) (map run_starts ps))
       (none_listed l clue (placings l clue) (placings_listed l clue) (λ x p. none (x, (agrees_is l x).1 p.extends, p.runs_are)))
 
   -- `find_starts` returns the outermost starts, or nothing if there is no placing
   pub answered : (list : List ℕ) (b : Bool) → ArePositive clue → length clue ≤ length list
-      → MatchBool b (HasPlacing l clue × ((j : ℕ) → j < length clue → IsOuterStart side l clue j (get_or list j 0))) (HasPlacing l clue → ⊥)
-      → MatchBool b (outermost side l clue ≡ Some (take (length clue) list)) (outermost side l clue ≡ None)
+      → MatchBool b (HasPlacing l clue × ((j : ℕ) → j < length clue → IsOuterStart direction l clue j (get_or list j 0)))
+      (HasPlacing l clue → ⊥)
+      → MatchBool b (outermost direction l clue ≡ Some (take (length clue) list)) (outermost direction l clue ≡ None)
   answered list true pos long h =
       outermost_is (take (length clue) list) pos h.0 (length-take-le (length clue) list long) (λ j k. search (rules, get_or-take, h.1 j))
   answered list false pos long h = outermost_none h

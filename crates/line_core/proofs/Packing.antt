@@ -2,10 +2,10 @@
 use Rattle.line_core.proofs.Names.{◌↔◌, common_steps, rules, ◌≡◌, ℕ, zero, suc, ◌+◌, ◌-◌, ◌*◌, ◌<◌, ◌≤◌, ◌≢◌, Bool, true, false, cond, List, length, replicate, map, nat_le, nat_lt, sym, ap, ◌∙◌, arith, add-one, true≢false, ◌⊎◌, inl, inr, get_or, ext_get_or, range_with_len, false_from_ne_true, cases_lt, take_all, length-replicate, length-map-range_with_len, get_or-map-range_with_len, sum_by_more, sum_by-take-le, Cell, Unknown, agrees, runs, Has, has, IsMaskOf, IsShifted, has_true, true_has, mask_same, AreLengths, MayBe, IsFillable, IsBlankable, has_by, ArePositive, length_at, lacks, none_has, none_in, needed, least_start, IsOverlapBefore, IsOverlap}
 use Rattle.std.proofs.lemmas.Bool.Decides.{nat_tests}
 use Rattle.line_core.proofs.Joining.{positive_at, filled_agrees}
-use Rattle.line_core.proofs.WholeEnds.{IsTold, told_mask, none_told}
+use Rattle.line_core.proofs.FeasibleEnds.{IsInSupport, in_support_mask, none_in_support}
 use Rattle.line_core.proofs.RunStarts.{starts_from, in_run, covered}
 use Rattle.line_core.proofs.Painting.{IsLaid, laid, placing_of}
-use Rattle.line_core.proofs.Certain.{CanBe}
+use Rattle.line_core.proofs.DeducedCells.{CanBe}
 
 -- ---- the least starts
 
@@ -59,8 +59,8 @@ module _ (l : List Cell) (clue : List ℕ) (pos : ArePositive clue) where
       grind (arith, cases_lt 0 (length clue), starts_within (starts_from 0 false x) 0 (laid l clue x agree is), start_last clue)
 
   -- if it needs more, the support is empty
-  pub unfit : (v : Bool) (m : ℕ) → length l + 1 < needed clue → m ≡ 0 → IsMaskOf (IsTold l clue v) m
-  unfit v m long e = none_told l clue v m pos e (λ x agree is. omega (arith, fits x agree is))
+  pub unfit : (v : Bool) (m : ℕ) → length l + 1 < needed clue → m ≡ 0 → IsMaskOf (IsInSupport l clue v) m
+  unfit v m long e = none_in_support l clue v m pos e (λ x agree is. omega (arith, fits x agree is))
 
 -- ---- placings on an unknown line
 
@@ -125,22 +125,22 @@ module _ (l : List Cell) (clue : List ℕ) (slack : ℕ) (any_cell : AnyColour l
   -- ---- the support masks
 
   -- the blankable cells: all cells of the line but the overlaps
-  pub blankable_is : (certain line m : ℕ) → IsMaskOf (IsOverlap clue slack) certain → IsMaskOf (λ i. i < length l) line
-      → IsMaskOf (λ i. Has line i × (has certain i ≡ false)) m → IsMaskOf (IsBlankable l clue) m
-  blankable_is certain line m c a p = told_mask l clue false _ m pos p (λ i. (
-    λ h. (a.to i h.0, can_be_blank i (λ o. true≢false (sym (has_true certain i (c.from i o)) ∙ h.1))),
+  pub blankable_is : (overlap line m : ℕ) → IsMaskOf (IsOverlap clue slack) overlap → IsMaskOf (λ i. i < length l) line
+      → IsMaskOf (λ i. Has line i × (has overlap i ≡ false)) m → IsMaskOf (IsBlankable l clue) m
+  blankable_is overlap line m c a p = in_support_mask l clue false _ m pos p (λ i. (
+    λ h. (a.to i h.0, can_be_blank i (λ o. true≢false (sym (has_true overlap i (c.from i o)) ∙ h.1))),
     λ (within, (x, agree, is, at)).
-        (a.from i within, lacks certain i (λ o. true≢false (sym (overlap_filled l clue pos x slack i agree is e (c.to i o)) ∙ at))),
+        (a.from i within, lacks overlap i (λ o. true≢false (sym (overlap_filled l clue pos x slack i agree is e (c.to i o)) ∙ at))),
   ))
 
   -- with some slack and some run, all cells of the line are fillable
   pub all_fillable : (line : ℕ) → 0 < slack → 0 < length clue → IsMaskOf (λ i. i < length l) line → IsMaskOf (IsFillable l clue) line
-  all_fillable line some any a = told_mask l clue true _ line pos a (λ i. (λ h. (h, can_be_filled i some any h), λ h. h.0))
+  all_fillable line some any a = in_support_mask l clue true _ line pos a (λ i. (λ h. (h, can_be_filled i some any h), λ h. h.0))
 
   -- without slack, or without runs, only the overlaps are fillable
-  pub overlaps_fillable : (certain : ℕ) → (slack ≡ 0) ⊎ (length clue ≡ 0) → IsMaskOf (IsOverlap clue slack) certain
-      → IsMaskOf (IsFillable l clue) certain
-  overlaps_fillable certain still c = told_mask l clue true _ certain pos c (λ i. (
+  pub overlaps_fillable : (overlap : ℕ) → (slack ≡ 0) ⊎ (length clue ≡ 0) → IsMaskOf (IsOverlap clue slack) overlap
+      → IsMaskOf (IsFillable l clue) overlap
+  overlaps_fillable overlap still c = in_support_mask l clue true _ overlap pos c (λ i. (
     λ o. let x = shifted (λ j. 0) (λ j. omega arith) (λ j h. omega arith) in search (rules, filled_agrees, overlap_filled),
     λ (within, (y, agree, is, filled)).
         let at = covered y clue i is filled in
@@ -161,9 +161,10 @@ overlap_more clue w slack j start old some shifted new within h long at o p q r 
     ])
 
 -- the masks of the cells that can be blank and that can be filled are equal exactly if no cell is known
-pub unknown_is : (l : List Cell) (len free room known : ℕ) → len ≡ length l → IsMaskOf (MayBe l false) free → IsMaskOf (MayBe l true) room
-    → IsMaskOf (λ i. has free i ≢ has room i) known → (known ≡ 0) ↔ (l ≡ replicate len Unknown)
-unknown_is l len free room known long f r p = (
+pub unknown_is : (l : List Cell) (len not_filled not_blank known : ℕ) → len ≡ length l → IsMaskOf (MayBe l false) not_filled
+    → IsMaskOf (MayBe l true) not_blank
+    → IsMaskOf (λ i. has not_filled i ≢ has not_blank i) known → (known ≡ 0) ↔ (l ≡ replicate len Unknown)
+unknown_is l len not_filled not_blank known long f r p = (
   λ e. ext_get_or Unknown l (replicate len Unknown) (sym long ∙ sym (length-replicate len Unknown))
       (λ i h. grind (arith, common_steps, none_has known i e, p.from i, f.to i, r.to i, f.from i, r.from i, has_true, true_has, has_by)),
   λ e. search (rules, none_in, has_by, has_true, true_has, unknown_any),

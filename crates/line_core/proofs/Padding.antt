@@ -1,8 +1,8 @@
 -- A line that is padded with blank cells at its end has the same support on its own cells.
 use Rattle.line_core.proofs.Names.{◌↔◌, common_steps, rules, ◌≡◌, ℕ, zero, suc, ◌<◌, Bool, true, false, List, [], ◌∷◌, ◌++◌, length, replicate, get_or, refl, sym, ap, ◌∙◌, arith, length-append, and_from, and_parts, get_or_append_left, Cell, Blank, allows, agrees, runs, runs_after, Has, IsMaskOf, IsBlankable, IsFillable, ArePositive, runs_after-zero, runs_after-true, runs_after-false, runs_after-close, runs_after-nil}
-use Rattle.line_core.proofs.Certain.{CanBe}
+use Rattle.line_core.proofs.DeducedCells.{CanBe}
 use Rattle.line_core.proofs.Joining.{length-agrees}
-use Rattle.line_core.proofs.WholeEnds.{told_is, told_mask}
+use Rattle.line_core.proofs.FeasibleEnds.{in_support_is, in_support_mask}
 
 runs_after-blanks : (x : List Bool) (n m : ℕ) → runs_after n (x ++ replicate m false) ≡ runs_after n x
 runs_after-blanks [] n zero = refl
@@ -48,17 +48,17 @@ module _ (l : List Cell) (clue : List ℕ) (m : ℕ) where
 
   -- the padding is blank in each placing, so the same cells are fillable
   pub fillable_alone : (f : ℕ) → ArePositive clue → IsMaskOf (IsFillable longer clue) f → IsMaskOf (IsFillable l clue) f
-  fillable_alone f pos are = told_mask l clue true _ f pos are (λ i. (
-    λ h. let (y, agree, is, at) = ((told_is longer clue true i pos).0 h).1 in
+  fillable_alone f pos are = in_support_mask l clue true _ f pos are (λ i. (
+    λ h. let (y, agree, is, at) = ((in_support_is longer clue true i pos).0 h).1 in
         let within : i < length l = search (rules, agrees_cut, filled_within, length-agrees) in
         (within, (alone true i within).0 (y, agree, is, at)),
-    λ h. search (rules, told_is longer clue true i pos, alone true i, length-append),
+    λ h. search (rules, in_support_is longer clue true i pos, alone true i, length-append),
   ))
 
   -- the blankable cells of the padded line that are on the line are the blankable cells of the line
   pub blankable_alone : (b p n : ℕ) → ArePositive clue → IsMaskOf (IsBlankable longer clue) b → IsMaskOf (λ i. i < length l) p
       → IsMaskOf (λ i. Has b i × Has p i) n → IsMaskOf (IsBlankable l clue) n
-  blankable_alone b p n pos are first both = told_mask l clue false _ n pos both (λ i. (
-    λ h. let within = first.to i h.1 in (within, (alone false i within).0 ((told_is longer clue false i pos).0 (are.to i h.0)).1),
-    λ h. search (rules, told_is longer clue false i pos, alone false i, length-append, are.from, first.from),
+  blankable_alone b p n pos are first both = in_support_mask l clue false _ n pos both (λ i. (
+    λ h. let within = first.to i h.1 in (within, (alone false i within).0 ((in_support_is longer clue false i pos).0 (are.to i h.0)).1),
+    λ h. search (rules, in_support_is longer clue false i pos, alone false i, length-append, are.from, first.from),
   ))

@@ -1,5 +1,5 @@
 -- Full lines made of given starts: starts that lay out a clue are those of a placing.
-use Rattle.line_core.proofs.Names.{false_from_ne_true, ◌≡◌, ℕ, zero, suc, ◌+◌, ◌-◌, ◌<◌, ◌≤◌, Bool, true, false, List, [], ◌∷◌, ◌++◌, length, replicate, refl, sym, ap, ◌∙◌, arith, inl, inr, add-zero, drop, get_or, drop_of_length-le, rules, cases_lt, and_parts, Cell, Unknown, allows, agrees, runs, AllFrom, Side, Left, Right, IsAsFar, MayBe, ArePositive, common_steps}
+use Rattle.line_core.proofs.Names.{false_from_ne_true, ◌≡◌, ℕ, zero, suc, ◌+◌, ◌-◌, ◌<◌, ◌≤◌, Bool, true, false, List, [], ◌∷◌, ◌++◌, length, replicate, refl, sym, ap, ◌∙◌, arith, inl, inr, add-zero, drop, get_or, drop_of_length-le, rules, cases_lt, and_parts, Cell, Unknown, allows, agrees, runs, AllFrom, Direction, Left, Right, IsAsFar, MayBe, ArePositive, common_steps}
 use Rattle.line_core.proofs.Joining.{filled_agrees, agrees_span, runs_first}
 use Rattle.line_core.proofs.RunStarts.{starts_from, length-run_starts, run_of, filled_in_run, runs_apart, covered}
 
@@ -115,12 +115,12 @@ pub record Witness (l : List Cell) (clue : List ℕ) (j s : ℕ) : Type 0 where
   pub at : get_or starts j 0 ≡ s
 
 -- each start in `m` occurs in starts that lay out the clue, and is as far in a direction as in all such starts
-pub record AreFurthest (side : Side) (l : List Cell) (clue m : List ℕ) : Type 0 where
+pub record AreFurthest (direction : Direction) (l : List Cell) (clue m : List ℕ) : Type 0 where
   pub count : length m ≡ length clue
   pub some : List ℕ
   pub some_laid : IsLaid l clue some
   pub each : (j : ℕ) → j < length clue → Witness l clue j (get_or m j 0)
-  pub furthest : (ss : List ℕ) → IsLaid l clue ss → (j : ℕ) → j < length clue → IsAsFar side (get_or m j 0) (get_or ss j 0)
+  pub furthest : (ss : List ℕ) → IsLaid l clue ss → (j : ℕ) → j < length clue → IsAsFar direction (get_or m j 0) (get_or ss j 0)
 
 -- the first `n` runs end at or before cell `i`, and all others start after it
 abbrev Cut : List ℕ → List ℕ → ℕ → ℕ → Type 0
@@ -141,7 +141,8 @@ cut_of clue ss i (suc n) apart free h later =
 blank_at : (l : List Cell) (clue ss : List ℕ) (i n : ℕ) → IsLaid l clue ss → i < length l → Cut clue ss i n → MayBe l false i
 blank_at l clue ss i n d h (before, after) = search rules
 
-furthest_blank : (side : Side) (l : List Cell) (clue m : List ℕ) (i n : ℕ) → AreFurthest side l clue m → i < length l → n ≤ length clue
+furthest_blank : (direction : Direction) (l : List Cell) (clue m : List ℕ) (i n : ℕ) → AreFurthest direction l clue m → i < length l
+    → n ≤ length clue
     → Cut clue m i n → MayBe l false i
 furthest_blank Left l clue m i zero f h k (before, after) = search rules
 furthest_blank Left l clue m i (suc n) f h k (before, after) =
@@ -161,8 +162,8 @@ furthest_blank Right l clue m i n f h k (before, after) = elim (cases_lt n (leng
 ]
 
 -- the furthest starts of all runs together lay out the clue
-pub furthest_laid : (side : Side) (l : List Cell) (clue m : List ℕ) → AreFurthest side l clue m → IsLaid l clue m
-furthest_laid side l clue m f =
+pub furthest_laid : (direction : Direction) (l : List Cell) (clue m : List ℕ) → AreFurthest direction l clue m → IsLaid l clue m
+furthest_laid direction l clue m f =
     let apart : StandApart clue m = λ j h. search rules in
     record {
       count = f.count;

@@ -1,7 +1,7 @@
 -- Where the runs of a full line start.
-use Rattle.line_core.proofs.Names.{rules, ◌≡◌, ℕ, zero, suc, ◌+◌, ◌-◌, ◌<◌, ◌≤◌, Bool, true, false, not, ◌&&◌, List, [], ◌∷◌, ◌++◌, length, replicate, filter, refl, sym, ap, ◌∙◌, arith, add-zero, add-one, true≢false, inl, inr, drop, get_or, drop-cons, append_assoc, range_with_len, runs, starts_run, run_starts, behind, runs_after, runs_after-zero, runs_after-true, runs_after-false, runs_after-close, runs_after-nil, common_steps, cases_Bool}
+use Rattle.line_core.proofs.Names.{rules, ◌≡◌, ℕ, zero, suc, ◌+◌, ◌-◌, ◌<◌, ◌≤◌, Bool, true, false, not, ◌&&◌, List, [], ◌∷◌, ◌++◌, length, replicate, filter, refl, sym, ap, ◌∙◌, arith, add-zero, add-one, true≢false, inl, inr, drop, get_or, drop-cons, append_assoc, range_with_len, runs, starts_run, run_starts, reversed_prefix, runs_after, runs_after-zero, runs_after-true, runs_after-false, runs_after-close, runs_after-nil, common_steps, cases_Bool}
 use Rattle.std.proofs.Math.Seq.{get_or-append_seam}
-use Rattle.line_core.proofs.Joining.{filled_within, onto, length_behind, onto_behind, get_or-onto, onto_split, drop_head, runs_cut, runs_about, begins, begins_some}
+use Rattle.line_core.proofs.Joining.{filled_within, onto, length_reversed_prefix, onto_reversed_prefix, get_or-onto, onto_split, drop_head, runs_cut, runs_about, begins, begins_some}
 
 -- the indices at which runs start, counted from `p`; the flag is set if the cell before is filled
 abbrev pub starts_from : ℕ → Bool → List Bool → List ℕ
@@ -91,7 +91,7 @@ pub record Run (x : List Bool) (clue : List ℕ) (k : ℕ) : Type 0 where
   pub front_closed : get_or front 0 false ≡ false
   pub back_closed : get_or back 0 false ≡ false
   pub start : length front ≡ get_or (starts_from 0 false x) k 0
-  pub front_runs : runs front ≡ behind 0 clue k
+  pub front_runs : runs front ≡ reversed_prefix 0 clue k
   pub back_runs : runs back ≡ drop (suc k) clue
 
 -- before a filled cell all cells are filled from some index on, before which no filled cell stands
@@ -120,12 +120,13 @@ module _ (x : List Bool) (clue : List ℕ) where
       → (j : ℕ) × (j < length clue) × (run_start j ≡ s) × Run x clue j
   run_at s is filled first =
       let within = filled_within x s filled in
-      let a = behind false x s in
+      let a = reversed_prefix false x s in
       let v = begins (drop s x) in
       let some : 0 < v.count = begins_some (drop s x) v (grind (arith, common_steps, drop-cons)) in
       let closed : get_or a 0 false ≡ false = search rules in
-      let long : length a ≡ s = length_behind false x s in
-      let whole : onto a (replicate v.count true ++ v.rest) ≡ x = ap (onto a) (sym v.whole) ∙ onto_behind false x s (omega arith) in
+      let long : length a ≡ s = length_reversed_prefix false x s in
+      let whole : onto a (replicate v.count true ++ v.rest) ≡ x =
+      ap (onto a) (sym v.whole) ∙ onto_reversed_prefix false x s (omega arith) in
       let parts = onto_split (runs a) (v.count ∷ runs v.rest) clue
       (sym (runs_about a v.count v.rest some closed v.closed) ∙ ap runs whole ∙ is) in
       let cut = drop_head clue (length (runs a)) v.count (runs v.rest) parts.1 in grind (arith, common_steps, start_of_cut)

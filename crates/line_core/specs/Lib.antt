@@ -3,8 +3,8 @@
 pub mod Placings
 pub mod Deduction
 pub mod Order
-pub mod Ends
+pub mod RunStarts
 pub mod Widths
-pub mod Told
-pub mod Pairs
+pub mod Support
+pub mod Lookahead
 pub mod steps

@@ -1,10 +1,10 @@
 -- The number of indices of each set width.
 use Rattle.std.specs.Prelude.{ℕ}
-use Rattle.line_core.specs.declared.widths.Width.{Width}
-use Rattle.line_core.specs.declared.widths.Width.TheVariants.{Narrow, Middle, Wide}
+use Rattle.line_core.specs.declared.widths.SetWidth.{SetWidth}
+use Rattle.line_core.specs.declared.widths.SetWidth.TheVariants.{Narrow, Middle, Wide}
 
 -- the number of indices of the sets of a width
-abbrev pub places_of : Width → ℕ
-places_of Narrow = 64
-places_of Middle = 128
-places_of Wide = 256
+abbrev pub bits_of_width : SetWidth → ℕ
+bits_of_width Narrow = 64
+bits_of_width Middle = 128
+bits_of_width Wide = 256

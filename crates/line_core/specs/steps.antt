@@ -1,11 +1,11 @@
 -- The definitions that only private contracts use.
 pub mod Full
-pub mod Lone
+pub mod SingleRun
 pub mod Outermost
 pub mod Overlaps
-pub mod Passes
-pub mod Reach
-pub mod SettledEnds
-pub mod Pairs
-pub mod Gathers
-pub mod Befores
+pub mod PrefixScan
+pub mod Feasibility
+pub mod KnownEnds
+pub mod Lookahead
+pub mod Combining
+pub mod PrefixSupports

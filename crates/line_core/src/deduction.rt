@@ -2,45 +2,52 @@
 
 ghost use Rattle.std.specs.Prelude.{◌≡◌, ◌<◌, ◌≤◌, List, Some, length, map, vec_capacity, IfOk, All};
 ghost use Rattle.grid_core.specs.declared.cells.Cell.{Cell};
-ghost use Rattle.place_sets.specs.Masks.{IsMaskOf};
+ghost use Rattle.bit_sets.specs.Masks.{IsMaskOf};
+ghost use Rattle.line_core.specs.declared.lookahead.TheConstants.{MAX_LOOKAHEAD_LEN};
 ghost use Rattle.line_core.specs.Deduction.{deduced};
-ghost use Rattle.line_core.specs.Pairs.{TellOf};
-ghost use Rattle.line_core.specs.steps.Passes.{IsSpanOf, padded};
-ghost use Rattle.line_core.specs.steps.Reach.{AreLengths, AreGapsAhead, IsFillable, IsBlankable};
-ghost use Rattle.line_core.specs.Told.{told_by};
+ghost use Rattle.line_core.specs.Lookahead.{AreLookaheadsOf};
+ghost use Rattle.line_core.specs.steps.PrefixScan.{IsDomainOf, padded};
+ghost use Rattle.line_core.specs.steps.Feasibility.{AreLengths, AreSuffixGaps, IsFillable, IsBlankable};
+ghost use Rattle.line_core.specs.Support.{deduced_from};
 
 use crate::Line;
-use crate::full::{full_colours, is_full};
-use crate::lone::lone_colours;
-use crate::overlaps::{is_unknown, unknown_colours};
-use crate::pair_rooms::PairRoom;
-use crate::pairs::Pair;
-use crate::passes::Pass;
-use crate::reach::{GAPS, gap_ahead, inner_ends, whole_ends, write_gaps_ahead};
-use crate::rooms::{Rooms, make_ready};
-use crate::settled_ends::{open_numbers, settled_ends};
-use crate::spans::{Span, padded};
-use crate::widths::{Width, places_needed};
-use grid_core::{Clue, LONGEST_SIDE, LineOf, MOST_RUNS, NoMemory};
-use place_sets::{LEVELS, PlaceSet, Wide, add_spread, first_places, spread_levels, windows_within};
+use crate::buffers::{GapBuffers, ensure_initialized};
+use crate::domains::{LineDomain, padded};
+use crate::full::{full_line_support, is_full};
+use crate::known_ends::{inner_clue_range, known_ends};
+use crate::lookahead::Lookahead;
+use crate::lookahead_buffers::LookaheadBuffers;
+use crate::overlaps::{is_unknown, unknown_line_support};
+use crate::prefix_scan::PrefixScan;
+use crate::single_run::single_run_support;
+use crate::suffix_gaps::{
+    MAX_GAPS, feasible_ends, feasible_inner_ends, suffix_gap, write_suffix_gaps,
+};
+use crate::widths::{SetWidth, bits_needed};
+use bit_sets::{BitSet, Bits256, LEVELS, add_spread, fit_table, prefix, spread_levels};
+use grid_core::{BitLine, Clue, MAX_RUNS, MAX_SIDE, NoMemory};
 use std::alloc::Global;
 use std::marker::Model;
 
 /// Returns the cells that are filled in some placing, and the cells that are blank in some, by a
-/// prefix scan of the line. `gaps` are its suffix gaps, as `write_gaps_ahead` writes them.
-fn possible_colours<W: PlaceSet>(span: &Span<W>, clue: &[u16], gaps: &[W::Kept; GAPS]) -> (W, W)
+/// prefix scan of the line. `gaps` are its suffix gaps, as `write_suffix_gaps` writes them.
+fn scanned_support<W: BitSet>(
+    domain: &LineDomain<W>,
+    clue: &[u16],
+    gaps: &[W::Stored; MAX_GAPS],
+) -> (W, W)
     ghost line: { List Cell }
-    requires span { IsSpanOf W.WIDTH line span.now.len
-        (W.number span.now.free) (W.number span.now.room) }
+    requires domain { IsDomainOf W.WIDTH line domain.now.len
+        (W.bits domain.now.not_filled) (W.bits domain.now.not_blank) }
     requires clue { AreLengths W.WIDTH clue.now }
-    requires count { length clue.now ≤ MOST_RUNS }
-    requires ahead { AreGapsAhead line clue.now (map W.kept_number gaps.now) }
-    ensures filled { IsMaskOf (IsFillable line clue.now) (W.number result.0) }
-    ensures blank { IsMaskOf (IsBlankable line clue.now) (W.number result.1) }
+    requires count { length clue.now ≤ MAX_RUNS }
+    requires suffix { AreSuffixGaps line clue.now (map W.stored_bits gaps.now) }
+    ensures filled { IsMaskOf (IsFillable line clue.now) (W.bits result.0) }
+    ensures blank { IsMaskOf (IsBlankable line clue.now) (W.bits result.1) }
 {
-    let windows = windows_within(span.room);
-    let mut pass = Pass::new(span);
-    let mut blankable = pass.gap().intersection(gap_ahead(clue, gaps, 0));
+    let fits = fit_table(domain.not_blank);
+    let mut scan = PrefixScan::new(domain);
+    let mut blankable = scan.gap().intersection(suffix_gap(clue, gaps, 0));
     if clue.is_empty() {
         return (W::empty(), blankable);
     }
@@ -51,153 +58,161 @@ fn possible_colours<W: PlaceSet>(span: &Span<W>, clue: &[u16], gaps: &[W::Kept; 
     // others are spared the test for that.
     let last = clue.len() - 1;
     for j in 0..last {
-        let ends = pass.step(&windows, clue[j]);
-        let ahead = gap_ahead(clue, gaps, j + 1);
-        let whole = inner_ends(clue, j, ends, ahead);
-        add_spread(&mut spread, whole, clue[j]);
-        blankable = blankable.union(pass.gap().intersection(ahead));
+        let ends = scan.next_run(&fits, clue[j]);
+        let suffix = suffix_gap(clue, gaps, j + 1);
+        let feasible = feasible_inner_ends(clue, j, ends, suffix);
+        add_spread(&mut spread, feasible, clue[j]);
+        blankable = blankable.union(scan.gap().intersection(suffix));
     }
-    let last_ends = pass.step(&windows, clue[last]);
-    let after = gap_ahead(clue, gaps, clue.len());
-    let last_whole = whole_ends(span, clue, last, last_ends, after);
-    add_spread(&mut spread, last_whole, clue[last]);
-    blankable = blankable.union(pass.gap().intersection(after));
+    let last_ends = scan.next_run(&fits, clue[last]);
+    let after = suffix_gap(clue, gaps, clue.len());
+    let last_feasible = feasible_ends(domain, clue, last, last_ends, after);
+    add_spread(&mut spread, last_feasible, clue[last]);
+    blankable = blankable.union(scan.gap().intersection(after));
     (spread_levels(&mut spread), blankable)
 }
 
 /// Returns the cells that are filled in some placing, and the cells that are blank in some, of any
 /// line. `gaps` is a buffer for the suffix gaps.
-fn known_colours<W: PlaceSet>(span: &Span<W>, clue: &[u16], gaps: &mut [W::Kept; GAPS]) -> (W, W)
+fn general_support<W: BitSet>(
+    domain: &LineDomain<W>,
+    clue: &[u16],
+    gaps: &mut [W::Stored; MAX_GAPS],
+) -> (W, W)
     ghost line: { List Cell }
-    requires span { IsSpanOf W.WIDTH line span.now.len
-        (W.number span.now.free) (W.number span.now.room) }
+    requires domain { IsDomainOf W.WIDTH line domain.now.len
+        (W.bits domain.now.not_filled) (W.bits domain.now.not_blank) }
     requires clue { AreLengths W.WIDTH clue.now }
-    requires count { length clue.now ≤ MOST_RUNS }
-    ensures filled { IsMaskOf (IsFillable line clue.now) (W.number result.0) }
-    ensures blank { IsMaskOf (IsBlankable line clue.now) (W.number result.1) }
+    requires count { length clue.now ≤ MAX_RUNS }
+    ensures filled { IsMaskOf (IsFillable line clue.now) (W.bits result.0) }
+    ensures blank { IsMaskOf (IsBlankable line clue.now) (W.bits result.1) }
 {
     if clue.len() == 1 {
-        return lone_colours(span, clue);
+        return single_run_support(domain, clue);
     }
-    write_gaps_ahead(span, clue, gaps);
-    possible_colours(span, clue, gaps)
+    write_suffix_gaps(domain, clue, gaps);
+    scanned_support(domain, clue, gaps)
 }
 
 /// Returns the cells that are filled in some placing, and the cells that are blank in some. Lines
 /// whose cells are all unknown or all known are computed directly; any other line is padded to the
 /// width of the sets, and scanned unless its clue is a single run. `gaps` is a buffer for the
 /// suffix gaps.
-pub fn colours<W: PlaceSet>(span: &Span<W>, clue: &[u16], gaps: &mut [W::Kept; GAPS]) -> (W, W)
+pub fn line_support<W: BitSet>(
+    domain: &LineDomain<W>,
+    clue: &[u16],
+    gaps: &mut [W::Stored; MAX_GAPS],
+) -> (W, W)
     ghost line: { List Cell }
-    requires span { IsSpanOf W.WIDTH line span.now.len
-        (W.number span.now.free) (W.number span.now.room) }
+    requires domain { IsDomainOf W.WIDTH line domain.now.len
+        (W.bits domain.now.not_filled) (W.bits domain.now.not_blank) }
     requires clue { AreLengths W.WIDTH clue.now }
-    requires count { length clue.now ≤ MOST_RUNS }
-    ensures filled { IsMaskOf (IsFillable line clue.now) (W.number result.0) }
-    ensures blank { IsMaskOf (IsBlankable line clue.now) (W.number result.1) }
+    requires count { length clue.now ≤ MAX_RUNS }
+    ensures filled { IsMaskOf (IsFillable line clue.now) (W.bits result.0) }
+    ensures blank { IsMaskOf (IsBlankable line clue.now) (W.bits result.1) }
 {
-    if is_unknown(span) {
-        return unknown_colours(span.len, clue);
+    if is_unknown(domain) {
+        return unknown_line_support(domain.len, clue);
     }
-    if is_full(span) {
-        return full_colours(span, clue);
+    if is_full(domain) {
+        return full_line_support(domain, clue);
     }
     // A padded line is mirrored without a shift. The appended cells are blank in each placing, so
     // they have to be removed from the second set only.
-    let (fillable, blankable) = known_colours(&padded(span), clue, gaps);
-    (fillable, blankable.intersection(first_places(span.len)))
+    let (fillable, blankable) = general_support(&padded(domain), clue, gaps);
+    (fillable, blankable.intersection(prefix(domain.len)))
 }
 
 /// Returns the line of `len` cells in which each cell that is in just one of the sets has its
 /// colour, and any other cell is unknown: the deduced line, if the sets are the cells that are
 /// filled, and blank, in some placing. Returns `None` if the first cell is in neither set.
-pub fn certain<W: PlaceSet>(len: u16, fillable: W, blankable: W) -> Option<LineOf<W>>
+pub fn deduced_from<W: BitSet>(len: u16, fillable: W, blankable: W) -> Option<BitLine<W>>
     requires { (1 ≤ len) × (len ≤ W.WIDTH) }
-    ensures { result ≡ told_by len (W.number fillable) (W.number blankable) }
+    ensures { result ≡ deduced_from len (W.bits fillable) (W.bits blankable) }
 {
     // In a placing the first cell has a colour, so if it can take none there is no placing.
     if !fillable.union(blankable).contains(0) {
         return None;
     }
-    let within = first_places(len);
+    let within = prefix(len);
     let filled = fillable.difference(blankable).intersection(within);
     let blank = blankable.difference(fillable).intersection(within);
-    Some(LineOf::of_sets(len, filled, blank))
+    Some(BitLine::from_sets(len, filled, blank))
 }
 
 /// Returns the deduced line for the numbers of a clue, or `None` if there is no placing. The vector
 /// is the buffer for the suffix gaps, which is initialized on first use.
-fn deduce_numbers<W: PlaceSet>(
-    room: &mut Vec<[W::Kept; GAPS]>,
-    line: &LineOf<W>,
+fn deduce_numbers<W: BitSet>(
+    buffer: &mut Vec<[W::Stored; MAX_GAPS]>,
+    line: &BitLine<W>,
     clue: &[u16],
-) -> Option<LineOf<W>>
+) -> Option<BitLine<W>>
     ghost cells: { List Cell }
     requires cells { line.now ≡ cells }
     requires clue { AreLengths W.WIDTH clue.now }
-    requires count { length clue.now ≤ MOST_RUNS }
-    requires room { 0 < vec_capacity room.old }
+    requires count { length clue.now ≤ MAX_RUNS }
+    requires buffer { 0 < vec_capacity buffer.old }
     ensures answer { result ≡ deduced cells clue.now }
-    ensures room { 0 < vec_capacity room.new }
+    ensures buffer { 0 < vec_capacity buffer.new }
 {
-    make_ready::<W>(room);
-    let span = Span::of(line);
-    let (fillable, blankable) = colours(&span, clue, &mut room[0]);
-    certain(span.len, fillable, blankable)
+    ensure_initialized::<W>(buffer);
+    let domain = LineDomain::of(line);
+    let (fillable, blankable) = line_support(&domain, clue, &mut buffer[0]);
+    deduced_from(domain.len, fillable, blankable)
 }
 
 /// Returns the deduced line, or `None` if there is no placing. Uses sets of 64 indices if these
 /// hold the line and the numbers of the clue, and sets of type `W` if not; the two vectors are the
 /// gap buffers of these sets.
-fn deduce_part<W: PlaceSet>(
-    narrow: &mut Vec<[u64; GAPS]>,
-    room: &mut Vec<[W::Kept; GAPS]>,
-    line: &LineOf<W>,
+fn deduce_part<W: BitSet>(
+    narrow: &mut Vec<[u64; MAX_GAPS]>,
+    buffer: &mut Vec<[W::Stored; MAX_GAPS]>,
+    line: &BitLine<W>,
     clue: &[u16],
-) -> Option<LineOf<W>>
+) -> Option<BitLine<W>>
     requires clue { AreLengths W.WIDTH clue.now }
-    requires count { length clue.now ≤ MOST_RUNS }
+    requires count { length clue.now ≤ MAX_RUNS }
     requires narrow { 0 < vec_capacity narrow.old }
-    requires room { 0 < vec_capacity room.old }
+    requires buffer { 0 < vec_capacity buffer.old }
     ensures answer { result ≡ deduced line.now clue.now }
     ensures narrow { 0 < vec_capacity narrow.new }
-    ensures room { 0 < vec_capacity room.new }
+    ensures buffer { 0 < vec_capacity buffer.new }
 {
-    if places_needed(line.len(), clue) > 64 {
-        return deduce_numbers(room, line, clue);
+    if bits_needed(line.len(), clue) > 64 {
+        return deduce_numbers(buffer, line, clue);
     }
     match deduce_numbers::<u64>(narrow, &line.resized(), clue) {
         None => None,
-        Some(certain) => Some(certain.resized()),
+        Some(deduced) => Some(deduced.resized()),
     }
 }
 
 /// Returns the deduced line, or `None` if there is no placing. Trims the known cells at both ends
 /// first, if there are enough of them, and deduces the cells between them alone.
-fn deduce_open<W: PlaceSet>(
-    narrow: &mut Vec<[u64; GAPS]>,
-    room: &mut Vec<[W::Kept; GAPS]>,
-    line: &LineOf<W>,
+fn deduce_trimmed<W: BitSet>(
+    narrow: &mut Vec<[u64; MAX_GAPS]>,
+    buffer: &mut Vec<[W::Stored; MAX_GAPS]>,
+    line: &BitLine<W>,
     clue: &[u16],
-) -> Option<LineOf<W>>
+) -> Option<BitLine<W>>
     requires clue { AreLengths W.WIDTH clue.now }
-    requires count { length clue.now ≤ MOST_RUNS }
+    requires count { length clue.now ≤ MAX_RUNS }
     requires narrow { 0 < vec_capacity narrow.old }
-    requires room { 0 < vec_capacity room.old }
+    requires buffer { 0 < vec_capacity buffer.old }
     ensures answer { result ≡ deduced line.now clue.now }
     ensures narrow { 0 < vec_capacity narrow.new }
-    ensures room { 0 < vec_capacity room.new }
+    ensures buffer { 0 < vec_capacity buffer.new }
 {
-    let (front, back) = settled_ends(line);
+    let (front, back) = known_ends(line);
     if front == 0 && back == 0 {
-        return deduce_numbers(room, line, clue);
+        return deduce_numbers(buffer, line, clue);
     }
-    let (from, to) = open_numbers(line, front, back, clue)?;
+    let (from, to) = inner_clue_range(line, front, back, clue)?;
     // What remains may fit into sets of 64 indices, on which each operation costs less.
-    let open = line.part(front, line.len() - front - back);
-    match deduce_part(narrow, room, &open, &clue[from..to]) {
+    let inner = line.slice(front, line.len() - front - back);
+    match deduce_part(narrow, buffer, &inner, &clue[from..to]) {
         None => None,
-        Some(certain) => Some(line.with_part(front, &certain)),
+        Some(deduced) => Some(line.with_slice(front, &deduced)),
     }
 }
 
@@ -205,7 +220,7 @@ fn deduce_open<W: PlaceSet>(
 #[derive(Drop)]
 pub struct Tables {
     longest: u16,
-    rooms: Rooms,
+    buffers: GapBuffers,
 }
 
 impl Model for Tables {
@@ -220,142 +235,151 @@ impl Tables {
     /// Allocates the buffers for lines of at most `longest` cells, 1 to 256. Returns `NoMemory` if
     /// an allocation fails.
     pub fn new(alloc: Global, longest: u16) -> Result<Tables, NoMemory>
-        requires { (1 ≤ longest) × (longest ≤ LONGEST_SIDE) }
+        requires { (1 ≤ longest) × (longest ≤ MAX_SIDE) }
         ensures { IfOk result (λ tables. tables ≡ longest) }
     {
         Ok(Tables {
             longest,
-            rooms: Rooms::new(alloc)?,
+            buffers: GapBuffers::new(alloc)?,
         })
     }
 }
 
 /// Returns the deduced line, or `None` if there is no placing. No number of the clue may exceed the
 /// width of the sets. The vector is the gap buffer of that width.
-fn deduce_within<W: PlaceSet>(
-    room: &mut Vec<[W::Kept; GAPS]>,
-    line: &LineOf<W>,
+fn deduce_within<W: BitSet>(
+    buffer: &mut Vec<[W::Stored; MAX_GAPS]>,
+    line: &BitLine<W>,
     clue: &Clue,
-) -> Option<LineOf<W>>
+) -> Option<BitLine<W>>
     requires clue { All (λ number. number ≤ W.WIDTH) clue.now }
-    requires room { 0 < vec_capacity room.old }
+    requires buffer { 0 < vec_capacity buffer.old }
     ensures answer { result ≡ deduced line.now clue.now }
-    ensures room { 0 < vec_capacity room.new }
+    ensures buffer { 0 < vec_capacity buffer.new }
 {
-    deduce_numbers(room, line, clue.numbers())
+    deduce_numbers(buffer, line, clue.numbers())
 }
 
-/// Writes, for each unknown cell of a line of at most 128 cells, the line's support after that cell
-/// is filled and after it is made blank. `ahead` is the gap buffer. The entries of known cells are
-/// unspecified.
-fn write_pairs_within<W: PlaceSet>(
-    ahead: &mut Vec<[W::Kept; GAPS]>,
-    room: &mut PairRoom<W>,
-    line: &LineOf<W>,
+/// Writes, for each unknown cell of a line of at most `MAX_LOOKAHEAD_LEN` cells, the line's support
+/// after that cell is filled and after it is made blank. `suffix` is the gap buffer. The entries of
+/// known cells are unspecified.
+fn write_lookaheads_within<W: BitSet>(
+    suffix: &mut Vec<[W::Stored; MAX_GAPS]>,
+    buffers: &mut LookaheadBuffers<W>,
+    line: &BitLine<W>,
     clue: &Clue,
-    pairs: &mut [Pair<W>],
+    lookaheads: &mut [Lookahead<W>],
 )
     requires clue { All (λ number. number ≤ W.WIDTH) clue.now }
-    requires short { length line.now ≤ 128 }
-    requires ahead { 0 < vec_capacity ahead.old }
-    requires room { length clue.now ≤ room.old.most_runs }
-    requires pairs { length line.now ≤ length pairs.old }
-    ensures told { TellOf clue.now line.now pairs.new }
-    ensures count { length pairs.new ≡ length pairs.old }
-    ensures ahead { 0 < vec_capacity ahead.new }
-    ensures room { room.new.most_runs ≡ room.old.most_runs }
+    requires short { length line.now ≤ MAX_LOOKAHEAD_LEN }
+    requires suffix { 0 < vec_capacity suffix.old }
+    requires buffers { length clue.now ≤ buffers.old.max_runs }
+    requires lookaheads { length line.now ≤ length lookaheads.old }
+    ensures lookaheads { AreLookaheadsOf clue.now line.now lookaheads.new }
+    ensures count { length lookaheads.new ≡ length lookaheads.old }
+    ensures suffix { 0 < vec_capacity suffix.new }
+    ensures buffers { buffers.new.max_runs ≡ buffers.old.max_runs }
 {
-    make_ready::<W>(ahead);
-    room.write_pairs(line, clue.numbers(), &mut ahead[0], pairs);
+    ensure_initialized::<W>(suffix);
+    buffers.write_lookaheads(line, clue.numbers(), &mut suffix[0], lookaheads);
 }
 
 /// A bit set in which lines are stored and deduced.
-pub trait LineSet: PlaceSet {
+pub trait LineBits: BitSet {
     /// Returns the line in which each cell has the colour that all placings share, and is unknown
     /// if they differ; `None` if there is no placing. No number of `clue` may exceed the width of
     /// the sets.
-    fn deduce(tables: &mut Tables, line: &LineOf<Self>, clue: &Clue) -> Option<LineOf<Self>>
+    fn deduce(tables: &mut Tables, line: &BitLine<Self>, clue: &Clue) -> Option<BitLine<Self>>
         requires { All (λ number. number ≤ Self.WIDTH) clue.now }
         ensures answer { result ≡ deduced line.now clue.now }
-        ensures room { tables.new ≡ tables.old };
+        ensures tables { tables.new ≡ tables.old };
 
     /// Writes, for each unknown cell of `line`, the support of the line after that cell is filled
-    /// and after it is made blank. The line has at most 128 cells, and no number of `clue` may
-    /// exceed the width of the sets. The entries of known cells are unspecified.
-    fn write_pairs(
+    /// and after it is made blank. The line has at most `MAX_LOOKAHEAD_LEN` cells, and no number of
+    /// `clue` may exceed the width of the sets. The entries of known cells are unspecified.
+    fn write_lookaheads(
         tables: &mut Tables,
-        room: &mut PairRoom<Self>,
-        line: &LineOf<Self>,
+        buffers: &mut LookaheadBuffers<Self>,
+        line: &BitLine<Self>,
         clue: &Clue,
-        pairs: &mut [Pair<Self>],
+        lookaheads: &mut [Lookahead<Self>],
     )
         requires clue { All (λ number. number ≤ Self.WIDTH) clue.now }
-        requires short { length line.now ≤ 128 }
-        requires room { length clue.now ≤ room.old.most_runs }
-        requires pairs { length line.now ≤ length pairs.old }
-        ensures told { TellOf clue.now line.now pairs.new }
-        ensures count { length pairs.new ≡ length pairs.old }
+        requires short { length line.now ≤ MAX_LOOKAHEAD_LEN }
+        requires buffers { length clue.now ≤ buffers.old.max_runs }
+        requires lookaheads { length line.now ≤ length lookaheads.old }
+        ensures lookaheads { AreLookaheadsOf clue.now line.now lookaheads.new }
+        ensures count { length lookaheads.new ≡ length lookaheads.old }
         ensures tables { tables.new ≡ tables.old }
-        ensures room { room.new.most_runs ≡ room.old.most_runs };
+        ensures buffers { buffers.new.max_runs ≡ buffers.old.max_runs };
 }
 
-impl LineSet for u64 {
-    fn deduce(tables: &mut Tables, line: &LineOf<u64>, clue: &Clue) -> Option<LineOf<u64>> {
-        deduce_within(&mut tables.rooms.narrow, line, clue)
+impl LineBits for u64 {
+    fn deduce(tables: &mut Tables, line: &BitLine<u64>, clue: &Clue) -> Option<BitLine<u64>> {
+        deduce_within(&mut tables.buffers.narrow, line, clue)
     }
 
-    fn write_pairs(
+    fn write_lookaheads(
         tables: &mut Tables,
-        room: &mut PairRoom<u64>,
-        line: &LineOf<u64>,
+        buffers: &mut LookaheadBuffers<u64>,
+        line: &BitLine<u64>,
         clue: &Clue,
-        pairs: &mut [Pair<u64>],
+        lookaheads: &mut [Lookahead<u64>],
     ) {
-        write_pairs_within(&mut tables.rooms.narrow, room, line, clue, pairs);
-    }
-}
-
-impl LineSet for u128 {
-    fn deduce(tables: &mut Tables, line: &LineOf<u128>, clue: &Clue) -> Option<LineOf<u128>> {
-        let rooms = &mut tables.rooms;
-        deduce_open(&mut rooms.narrow, &mut rooms.middle, line, clue.numbers())
-    }
-
-    fn write_pairs(
-        tables: &mut Tables,
-        room: &mut PairRoom<u128>,
-        line: &LineOf<u128>,
-        clue: &Clue,
-        pairs: &mut [Pair<u128>],
-    ) {
-        write_pairs_within(&mut tables.rooms.middle, room, line, clue, pairs);
+        write_lookaheads_within(&mut tables.buffers.narrow, buffers, line, clue, lookaheads);
     }
 }
 
-impl LineSet for Wide {
-    fn deduce(tables: &mut Tables, line: &LineOf<Wide>, clue: &Clue) -> Option<LineOf<Wide>> {
-        let rooms = &mut tables.rooms;
-        deduce_open(&mut rooms.narrow, &mut rooms.wide, line, clue.numbers())
+impl LineBits for u128 {
+    fn deduce(tables: &mut Tables, line: &BitLine<u128>, clue: &Clue) -> Option<BitLine<u128>> {
+        let buffers = &mut tables.buffers;
+        deduce_trimmed(
+            &mut buffers.narrow,
+            &mut buffers.middle,
+            line,
+            clue.numbers(),
+        )
     }
 
-    fn write_pairs(
+    fn write_lookaheads(
         tables: &mut Tables,
-        room: &mut PairRoom<Wide>,
-        line: &LineOf<Wide>,
+        buffers: &mut LookaheadBuffers<u128>,
+        line: &BitLine<u128>,
         clue: &Clue,
-        pairs: &mut [Pair<Wide>],
+        lookaheads: &mut [Lookahead<u128>],
     ) {
-        write_pairs_within(&mut tables.rooms.wide, room, line, clue, pairs);
+        write_lookaheads_within(&mut tables.buffers.middle, buffers, line, clue, lookaheads);
+    }
+}
+
+impl LineBits for Bits256 {
+    fn deduce(
+        tables: &mut Tables,
+        line: &BitLine<Bits256>,
+        clue: &Clue,
+    ) -> Option<BitLine<Bits256>> {
+        let buffers = &mut tables.buffers;
+        deduce_trimmed(&mut buffers.narrow, &mut buffers.wide, line, clue.numbers())
+    }
+
+    fn write_lookaheads(
+        tables: &mut Tables,
+        buffers: &mut LookaheadBuffers<Bits256>,
+        line: &BitLine<Bits256>,
+        clue: &Clue,
+        lookaheads: &mut [Lookahead<Bits256>],
+    ) {
+        write_lookaheads_within(&mut tables.buffers.wide, buffers, line, clue, lookaheads);
     }
 }
 
 /// Returns the deduced line, or `None` if there is no placing, using sets of type `W`, which have
 /// to hold the line and the numbers of the clue.
-fn deduce_as<W: LineSet>(tables: &mut Tables, line: &Line, clue: &Clue) -> Option<Line>
+fn deduce_as<W: LineBits>(tables: &mut Tables, line: &Line, clue: &Clue) -> Option<Line>
     requires line { length line.now ≤ W.WIDTH }
     requires clue { All (λ number. number ≤ W.WIDTH) clue.now }
     ensures answer { result ≡ deduced line.now clue.now }
-    ensures room { tables.new ≡ tables.old }
+    ensures tables { tables.new ≡ tables.old }
 {
     match W::deduce(tables, &line.cells.resized(), clue) {
         None => None,
@@ -372,11 +396,11 @@ fn deduce_as<W: LineSet>(tables: &mut Tables, line: &Line, clue: &Clue) -> Optio
 pub fn deduce(tables: &mut Tables, line: &Line, clue: &Clue) -> Option<Line>
     requires { length line.now ≤ tables.old }
     ensures answer { result ≡ deduced line.now clue.now }
-    ensures room { tables.new ≡ tables.old }
+    ensures tables { tables.new ≡ tables.old }
 {
-    match Width::of(places_needed(line.len(), clue.numbers())) {
-        Width::Narrow => deduce_as::<u64>(tables, line, clue),
-        Width::Middle => deduce_as::<u128>(tables, line, clue),
-        Width::Wide => deduce_as::<Wide>(tables, line, clue),
+    match SetWidth::of(bits_needed(line.len(), clue.numbers())) {
+        SetWidth::Narrow => deduce_as::<u64>(tables, line, clue),
+        SetWidth::Middle => deduce_as::<u128>(tables, line, clue),
+        SetWidth::Wide => deduce_as::<Bits256>(tables, line, clue),
     }
 }

@@ -1,42 +1,42 @@
 //! The set operations of the prefix scan: the gaps between runs, and the ends of runs.
 
 ghost use Rattle.std.specs.Prelude.{◌≡◌, ◌-◌, ◌<◌, ◌≤◌, ◌⊎◌, ℕ};
-ghost use Rattle.place_sets.specs.Masks.{Has, IsMaskOf, IsFlooded, IsShifted};
+ghost use Rattle.bit_sets.specs.Masks.{Has, IsMaskOf, IsFlooded, IsShifted};
 
-use place_sets::PlaceSet;
+use bit_sets::BitSet;
 
 /// Returns the gap before the first run: the cells from the first one on, as long as they can be
 /// blank.
-pub fn first_gap<W: PlaceSet>(free: W) -> W
+pub fn first_gap<W: BitSet>(not_filled: W) -> W
     ensures { IsMaskOf (IsFlooded
-        (λ k. Has (W.number free) k × (k ≡ 0))
-        (Has (W.number free))) (W.number result) }
+        (λ k. Has (W.bits not_filled) k × (k ≡ 0))
+        (Has (W.bits not_filled))) (W.bits result) }
 {
-    W::flood(free.intersection(W::first()), free)
+    W::flood(not_filled.intersection(W::first()), not_filled)
 }
 
 /// Returns the last cells of a run of `length` cells, one for each index at which it can start: one
-/// right after a cell of `gap` or in `opening`, and in `window`, the indices from which `length`
-/// cells can be filled.
-#[tactic(auto, using(place_sets::proofs::Doubling::one_within))]
-pub fn run_ends<W: PlaceSet>(gap: W, opening: W, window: W, length: u16) -> W
+/// right after a cell of `gap` or in `line_start`, and in `fit_starts`, the indices from which
+/// `length` cells can be filled.
+#[tactic(auto, using(bit_sets::proofs::Doubling::one_within))]
+pub fn run_ends<W: BitSet>(gap: W, line_start: W, fit_starts: W, length: u16) -> W
     requires { (0 < length) × (length ≤ W.WIDTH) }
     ensures { IsMaskOf (IsShifted W.WIDTH
-        (λ s. (IsShifted W.WIDTH (Has (W.number gap)) 1 s ⊎ Has (W.number opening) s)
-        × Has (W.number window) s)
-        (length - 1)) (W.number result) }
+        (λ s. (IsShifted W.WIDTH (Has (W.bits gap)) 1 s ⊎ Has (W.bits line_start) s)
+        × Has (W.bits fit_starts) s)
+        (length - 1)) (W.bits result) }
 {
-    let starts = gap.shifted_up(1).union(opening).intersection(window);
+    let starts = gap.shifted_up(1).union(line_start).intersection(fit_starts);
     starts.shifted_up(length - 1)
 }
 
 /// Returns the gap after a run with the last cells `ends`: the cells after each of these, as long
 /// as they can be blank.
-#[tactic(auto, using(place_sets::proofs::Doubling::one_within))]
-pub fn gap_after<W: PlaceSet>(ends: W, free: W) -> W
+#[tactic(auto, using(bit_sets::proofs::Doubling::one_within))]
+pub fn gap_after<W: BitSet>(ends: W, not_filled: W) -> W
     ensures { IsMaskOf (IsFlooded
-        (λ k. IsShifted W.WIDTH (Has (W.number ends)) 1 k × Has (W.number free) k)
-        (Has (W.number free))) (W.number result) }
+        (λ k. IsShifted W.WIDTH (Has (W.bits ends)) 1 k × Has (W.bits not_filled) k)
+        (Has (W.bits not_filled))) (W.bits result) }
 {
-    W::flood(ends.shifted_up(1).intersection(free), free)
+    W::flood(ends.shifted_up(1).intersection(not_filled), not_filled)
 }

@@ -7,7 +7,7 @@ ghost use Rattle.grid_core.specs.declared.cells.Cell.{Cell};
 ghost use Rattle.grid_core.specs.Cells.{Extends, colour};
 ghost use Rattle.line_core.specs.Placings.{is_placing};
 ghost use Rattle.line_core.specs.Deduction.{deduced};
-ghost use Rattle.line_core.specs.Ends.{leftmost, rightmost, AreStarts};
+ghost use Rattle.line_core.specs.RunStarts.{leftmost, rightmost, AreStarts};
 ghost use Rattle.line_core.specs.Order.{AtMost};
 
 /// A deduced line knows at least what the line knows: each known cell keeps its colour.
@@ -34,7 +34,7 @@ pub fn deduction_is_monotone()
 
 /// Deduction is idempotent: deducing a deduced line changes nothing.
 #[tactic(auto, using(crate::proofs::DeductionLaws::laws))]
-pub fn deduction_settles()
+pub fn deduction_is_idempotent()
     ensures { (line known : List Cell) (clue : List ℕ)
         → deduced line clue ≡ Some known → deduced known clue ≡ Some known }
 {}

@@ -2,31 +2,31 @@
 //! finds its leftmost and rightmost placings; and builds lookahead tables.
 #![tactic(auto)]
 
-mod befores;
+mod buffers;
+mod combining;
 mod deduction;
+mod domains;
 mod full;
 mod gaps;
-mod gathers;
+mod known_ends;
 pub mod laws;
 mod line;
-mod lone;
+mod lookahead;
+mod lookahead_buffers;
+mod lookahead_tables;
 mod overlaps;
-mod pair_rooms;
-mod pair_tables;
-mod pairs;
-mod passes;
-mod reach;
-mod rooms;
-mod settled_ends;
-mod spans;
+mod prefix_scan;
+mod prefix_supports;
+mod single_run;
 mod starts;
+mod suffix_gaps;
 mod widths;
 
-pub use deduction::{LineSet, Tables, deduce};
-pub use grid_core::LineOf;
+pub use deduction::{LineBits, Tables, deduce};
+pub use grid_core::BitLine;
 pub use line::Line;
-pub use pair_rooms::PairRoom;
-pub use pair_tables::PairTable;
-pub use pairs::{Colours, Pair};
+pub use lookahead::{Lookahead, Support};
+pub use lookahead_buffers::LookaheadBuffers;
+pub use lookahead_tables::LookaheadTable;
 pub use starts::{Starts, leftmost, rightmost};
-pub use widths::{Width, places_needed};
+pub use widths::{SetWidth, bits_needed};

@@ -3,14 +3,14 @@
 ghost use Rattle.std.specs.Prelude.{◌≡◌, ◌<◌, ◌≤◌, length, replicate, slice_index_or, slice_set};
 ghost use Rattle.grid_core.specs.declared.cells.Cell.TheVariants.{Unknown};
 
-use grid_core::{Cell, LONGEST_SIDE, LineOf};
-use place_sets::Wide;
+use bit_sets::Bits256;
+use grid_core::{BitLine, Cell, MAX_SIDE};
 use std::marker::Model;
 
 /// A line of 1 to 256 cells, stored in the widest sets. Contracts see it as the list of its cells.
 #[derive(Drop)]
 pub struct Line {
-    pub(crate) cells: LineOf<Wide>,
+    pub(crate) cells: BitLine<Bits256>,
 }
 
 impl Model for Line {
@@ -25,18 +25,18 @@ impl Model for Line {
 impl Line {
     /// Returns a line of `len` unknown cells, 1 to 256.
     pub fn unknown(len: u16) -> Line
-        requires { (1 ≤ len) × (len ≤ LONGEST_SIDE) }
+        requires { (1 ≤ len) × (len ≤ MAX_SIDE) }
         ensures { result ≡ replicate len Unknown }
     {
         Line {
-            cells: LineOf::unknown(len),
+            cells: BitLine::unknown(len),
         }
     }
 
     /// Returns the number of cells, 1 to 256.
     pub fn len(&self) -> u16
         ensures len { result ≡ length self.now }
-        ensures within { (1 ≤ length self.now) × (length self.now ≤ LONGEST_SIDE) }
+        ensures within { (1 ≤ length self.now) × (length self.now ≤ MAX_SIDE) }
     {
         self.cells.len()
     }

@@ -2,100 +2,104 @@
 
 ghost use Rattle.std.specs.Prelude.{◌≡◌, ◌<◌, ◌≤◌, [], length, map, take, slice_index, vec_capacity, ℕ, List, Some, None, IfOk, MatchBool};
 ghost use Rattle.grid_core.specs.declared.cells.Cell.{Cell};
-ghost use Rattle.place_sets.specs.Masks.{Has};
-ghost use Rattle.line_core.specs.Ends.{leftmost, rightmost};
+ghost use Rattle.bit_sets.specs.Masks.{Has};
+ghost use Rattle.line_core.specs.RunStarts.{leftmost, rightmost};
 ghost use Rattle.line_core.specs.steps.Outermost.{outermost, IsAsFar, IsOuterStart};
-ghost use Rattle.line_core.specs.steps.Passes.{IsSpanOf};
-ghost use Rattle.line_core.specs.steps.Reach.{AreLengths, AreGapsAhead, HasPlacing};
+ghost use Rattle.line_core.specs.steps.PrefixScan.{IsDomainOf};
+ghost use Rattle.line_core.specs.steps.Feasibility.{AreLengths, AreSuffixGaps, HasPlacing};
 
 use crate::Line;
+use crate::buffers::{GapBuffers, ensure_initialized};
+use crate::domains::LineDomain;
 use crate::gaps::first_gap;
-use crate::passes::Pass;
-use crate::reach::{GAPS, gap_ahead, whole_ends, write_gaps_ahead};
-use crate::rooms::{Rooms, make_ready};
-use crate::spans::Span;
-use crate::widths::{Width, places_needed};
-use grid_core::{Clue, LONGEST_SIDE, LineOf, MOST_RUNS, NoMemory};
-use place_sets::{PlaceSet, Wide, windows_within};
+use crate::prefix_scan::PrefixScan;
+use crate::suffix_gaps::{MAX_GAPS, feasible_ends, suffix_gap, write_suffix_gaps};
+use crate::widths::{SetWidth, bits_needed};
+use bit_sets::{BitSet, Bits256, fit_table};
+use grid_core::{BitLine, Clue, MAX_RUNS, MAX_SIDE, NoMemory};
 use std::alloc::Global;
 use std::marker::Model;
 
 /// The direction in which the runs of a placing are moved as far as they can be.
 #[derive(Clone, Copy)]
-pub enum Side {
+pub enum Direction {
     Left,
     Right,
 }
 
 /// Returns the index of a nonempty set that is furthest in a direction: the least or the greatest
 /// one.
-fn outermost_place<W: PlaceSet>(side: Side, places: W) -> u16
-    requires { 0 < W.number places }
+fn outermost_index<W: BitSet>(direction: Direction, indices: W) -> u16
+    requires { 0 < W.bits indices }
     ensures within { result < W.WIDTH }
-    ensures in_mask { Has (W.number places) result }
-    ensures outermost { (i : ℕ) → Has (W.number places) i → IsAsFar side result i }
+    ensures in_mask { Has (W.bits indices) result }
+    ensures outermost { (i : ℕ) → Has (W.bits indices) i → IsAsFar direction result i }
 {
-    match side {
-        Side::Left => places.first_place(),
-        Side::Right => places.last_place(),
+    match direction {
+        Direction::Left => indices.first_index(),
+        Direction::Right => indices.last_index(),
     }
 }
 
 /// Reports whether a line has a placing for an empty clue, that is, whether its first cell can be
 /// blank without any run before or after it. `gaps` are its suffix gaps.
-fn may_have_no_run<W: PlaceSet>(span: &Span<W>, clue: &[u16], gaps: &[W::Kept; GAPS]) -> bool
+fn may_have_no_run<W: BitSet>(
+    domain: &LineDomain<W>,
+    clue: &[u16],
+    gaps: &[W::Stored; MAX_GAPS],
+) -> bool
     ghost line: { List Cell }
-    requires span { IsSpanOf W.WIDTH line span.now.len
-        (W.number span.now.free) (W.number span.now.room) }
+    requires domain { IsDomainOf W.WIDTH line domain.now.len
+        (W.bits domain.now.not_filled) (W.bits domain.now.not_blank) }
     requires clue { length clue.now ≡ 0 }
-    requires ahead { AreGapsAhead line clue.now (map W.kept_number gaps.now) }
+    requires suffix { AreSuffixGaps line clue.now (map W.stored_bits gaps.now) }
     ensures { MatchBool result (HasPlacing line clue.now) (HasPlacing line clue.now → ⊥) }
 {
-    let gap = first_gap(span.free);
-    let blankable = gap.intersection(gap_ahead(clue, gaps, 0));
+    let gap = first_gap(domain.not_filled);
+    let blankable = gap.intersection(suffix_gap(clue, gaps, 0));
     blankable.contains(0)
 }
 
 /// A buffer for the start of each run of a placing.
 #[derive(Drop)]
 struct StartList {
-    starts: [u16; MOST_RUNS],
+    starts: [u16; MAX_RUNS],
 }
 
 /// Writes, for each run, the start that is furthest in a direction among all placings. Returns
 /// whether there is a placing; if not, the contents of `list` are unspecified. `gaps` are the
 /// suffix gaps of the line.
-fn write_starts<W: PlaceSet>(
-    side: Side,
-    span: &Span<W>,
+fn write_starts<W: BitSet>(
+    direction: Direction,
+    domain: &LineDomain<W>,
     clue: &[u16],
-    gaps: &[W::Kept; GAPS],
+    gaps: &[W::Stored; MAX_GAPS],
     list: &mut StartList,
 ) -> bool
     ghost line: { List Cell }
-    requires span { IsSpanOf W.WIDTH line span.now.len
-        (W.number span.now.free) (W.number span.now.room) }
+    requires domain { IsDomainOf W.WIDTH line domain.now.len
+        (W.bits domain.now.not_filled) (W.bits domain.now.not_blank) }
     requires clue { AreLengths W.WIDTH clue.now }
-    requires count { (0 < length clue.now) × (length clue.now ≤ MOST_RUNS) }
-    requires ahead { AreGapsAhead line clue.now (map W.kept_number gaps.now) }
+    requires count { (0 < length clue.now) × (length clue.now ≤ MAX_RUNS) }
+    requires suffix { AreSuffixGaps line clue.now (map W.stored_bits gaps.now) }
     ensures starts { MatchBool result
         ((j : ℕ) → j < length clue.now
-        → IsOuterStart side line clue.now j (slice_index list.new.starts j))
+        → IsOuterStart direction line clue.now j (slice_index list.new.starts j))
         (HasPlacing line clue.now → ⊥) }
     ensures len { length list.new.starts ≡ length list.old.starts }
 {
-    let windows = windows_within(span.room);
-    let mut pass = Pass::new(span);
+    let fits = fit_table(domain.not_blank);
+    let mut scan = PrefixScan::new(domain);
     // For each run the outermost of all its ends in placings is taken. Together these belong to one
     // placing, so the choice for one run does not restrict those for others.
     for j in 0..clue.len() {
-        let ends = pass.step(&windows, clue[j]);
-        let ahead = gap_ahead(clue, gaps, j + 1);
-        let whole = whole_ends(span, clue, j, ends, ahead);
-        if whole.is_empty() {
+        let ends = scan.next_run(&fits, clue[j]);
+        let suffix = suffix_gap(clue, gaps, j + 1);
+        let feasible = feasible_ends(domain, clue, j, ends, suffix);
+        if feasible.is_empty() {
             return false;
         }
-        list.starts[j] = outermost_place(side, whole) + 1 - clue[j];
+        list.starts[j] = outermost_index(direction, feasible) + 1 - clue[j];
     }
     true
 }
@@ -103,31 +107,31 @@ fn write_starts<W: PlaceSet>(
 /// Writes the starts of the placing that is outermost in a direction, using sets of type `W`.
 /// Returns whether there is a placing; if not, the contents of `list` are unspecified. The vector
 /// is the gap buffer of these sets.
-fn find_starts<W: PlaceSet>(
-    side: Side,
-    line: &LineOf<W>,
+fn find_starts<W: BitSet>(
+    direction: Direction,
+    line: &BitLine<W>,
     clue: &[u16],
-    room: &mut Vec<[W::Kept; GAPS]>,
+    buffer: &mut Vec<[W::Stored; MAX_GAPS]>,
     list: &mut StartList,
 ) -> bool
     ghost cells: { List Cell }
     requires cells { line.now ≡ cells }
     requires clue { AreLengths W.WIDTH clue.now }
-    requires count { length clue.now ≤ MOST_RUNS }
-    requires room { 0 < vec_capacity room.old }
+    requires count { length clue.now ≤ MAX_RUNS }
+    requires buffer { 0 < vec_capacity buffer.old }
     ensures found { MatchBool result
-        (outermost side cells clue.now ≡ Some (take (length clue.now) list.new.starts))
-        (outermost side cells clue.now ≡ None) }
-    ensures room { 0 < vec_capacity room.new }
+        (outermost direction cells clue.now ≡ Some (take (length clue.now) list.new.starts))
+        (outermost direction cells clue.now ≡ None) }
+    ensures buffer { 0 < vec_capacity buffer.new }
 {
-    make_ready::<W>(room);
-    let span = Span::of(line);
-    let gaps = &mut room[0];
-    write_gaps_ahead(&span, clue, gaps);
+    ensure_initialized::<W>(buffer);
+    let domain = LineDomain::of(line);
+    let gaps = &mut buffer[0];
+    write_suffix_gaps(&domain, clue, gaps);
     if clue.is_empty() {
-        may_have_no_run(&span, clue, gaps)
+        may_have_no_run(&domain, clue, gaps)
     } else {
-        write_starts(side, &span, clue, gaps, list)
+        write_starts(direction, &domain, clue, gaps, list)
     }
 }
 
@@ -135,38 +139,38 @@ fn find_starts<W: PlaceSet>(
 /// hold the line and the numbers of the clue. Returns whether there is a placing; if not, the
 /// contents of `list` are unspecified.
 fn find_by_width(
-    side: Side,
+    direction: Direction,
     line: &Line,
     clue: &[u16],
-    rooms: &mut Rooms,
+    buffers: &mut GapBuffers,
     list: &mut StartList,
 ) -> bool
-    requires clue { AreLengths LONGEST_SIDE clue.now }
-    requires count { length clue.now ≤ MOST_RUNS }
+    requires clue { AreLengths MAX_SIDE clue.now }
+    requires count { length clue.now ≤ MAX_RUNS }
     ensures { MatchBool result
-        (outermost side line.now clue.now ≡ Some (take (length clue.now) list.new.starts))
-        (outermost side line.now clue.now ≡ None) }
+        (outermost direction line.now clue.now ≡ Some (take (length clue.now) list.new.starts))
+        (outermost direction line.now clue.now ≡ None) }
 {
-    match Width::of(places_needed(line.len(), clue)) {
-        Width::Narrow => find_starts::<u64>(
-            side,
+    match SetWidth::of(bits_needed(line.len(), clue)) {
+        SetWidth::Narrow => find_starts::<u64>(
+            direction,
             &line.cells.resized(),
             clue,
-            &mut rooms.narrow,
+            &mut buffers.narrow,
             list,
         ),
-        Width::Middle => find_starts::<u128>(
-            side,
+        SetWidth::Middle => find_starts::<u128>(
+            direction,
             &line.cells.resized(),
             clue,
-            &mut rooms.middle,
+            &mut buffers.middle,
             list,
         ),
-        Width::Wide => find_starts::<Wide>(
-            side,
+        SetWidth::Wide => find_starts::<Bits256>(
+            direction,
             &line.cells.resized(),
             clue,
-            &mut rooms.wide,
+            &mut buffers.wide,
             list,
         ),
     }
@@ -178,18 +182,18 @@ fn find_by_width(
 pub struct Starts {
     count: usize,
     list: StartList,
-    rooms: Rooms,
+    buffers: GapBuffers,
 }
 
 impl Model for Starts {
     ghost use Rattle.std.specs.Prelude.{◌≤◌, ℕ, List, take};
-    ghost use Rattle.grid_core.specs.declared.limits.TheConstants.{MOST_RUNS};
+    ghost use Rattle.grid_core.specs.declared.limits.TheConstants.{MAX_RUNS};
 
     ghost Value = { List ℕ };
 
     ghost view = { λ starts. take starts.count starts.list.starts };
 
-    ghost invariant = { λ starts. starts.count ≤ MOST_RUNS };
+    ghost invariant = { λ starts. starts.count ≤ MAX_RUNS };
 }
 
 impl Starts {
@@ -201,9 +205,9 @@ impl Starts {
         Ok(Starts {
             count: 0,
             list: StartList {
-                starts: [0; MOST_RUNS],
+                starts: [0; MAX_RUNS],
             },
-            rooms: Rooms::new(alloc)?,
+            buffers: GapBuffers::new(alloc)?,
         })
     }
 
@@ -218,14 +222,14 @@ impl Starts {
 
     /// Stores the starts of the placing that is outermost in a direction. Returns whether there is
     /// a placing; if not, the list of starts is empty.
-    fn find(&mut self, side: Side, line: &Line, clue: &[u16]) -> bool
-        requires clue { AreLengths LONGEST_SIDE clue.now }
-        requires count { length clue.now ≤ MOST_RUNS }
+    fn find(&mut self, direction: Direction, line: &Line, clue: &[u16]) -> bool
+        requires clue { AreLengths MAX_SIDE clue.now }
+        requires count { length clue.now ≤ MAX_RUNS }
         ensures { MatchBool result
-            (outermost side line.now clue.now ≡ Some self.new)
-            ((outermost side line.now clue.now ≡ None) × (self.new ≡ [])) }
+            (outermost direction line.now clue.now ≡ Some self.new)
+            ((outermost direction line.now clue.now ≡ None) × (self.new ≡ [])) }
     {
-        let found = find_by_width(side, line, clue, &mut self.rooms, &mut self.list);
+        let found = find_by_width(direction, line, clue, &mut self.buffers, &mut self.list);
         self.count = if found { clue.len() } else { 0 };
         found
     }
@@ -238,7 +242,7 @@ pub fn leftmost(line: &Line, clue: &Clue, starts: &mut Starts) -> bool
         (leftmost line.now clue.now ≡ Some starts.new)
         ((leftmost line.now clue.now ≡ None) × (starts.new ≡ [])) }
 {
-    starts.find(Side::Left, line, clue.numbers())
+    starts.find(Direction::Left, line, clue.numbers())
 }
 
 /// Stores the starts of the rightmost placing, each of which is the greatest start of its run among
@@ -248,5 +252,5 @@ pub fn rightmost(line: &Line, clue: &Clue, starts: &mut Starts) -> bool
         (rightmost line.now clue.now ≡ Some starts.new)
         ((rightmost line.now clue.now ≡ None) × (starts.new ≡ [])) }
 {
-    starts.find(Side::Right, line, clue.numbers())
+    starts.find(Direction::Right, line, clue.numbers())
 }

@@ -2,14 +2,14 @@
 
 ghost use Rattle.std.specs.Prelude.{◌≤◌, ℕ};
 ghost use Rattle.std.specs.List.{All};
-ghost use Rattle.line_core.specs.Widths.{places_of};
-ghost use Rattle.line_core.specs.declared.widths.Width.{Width};
+ghost use Rattle.line_core.specs.Widths.{bits_of_width};
+ghost use Rattle.line_core.specs.declared.widths.SetWidth.{SetWidth};
 
-use grid_core::LONGEST_SIDE;
+use grid_core::MAX_SIDE;
 
 /// The number of indices of a kind of bit set: 64, 128 or 256.
 #[derive(Clone, Copy, Debug, PartialEq, Eq)]
-pub enum Width {
+pub enum SetWidth {
     /// 64 indices.
     Narrow,
     /// 128 indices.
@@ -18,27 +18,27 @@ pub enum Width {
     Wide,
 }
 
-impl Width {
-    /// Returns the least width that holds `places` indices, at most 256.
-    pub fn of(places: u16) -> Width
-        requires { places ≤ LONGEST_SIDE }
-        ensures room { places ≤ places_of result }
-        ensures least { (width : Width)
-            → places ≤ places_of width → places_of result ≤ places_of width }
+impl SetWidth {
+    /// Returns the least width that holds `bits` indices, at most 256.
+    pub fn of(bits: u16) -> SetWidth
+        requires { bits ≤ MAX_SIDE }
+        ensures enough { bits ≤ bits_of_width result }
+        ensures least { (width : SetWidth)
+            → bits ≤ bits_of_width width → bits_of_width result ≤ bits_of_width width }
     {
-        if places <= 64 {
-            Width::Narrow
-        } else if places <= 128 {
-            Width::Middle
+        if bits <= 64 {
+            SetWidth::Narrow
+        } else if bits <= 128 {
+            SetWidth::Middle
         } else {
-            Width::Wide
+            SetWidth::Wide
         }
     }
 }
 
 /// Returns how many indices the sets for a line of `len` cells and its clue need: `len`, or the
 /// greatest number of the clue if that is greater.
-pub fn places_needed(len: u16, clue: &[u16]) -> u16
+pub fn bits_needed(len: u16, clue: &[u16]) -> u16
     ensures line { len ≤ result }
     ensures clue { All (λ n. n ≤ result) clue.now }
     ensures least { (most : ℕ) → len ≤ most → All (λ n. n ≤ most) clue.now → result ≤ most }

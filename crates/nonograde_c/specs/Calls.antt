@@ -1,7 +1,7 @@
 -- The answers of the calls, the numbers of their statuses, and what they write to the caller's
 -- buffer.
 use Rattle.std.specs.Prelude.{◌≡◌, ℕ, zero, suc, ◌<◌, ◌≤◌, ◌++◌, List, length, drop, codes, nat_le, if◌then◌else◌, Option, Some, None, Result, Ok, Err}
-use Rattle.lane_core.specs.declared.jobs.TheConstants.{MOST_GUESSES}
+use Rattle.lane_core.specs.declared.jobs.TheConstants.{MAX_GUESSES}
 use Rattle.puzzle_text.specs.Words.{word_of}
 use Rattle.puzzle_text.specs.declared.faults.EntryFault.{EntryFault}
 use Rattle.puzzle_text.specs.declared.faults.EntryFault.TheVariants as entry
@@ -12,7 +12,7 @@ use Rattle.puzzle_text.specs.declared.formats.Format.TheVariants.{Non, Mk, Nin}
 use Rattle.solve_core.specs.declared.picks.Pick.{Pick}
 use Rattle.solve_core.specs.declared.picks.Pick.TheVariants.{First, Most}
 use Rattle.reports.specs.Converting.{converted}
-use Rattle.reports.specs.Reports.{lines_text, said, solve_text, text_or_fault}
+use Rattle.reports.specs.Reports.{lines_text, parsed, solve_text, text_or_fault}
 use Rattle.reports.specs.declared.converting.ConvertFault.{ConvertFault}
 use Rattle.reports.specs.declared.converting.ConvertFault.TheVariants as convert
 use Rattle.nonograde_c.specs.declared.faults.Fault.{Fault}
@@ -66,17 +66,17 @@ fault_word (Entry fault) = word_of fault
 fault_word Ambiguous = codes "Ambiguous"
 
 -- the guess rule with this number, if there is one
-abbrev pub pick_numbered : ℕ → Option Pick
-pick_numbered zero = Some First
-pick_numbered (suc zero) = Some Most
-pick_numbered (suc (suc _)) = None
+abbrev pub pick_from_number : ℕ → Option Pick
+pick_from_number zero = Some First
+pick_from_number (suc zero) = Some Most
+pick_from_number (suc (suc _)) = None
 
 -- the format with this number, if there is one
-abbrev pub format_numbered : ℕ → Option Format
-format_numbered zero = Some Non
-format_numbered (suc zero) = Some Mk
-format_numbered (suc (suc zero)) = Some Nin
-format_numbered (suc (suc (suc _))) = None
+abbrev pub format_from_number : ℕ → Option Format
+format_from_number zero = Some Non
+format_from_number (suc zero) = Some Mk
+format_from_number (suc (suc zero)) = Some Nin
+format_from_number (suc (suc (suc _))) = None
 
 -- the answer of a call that reads an entry
 abbrev pub of_entry : Result (List ℕ) EntryFault → Result (List ℕ) Fault
@@ -96,17 +96,17 @@ of_conversion (Err fault) = Err (fault_of_convert fault)
 
 -- the answer of line logic to the puzzle with this name and text
 abbrev pub lines_answer : List ℕ → List ℕ → Result (List ℕ) Fault
-lines_answer name body = of_entry (text_or_fault lines_text (said name body))
+lines_answer name body = of_entry (text_or_fault lines_text (parsed name body))
 
 -- the answer to grading the puzzle by a guess rule; without a rule, the fault of a bad setting
 abbrev pub solve_by : ℕ → Option Pick → List ℕ → List ℕ → Result (List ℕ) Fault
 solve_by guesses None name body = Err Setting
 solve_by guesses (Some pick) name body =
-    of_entry (text_or_fault (solve_text name guesses pick) (said name body))
+    of_entry (text_or_fault (solve_text name guesses pick) (parsed name body))
 
 -- the guess rule with the number `pick`, if there is one and `guesses` is in its range
 abbrev pub pick_within : ℕ → ℕ → Option Pick
-pick_within guesses pick = if nat_le guesses MOST_GUESSES then pick_numbered pick else None
+pick_within guesses pick = if nat_le guesses MAX_GUESSES then pick_from_number pick else None
 
 -- the answer to grading the puzzle, with the guess rule as a number
 abbrev pub solve_answer : ℕ → ℕ → List ℕ → List ℕ → Result (List ℕ) Fault
@@ -115,11 +115,11 @@ solve_answer guesses pick name body = solve_by guesses (pick_within guesses pick
 -- the answer to converting the puzzle; without a format, the fault of a bad setting
 abbrev pub convert_to : Option Format → List ℕ → List ℕ → Result (List ℕ) Fault
 convert_to None name body = Err Setting
-convert_to (Some format) name body = of_conversion (converted format (said name body))
+convert_to (Some format) name body = of_conversion (converted format (parsed name body))
 
 -- the answer to converting the puzzle, with the format as a number
 abbrev pub convert_answer : ℕ → List ℕ → List ℕ → Result (List ℕ) Fault
-convert_answer format name body = convert_to (format_numbered format) name body
+convert_answer format name body = convert_to (format_from_number format) name body
 
 -- an allocation may fail before this answer is reached: any answer but the fault of a bad setting
 abbrev pub MayLackMemory : Result (List ℕ) Fault → Type 0
@@ -137,21 +137,21 @@ Gives given answer = answer ≡ given
 -- if
 -- not, all of it is unchanged. The reply has the status with this number, or that the buffer is too
 -- small, and the length of `bytes`.
-pub record LeavesBytes (number : ℕ) (bytes : List ℕ) (reply : Reply)
+pub record FillsBuffer (number : ℕ) (bytes : List ℕ) (reply : Reply)
     (old new : List ℕ) : Type 0 where
-  pub told : reply.length ≡ length bytes
-  pub held : length bytes ≤ length old →
+  pub reported : reply.length ≡ length bytes
+  pub fitting : length bytes ≤ length old →
       (reply.status ≡ number) × (new ≡ bytes ++ drop (length bytes) old)
   pub refused : length old < length bytes →
       (reply.status ≡ number_of status.RoomTooSmall) × (new ≡ old)
 
 -- an answer is written to a buffer: the text, or the fault word
-abbrev pub Leaves : Result (List ℕ) Fault → Reply → List ℕ → List ℕ → Type 0
-Leaves (Ok text) reply old new = LeavesBytes (number_of status.Answered) text reply old new
-Leaves (Err fault) reply old new =
-    LeavesBytes (number_of (status_of fault)) (fault_word fault) reply old new
+abbrev pub Fills : Result (List ℕ) Fault → Reply → List ℕ → List ℕ → Type 0
+Fills (Ok text) reply old new = FillsBuffer (number_of status.Answered) text reply old new
+Fills (Err fault) reply old new =
+    FillsBuffer (number_of (status_of fault)) (fault_word fault) reply old new
 
 -- a call writes this answer, or `NoMemory` in its place, to the buffer
 abbrev pub Answers : Result (List ℕ) Fault → Reply → List ℕ → List ℕ → Type 0
 Answers answer reply old new =
-    (given : Result (List ℕ) Fault) × Gives given answer × Leaves given reply old new
+    (given : Result (List ℕ) Fault) × Gives given answer × Fills given reply old new

@@ -2,12 +2,12 @@
 
 ghost use Rattle.std.specs.Prelude.{◌≡◌, ◌<◌, true, false, length, Err, IsSome};
 ghost use Rattle.puzzle_text.specs.Formats.{is_format};
-ghost use Rattle.nonograde_c.specs.Calls.{Gives, convert_answer, fault_of_convert, format_numbered, lines_answer, pick_within, solve_answer};
+ghost use Rattle.nonograde_c.specs.Calls.{Gives, convert_answer, fault_of_convert, format_from_number, lines_answer, pick_within, solve_answer};
 ghost use Rattle.nonograde_c.specs.steps.Answers.{shown};
 
 use crate::faults::Fault;
-use crate::settings::{format_numbered, pick_within};
-use puzzle_text::{EntryFault, LONGEST_PUZZLE, TextFault};
+use crate::settings::{format_from_number, pick_within};
+use puzzle_text::{EntryFault, MAX_PUZZLE_LEN, TextFault};
 use reports::{ConvertFault, convert, lines_report, solve_report};
 use std::alloc::Global;
 
@@ -16,7 +16,7 @@ pub fn lines_answer(alloc: Global, name: &[u8], text: &[u8]) -> Result<Vec<u8>, 
     ensures answer { Gives (shown result) (lines_answer name.now text.now) }
     ensures unknown { is_format name.now ≡ false →
         result ≡ Err (Fault.Entry EntryFault.UnknownFormat) }
-    ensures too_long { is_format name.now ≡ true → LONGEST_PUZZLE < length text.now →
+    ensures too_long { is_format name.now ≡ true → MAX_PUZZLE_LEN < length text.now →
         result ≡ Err (Fault.Entry (EntryFault.Text TextFault.TooLong)) }
 {
     match lines_report(alloc, name, text) {
@@ -38,7 +38,7 @@ pub fn solve_answer(
     ensures unknown { IsSome (pick_within guesses pick) → is_format name.now ≡ false →
         result ≡ Err (Fault.Entry EntryFault.UnknownFormat) }
     ensures too_long { IsSome (pick_within guesses pick) → is_format name.now ≡ true →
-        LONGEST_PUZZLE < length text.now →
+        MAX_PUZZLE_LEN < length text.now →
         result ≡ Err (Fault.Entry (EntryFault.Text TextFault.TooLong)) }
 {
     let Some(pick) = pick_within(guesses, pick) else {
@@ -69,13 +69,13 @@ pub fn convert_answer(
     format: u32,
 ) -> Result<Vec<u8>, Fault>
     ensures answer { Gives (shown result) (convert_answer format name.now text.now) }
-    ensures unknown { IsSome (format_numbered format) → is_format name.now ≡ false →
+    ensures unknown { IsSome (format_from_number format) → is_format name.now ≡ false →
         result ≡ Err (Fault.Entry EntryFault.UnknownFormat) }
-    ensures too_long { IsSome (format_numbered format) → is_format name.now ≡ true →
-        LONGEST_PUZZLE < length text.now →
+    ensures too_long { IsSome (format_from_number format) → is_format name.now ≡ true →
+        MAX_PUZZLE_LEN < length text.now →
         result ≡ Err (Fault.Entry (EntryFault.Text TextFault.TooLong)) }
 {
-    let Some(format) = format_numbered(format) else {
+    let Some(format) = format_from_number(format) else {
         return Err(Fault::Setting);
     };
     match convert(alloc, name, text, format) {

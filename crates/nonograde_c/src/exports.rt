@@ -2,12 +2,12 @@
 
 ghost use Rattle.std.specs.Prelude.{◌≡◌, ◌<◌, true, false, length, Err, IsSome, Ok};
 ghost use Rattle.puzzle_text.specs.Formats.{is_format};
-ghost use Rattle.nonograde_c.specs.Calls.{Answers, Leaves, convert_answer, format_numbered, lines_answer, pick_within, solve_answer};
+ghost use Rattle.nonograde_c.specs.Calls.{Answers, Fills, convert_answer, format_from_number, lines_answer, pick_within, solve_answer};
 
 use crate::answers::{convert_answer, lines_answer, solve_answer};
 use crate::faults::Fault;
-use crate::replies::{Reply, leave_answer, leave_text};
-use puzzle_text::{EntryFault, LONGEST_PUZZLE, TextFault};
+use crate::replies::{Reply, fill_answer, fill_text};
+use puzzle_text::{EntryFault, MAX_PUZZLE_LEN, TextFault};
 use reports::VERSION;
 use std::alloc::Global;
 
@@ -22,35 +22,40 @@ pub extern "C" fn nonograde_solve(
     text: &[u8],
     guesses: u32,
     pick: u32,
-    room: &mut [u8],
+    buffer: &mut [u8],
 ) -> Reply
     ensures answer { Answers (solve_answer guesses pick name.now text.now) result
-        room.old room.new }
+        buffer.old buffer.new }
     // These faults are found before anything is allocated, so `NoMemory` never hides them.
     ensures unknown { IsSome (pick_within guesses pick) → is_format name.now ≡ false →
-        Leaves (Err (Fault.Entry EntryFault.UnknownFormat)) result room.old room.new }
+        Fills (Err (Fault.Entry EntryFault.UnknownFormat)) result buffer.old buffer.new }
     ensures too_long { IsSome (pick_within guesses pick) → is_format name.now ≡ true →
-        LONGEST_PUZZLE < length text.now →
-        Leaves (Err (Fault.Entry (EntryFault.Text TextFault.TooLong))) result room.old room.new }
+        MAX_PUZZLE_LEN < length text.now →
+        Fills (Err (Fault.Entry (EntryFault.Text TextFault.TooLong))) result buffer.old buffer.new }
 {
     let answer = solve_answer(alloc, name, text, guesses, pick);
-    leave_answer(room, &answer)
+    fill_answer(buffer, &answer)
 }
 
 /// Applies line logic to a puzzle's text. The answer is `one K` if all cells are known and `open K`
 /// if not, with K the number of known cells, and then the rows; or `none 0` if there is a
 /// contradiction. The ending of `name` is the format.
 #[unsafe(no_mangle)]
-pub extern "C" fn nonograde_lines(alloc: Global, name: &[u8], text: &[u8], room: &mut [u8]) -> Reply
-    ensures answer { Answers (lines_answer name.now text.now) result room.old room.new }
+pub extern "C" fn nonograde_lines(
+    alloc: Global,
+    name: &[u8],
+    text: &[u8],
+    buffer: &mut [u8],
+) -> Reply
+    ensures answer { Answers (lines_answer name.now text.now) result buffer.old buffer.new }
     // These faults are found before anything is allocated, so `NoMemory` never hides them.
     ensures unknown { is_format name.now ≡ false →
-        Leaves (Err (Fault.Entry EntryFault.UnknownFormat)) result room.old room.new }
-    ensures too_long { is_format name.now ≡ true → LONGEST_PUZZLE < length text.now →
-        Leaves (Err (Fault.Entry (EntryFault.Text TextFault.TooLong))) result room.old room.new }
+        Fills (Err (Fault.Entry EntryFault.UnknownFormat)) result buffer.old buffer.new }
+    ensures too_long { is_format name.now ≡ true → MAX_PUZZLE_LEN < length text.now →
+        Fills (Err (Fault.Entry (EntryFault.Text TextFault.TooLong))) result buffer.old buffer.new }
 {
     let answer = lines_answer(alloc, name, text);
-    leave_answer(room, &answer)
+    fill_answer(buffer, &answer)
 }
 
 /// Converts a puzzle's text to another format: 0 is `.non`, 1 `.mk`, 2 `.nin`. The ending of `name`
@@ -61,24 +66,25 @@ pub extern "C" fn nonograde_convert(
     name: &[u8],
     text: &[u8],
     format: u32,
-    room: &mut [u8],
+    buffer: &mut [u8],
 ) -> Reply
-    ensures answer { Answers (convert_answer format name.now text.now) result room.old room.new }
+    ensures answer { Answers (convert_answer format name.now text.now) result buffer.old
+        buffer.new }
     // These faults are found before anything is allocated, so `NoMemory` never hides them.
-    ensures unknown { IsSome (format_numbered format) → is_format name.now ≡ false →
-        Leaves (Err (Fault.Entry EntryFault.UnknownFormat)) result room.old room.new }
-    ensures too_long { IsSome (format_numbered format) → is_format name.now ≡ true →
-        LONGEST_PUZZLE < length text.now →
-        Leaves (Err (Fault.Entry (EntryFault.Text TextFault.TooLong))) result room.old room.new }
+    ensures unknown { IsSome (format_from_number format) → is_format name.now ≡ false →
+        Fills (Err (Fault.Entry EntryFault.UnknownFormat)) result buffer.old buffer.new }
+    ensures too_long { IsSome (format_from_number format) → is_format name.now ≡ true →
+        MAX_PUZZLE_LEN < length text.now →
+        Fills (Err (Fault.Entry (EntryFault.Text TextFault.TooLong))) result buffer.old buffer.new }
 {
     let answer = convert_answer(alloc, name, text, format);
-    leave_answer(room, &answer)
+    fill_answer(buffer, &answer)
 }
 
 /// Writes the version, as `nonograde --version` prints it.
 #[unsafe(no_mangle)]
-pub extern "C" fn nonograde_version(room: &mut [u8]) -> Reply
-    ensures { Leaves (Ok VERSION.now) result room.old room.new }
+pub extern "C" fn nonograde_version(buffer: &mut [u8]) -> Reply
+    ensures { Fills (Ok VERSION.now) result buffer.old buffer.new }
 {
-    leave_text(room, VERSION.as_bytes())
+    fill_text(buffer, VERSION.as_bytes())
 }

@@ -2,13 +2,14 @@
 
 ghost use Rattle.std.specs.Prelude.{◌≡◌, ◌+◌, ◌++◌, ◌≤◌, length, take, drop, Ok, Err};
 ghost use Rattle.puzzle_text.specs.Words.{at_line};
-ghost use Rattle.nonograde_c.specs.Calls.{Leaves, LeavesBytes, number_of};
+ghost use Rattle.nonograde_c.specs.Calls.{Fills, FillsBuffer, number_of};
 ghost use Rattle.nonograde_c.specs.steps.Answers.{shown};
 
 use crate::faults::{Fault, Status};
 use itoa::Buffer;
 
-/// What a call returns: its status, and the length of its answer, even if the buffer is too small.
+/// What a call returns: its status, and the length of its answer, even if the buffer is too
+/// small.
 #[repr(C)]
 #[derive(Clone, Copy, Debug, PartialEq, Eq)]
 pub struct Reply {
@@ -20,7 +21,7 @@ pub struct Reply {
 
 impl Reply {
     /// Returns the reply for an answer of `length` bytes that fits into the caller's buffer.
-    fn held(status: Status, length: usize) -> Reply
+    fn fitting(status: Status, length: usize) -> Reply
         ensures { result ≡ record { status = number_of status; length = length } }
     {
         Reply {
@@ -29,7 +30,8 @@ impl Reply {
         }
     }
 
-    /// Returns the reply for an answer of `length` bytes that doesn't fit into the caller's buffer.
+    /// Returns the reply for an answer of `length` bytes that doesn't fit into the caller's
+    /// buffer.
     fn too_small(length: usize) -> Reply
         ensures { result ≡ record { status = number_of Status.RoomTooSmall; length = length } }
     {
@@ -39,67 +41,69 @@ impl Reply {
 }
 
 /// Copies `bytes` into the buffer, from index `place` on.
-fn put(room: &mut [u8], place: usize, bytes: &[u8])
-    requires { place + length bytes.now ≤ length room.old }
-    ensures { room.new ≡ take place room.old ++ bytes.now
-        ++ drop (place + length bytes.now) room.old }
+fn put(buffer: &mut [u8], place: usize, bytes: &[u8])
+    requires { place + length bytes.now ≤ length buffer.old }
+    ensures { buffer.new ≡ take place buffer.old ++ bytes.now
+        ++ drop (place + length bytes.now) buffer.old }
 {
-    room[place..place + bytes.len()].copy_from_slice(bytes);
+    buffer[place..place + bytes.len()].copy_from_slice(bytes);
 }
 
 /// Writes `bytes` to the start of the buffer, or nothing if they don't fit.
-fn leave(room: &mut [u8], status: Status, bytes: &[u8]) -> Reply
-    ensures { LeavesBytes (number_of status) bytes.now result room.old room.new }
+fn fill_bytes(buffer: &mut [u8], status: Status, bytes: &[u8]) -> Reply
+    ensures { FillsBuffer (number_of status) bytes.now result buffer.old buffer.new }
 {
     let length = bytes.len();
-    if room.len() < length {
+    if buffer.len() < length {
         return Reply::too_small(length);
     }
-    put(room, 0, bytes);
-    Reply::held(status, length)
+    put(buffer, 0, bytes);
+    Reply::fitting(status, length)
 }
 
-/// Writes `bytes`, a colon and `number` to the start of the buffer, or nothing if they don't fit.
-fn leave_at_line(room: &mut [u8], status: Status, bytes: &[u8], number: u32) -> Reply
-    ensures { LeavesBytes (number_of status) (at_line bytes.now number) result room.old room.new }
+/// Writes `bytes`, a colon and `number` to the start of the buffer, or nothing if they don't
+/// fit.
+fn fill_at_line(buffer: &mut [u8], status: Status, bytes: &[u8], number: u32) -> Reply
+    ensures { FillsBuffer (number_of status) (at_line bytes.now number) result buffer.old
+        buffer.new }
 {
-    let mut buffer = Buffer::new();
-    let digits = buffer.format(number).as_bytes();
+    let mut digit_buffer = Buffer::new();
+    let digits = digit_buffer.format(number).as_bytes();
     let colon = bytes.len();
     let length = colon + 1 + digits.len();
-    if room.len() < length {
+    if buffer.len() < length {
         return Reply::too_small(length);
     }
-    put(room, 0, bytes);
-    put(room, colon, b":");
-    put(room, colon + 1, digits);
-    Reply::held(status, length)
+    put(buffer, 0, bytes);
+    put(buffer, colon, b":");
+    put(buffer, colon + 1, digits);
+    Reply::fitting(status, length)
 }
 
 /// Writes a text to the buffer, with the status `Answered`.
-pub fn leave_text(room: &mut [u8], text: &[u8]) -> Reply
-    ensures { Leaves (Ok text.now) result room.old room.new }
+pub fn fill_text(buffer: &mut [u8], text: &[u8]) -> Reply
+    ensures { Fills (Ok text.now) result buffer.old buffer.new }
 {
-    leave(room, Status::Answered, text)
+    fill_bytes(buffer, Status::Answered, text)
 }
 
 /// Writes a fault word to the buffer, with the fault's status.
-fn leave_word(room: &mut [u8], fault: Fault) -> Reply
-    ensures { Leaves (Err fault) result room.old room.new }
+fn fill_word(buffer: &mut [u8], fault: Fault) -> Reply
+    ensures { Fills (Err fault) result buffer.old buffer.new }
 {
     let word = fault.word();
     match word.line {
-        Some(number) => leave_at_line(room, fault.status(), word.name.as_bytes(), number),
-        None => leave(room, fault.status(), word.name.as_bytes()),
+        Some(number) => fill_at_line(buffer, fault.status(), word.name.as_bytes(), number),
+        None => fill_bytes(buffer, fault.status(), word.name.as_bytes()),
     }
 }
 
 /// Writes an answer to the buffer: the text, or the fault word.
-pub fn leave_answer(room: &mut [u8], answer: &Result<Vec<u8>, Fault>) -> Reply
-    ensures { Leaves (shown answer.now) result room.old room.new }
+pub fn fill_answer(buffer: &mut [u8], answer: &Result<Vec<u8>, Fault>) -> Reply
+    ensures { Fills (shown answer.now) result buffer.old buffer.new }
 {
     match answer {
-        Ok(text) => leave_text(room, text),
-        Err(fault) => leave_word(room, *fault),
+        Ok(text) => fill_text(buffer, text),
+        Err(fault) => fill_word(buffer, *fault),
     }
 }

@@ -1,15 +1,15 @@
 //! Settings that are passed as numbers.
 
 ghost use Rattle.std.specs.Prelude.{◌≡◌, ◌≤◌, IfSome};
-ghost use Rattle.nonograde_c.specs.Calls.{format_numbered, pick_numbered, pick_within};
+ghost use Rattle.nonograde_c.specs.Calls.{format_from_number, pick_from_number, pick_within};
 
-use lane_core::MOST_GUESSES;
+use lane_core::MAX_GUESSES;
 use puzzle_text::Format;
 use solve_core::Pick;
 
 /// Returns the guess rule with this number, if there is one.
-fn pick_numbered(number: u32) -> Option<Pick>
-    ensures { result ≡ pick_numbered number }
+fn pick_from_number(number: u32) -> Option<Pick>
+    ensures { result ≡ pick_from_number number }
 {
     match number {
         0 => Some(Pick::First),
@@ -21,18 +21,18 @@ fn pick_numbered(number: u32) -> Option<Pick>
 /// Returns the guess rule with this number, if there is one and `guesses` is in its range.
 pub fn pick_within(guesses: u32, number: u32) -> Option<Pick>
     ensures rule { result ≡ pick_within guesses number }
-    ensures within { IfSome result (λ _. guesses ≤ MOST_GUESSES) }
+    ensures within { IfSome result (λ _. guesses ≤ MAX_GUESSES) }
 {
-    if guesses <= MOST_GUESSES {
-        pick_numbered(number)
+    if guesses <= MAX_GUESSES {
+        pick_from_number(number)
     } else {
         None
     }
 }
 
 /// Returns the format with this number, if there is one.
-pub fn format_numbered(number: u32) -> Option<Format>
-    ensures { result ≡ format_numbered number }
+pub fn format_from_number(number: u32) -> Option<Format>
+    ensures { result ≡ format_from_number number }
 {
     match number {
         0 => Some(Format::Non),

@@ -11,11 +11,11 @@ use Rattle.puzzle_text.specs.declared.collections.Entry.{Entry as KeptEntry}
 use Rattle.program.specs.Printing.{named_texts}
 
 -- the bytes that were read of a limited reader are the first ones of the reader below it
-pub front_read : {R : Type 0} (remaining : R → Option (List ℕ)) (front : Take R) (file : R) (limit : ℕ) (before body : List ℕ) →
+pub prefix_read : {R : Type 0} (remaining : R → Option (List ℕ)) (front : Take R) (file : R) (limit : ℕ) (before body : List ℕ) →
     take_limit front ≡ limit → take_inner front ≡ file → before ≡ []
     → IfSome (take_remaining remaining front) (λ bytes. body ≡ before ++ bytes)
     → IfSome (remaining file) (λ bytes. body ≡ take limit bytes)
-front_read remaining front file limit before body at_limit of_file empty read =
+prefix_read remaining front file limit before body at_limit of_file empty read =
     rw (← at_limit, ← of_file) (self (remaining front.inner) (rw empty at read))
   where
     self : (known : Option (List ℕ)) → IfSome (option_map (take front.limit) known) (λ bytes. body ≡ bytes)

@@ -9,14 +9,14 @@ use Rattle.puzzle_text.specs.declared.faults.EntryFault.{EntryFault}
 use Rattle.puzzle_text.specs.declared.faults.EntryFault.TheVariants.{Text}
 use Rattle.puzzle_text.specs.declared.faults.TextFault.TheVariants.{NoMemory}
 use Rattle.puzzle_text.specs.declared.formats.Format.{Format}
-use Rattle.survey_core.specs.Guessing.{guessing}
+use Rattle.survey_core.specs.GuessSettings.{guess_settings}
 use Rattle.survey_core.specs.Leaving.{LeavesAt, WritesSurvey}
 use Rattle.survey_text.specs.Survey.{survey_of_entries}
 use Rattle.survey_core.specs.declared.faults.RunFault.{RunFault}
 use Rattle.survey_core.specs.declared.settings.Settings.{Settings}
 use Rattle.reports.specs.Converting.{GivesConverted, converted}
 use Rattle.program.specs.Printing.{Prints, PrintsFile, PrintsFiles, convert_answer, named_texts, or_stop}
-use Rattle.reports.specs.Reports.{GivesText, said, text_or_fault}
+use Rattle.reports.specs.Reports.{GivesText, parsed, text_or_fault}
 use Rattle.program.specs.Stop.{stop_line, stop_of_convert, stop_word}
 use Rattle.reports.specs.declared.converting.ConvertFault.{ConvertFault}
 use Rattle.reports.specs.declared.converting.ConvertFault.TheVariants as convert
@@ -38,9 +38,9 @@ unprinted (Some text) known = (text, refl, Keeps-refl known)
 pub stop_printed : (stop : Stop) (word : List ℕ) (r : Result (Unit {0}) Stop) (first second third last : Option (List ℕ))
     → Appends first second (codes "nonograde: ") → Appends second third word → word ≡ stop_word stop
     → OnOk r (Appends third last (codes "\n")) → OnOk r (Appends first last (stop_line stop))
-stop_printed stop word (Ok _) first second third last begun told is ended =
-    Appends-trans first second last _ _ begun (Appends-trans second third last _ _ (rw is at told) ended)
-stop_printed stop word (Err _) first second third last begun told is ended = tt
+stop_printed stop word (Ok _) first second third last begun given is ended =
+    Appends-trans first second last _ _ begun (Appends-trans second third last _ _ (rw is at given) ended)
+stop_printed stop word (Err _) first second third last begun given is ended = tt
 
 -- if a text answers a file's bytes, and all of it or a prefix was sent, `PrintsFile` holds
 printed_of : (answer : List ℕ → Result (List ℕ) Stop) (body text : List ℕ) (r : Result (Unit {0}) Stop) (old new : Option (List ℕ))
@@ -53,22 +53,22 @@ printed_of answer body text (Err stop) old new is whole front write = rw write (
 -- if a report is that of a file's bytes under its name, `PrintsFile` holds
 pub report_printed : (report : List ℕ → Nonogram → List ℕ) (name given body items text : List ℕ) (r : Result (Unit {0}) Stop)
     (old new : Option (List ℕ))
-    → given ≡ name → text ≡ items → text_or_fault (report given) (said given body) ≡ Ok items → OnOk r (Appends old new text)
+    → given ≡ name → text ≡ items → text_or_fault (report given) (parsed given body) ≡ Ok items → OnOk r (Appends old new text)
     → OnErr r ((sent : ℕ) × (sent ≤ length text) × Appends old new (take sent text)) → IfErr r (λ stop. stop ≡ Write)
-    → PrintsFile (λ bytes. or_stop Entry (text_or_fault (report name) (said name bytes))) r old new
+    → PrintsFile (λ bytes. or_stop Entry (text_or_fault (report name) (parsed name bytes))) r old new
 report_printed report name given body items text r old new named same is whole front write =
-    printed_of (λ bytes. or_stop Entry (text_or_fault (report name) (said name bytes))) body text r old new
-    (ap (or_stop Entry) (ap (λ (n : List ℕ). text_or_fault (report n) (said n body)) (sym named) ∙ is ∙
+    printed_of (λ bytes. or_stop Entry (text_or_fault (report name) (parsed name bytes))) body text r old new
+    (ap (or_stop Entry) (ap (λ (n : List ℕ). text_or_fault (report n) (parsed n body)) (sym named) ∙ is ∙
     ap (λ (t : List ℕ). Ok t) (sym same))) whole front write
 
 -- if a text is what a file's puzzle is converted to, `PrintsFile` holds
 pub conversion_printed : (format : Format) (name given body items text : List ℕ) (r : Result (Unit {0}) Stop) (old new : Option (List ℕ))
-    → given ≡ name → text ≡ items → converted format (said given body) ≡ Ok items → OnOk r (Appends old new text)
+    → given ≡ name → text ≡ items → converted format (parsed given body) ≡ Ok items → OnOk r (Appends old new text)
     → OnErr r ((sent : ℕ) × (sent ≤ length text) × Appends old new (take sent text)) → IfErr r (λ stop. stop ≡ Write)
     → PrintsFile (convert_answer format name) r old new
 conversion_printed format name given body items text r old new named same is whole front write =
     printed_of (convert_answer format name) body text r old new
-    (ap (or_stop stop_of_convert) (ap (λ (n : List ℕ). converted format (said n body)) (sym named) ∙ is ∙
+    (ap (or_stop stop_of_convert) (ap (λ (n : List ℕ). converted format (parsed n body)) (sym named) ∙ is ∙
     ap (λ (t : List ℕ). Ok t) (sym same))) whole front write
 
 -- if a file's text is refused, nothing is printed, and the program stops at that fault
@@ -81,15 +81,15 @@ refused_entry text read body fault known gives = (body, (rw gives refl, Keeps-re
 
 -- if a file's text is refused, and the result is that fault, nothing is printed
 pub refused_of : (report : List ℕ → Nonogram → List ℕ) (name given body : List ℕ) (fault : EntryFault) (r : Result (Unit {0}) Stop)
-    (known : Option (List ℕ)) → given ≡ name → GivesText (Err fault) (text_or_fault (report given) (said given body)) →
+    (known : Option (List ℕ)) → given ≡ name → GivesText (Err fault) (text_or_fault (report given) (parsed given body)) →
     IsErrAnd r (λ stop. stop ≡ Entry fault)
-    → PrintsFile (λ bytes. or_stop Entry (text_or_fault (report name) (said name bytes))) r known known
+    → PrintsFile (λ bytes. or_stop Entry (text_or_fault (report name) (parsed name bytes))) r known known
 refused_of report name given body fault r known named gives is =
-    rw (is_stop r _ is) (refused_entry (report name) (said name) body fault known (rw named at gives))
+    rw (is_stop r _ is) (refused_entry (report name) (parsed name) body fault known (rw named at gives))
 
 -- if a conversion fails, nothing is printed, and the program stops at its fault
 unconverted : (format : Format) (name body : List ℕ) (fault : ConvertFault) (known : Option (List ℕ))
-    → GivesConverted (Err fault) (converted format (said name body))
+    → GivesConverted (Err fault) (converted format (parsed name body))
     → PrintsFile {U = Unit {0}} (convert_answer format name) (Err (stop_of_convert fault)) known known
 unconverted format name body convert.NoMemory known gives = (body, Keeps-refl known)
 unconverted format name body (convert.Entry (Text NoMemory)) known gives = (body, Keeps-refl known)
@@ -98,7 +98,7 @@ unconverted format name body fault known gives = (body, (rw gives refl, Keeps-re
 -- if a conversion fails, and the result is its fault, nothing is printed
 pub unconverted_of : (format : Format) (name given body : List ℕ) (fault : ConvertFault) (r : Result (Unit {0}) Stop)
     (known : Option (List ℕ))
-    → given ≡ name → GivesConverted (Err fault) (converted format (said given body)) → IsErrAnd r (λ stop. stop ≡ stop_of_convert fault)
+    → given ≡ name → GivesConverted (Err fault) (converted format (parsed given body)) → IsErrAnd r (λ stop. stop ≡ stop_of_convert fault)
     → PrintsFile (convert_answer format name) r known known
 unconverted_of format name given body fault r known named gives is =
     rw (is_stop r _ is) (unconverted format name body fault known (rw named at gives))
@@ -106,14 +106,14 @@ unconverted_of format name given body fault r known named gives is =
 -- if the entries are those of the files, their survey is that of the files
 pub files_written : (settings : Settings) (names texts : List (List ℕ)) (entries : List NamedText) (old new : Option (List ℕ))
     → length texts ≡ length names → entries ≡ named_texts names texts
-    → WritesSurvey (survey_of_entries (guessing settings) settings.show entries) old new →
+    → WritesSurvey (survey_of_entries (guess_settings settings) settings.show entries) old new →
     PrintsFiles {U = Unit {0}} settings names (Ok (tt {0})) old new
 files_written settings names texts entries old new same is written = (texts, same, rw is at written)
 
--- if the entries are those of the files, a survey that fails leaves the same of both
+-- if the entries are those of the files, a survey that fails leaves both as the program does
 pub files_left : (settings : Settings) (names texts : List (List ℕ)) (entries : List NamedText) (fault : RunFault)
     (old new : Option (List ℕ))
     → length texts ≡ length names → entries ≡ named_texts names texts
-    → LeavesAt (survey_of_entries (guessing settings) settings.show entries) fault old new
+    → LeavesAt (survey_of_entries (guess_settings settings) settings.show entries) fault old new
     → PrintsFiles {U = Unit {0}} settings names (Err (Run fault)) old new
 files_left settings names texts entries fault old new same is left = (texts, same, rw is at left)

@@ -16,7 +16,8 @@ use Rattle.program.specs.declared.stop.Stop.TheVariants.{NoMemory}
 -- call on that failed
 pub record Stops (stop : Stop) (status : ℕ) (errors : Stream) : Type 0 where
   pub gives : status ≡ 1
-  pub said : errors.new_faults ≡ errors.old_faults → Appends errors.old errors.new (stop_line stop)
+  pub printed : errors.new_faults ≡ errors.old_faults
+      → Appends errors.old errors.new (stop_line stop)
 
 -- the program ends with status 0 and prints nothing to standard error
 pub record EndsWell (status : ℕ) (errors : Stream) : Type 0 where

@@ -8,13 +8,13 @@ use Rattle.puzzle_text.specs.declared.faults.TextFault.TheVariants as text
 use Rattle.puzzle_text.specs.declared.formats.Format.{Format}
 use Rattle.solve_core.specs.declared.picks.Pick.{Pick}
 use Rattle.streams.specs.Counted.{fault_count}
-use Rattle.survey_core.specs.Guessing.{guessing}
+use Rattle.survey_core.specs.GuessSettings.{guess_settings}
 use Rattle.survey_core.specs.Leaving.{IsWrite, LeavesAt, WritesSurvey}
 use Rattle.survey_text.specs.Survey.{survey_of, survey_of_entries}
 use Rattle.streams.specs.declared.counted.Counted.{Counted}
 use Rattle.survey_core.specs.declared.settings.Settings.{Settings}
 use Rattle.reports.specs.Converting.{converted}
-use Rattle.reports.specs.Reports.{lines_text, said, solve_text, text_or_fault}
+use Rattle.reports.specs.Reports.{lines_text, parsed, solve_text, text_or_fault}
 use Rattle.command_line.specs.declared.command.Request.{Request}
 use Rattle.command_line.specs.declared.command.Request.TheVariants.{Survey, Solve, Convert, Lines}
 use Rattle.program.specs.Stop.{stop_of_convert}
@@ -50,23 +50,23 @@ or_stop stop (Err fault) = Err (stop fault)
 -- what `solve` prints for a file with this name and these bytes
 abbrev pub solve_answer : ℕ → Pick → List ℕ → List ℕ → Result (List ℕ) Stop
 solve_answer guesses pick name body =
-    or_stop Entry (text_or_fault (solve_text name guesses pick) (said name body))
+    or_stop Entry (text_or_fault (solve_text name guesses pick) (parsed name body))
 
 -- what `convert` prints for a file with this name and these bytes
 abbrev pub convert_answer : Format → List ℕ → List ℕ → Result (List ℕ) Stop
-convert_answer format name body = or_stop stop_of_convert (converted format (said name body))
+convert_answer format name body = or_stop stop_of_convert (converted format (parsed name body))
 
 -- what `lines` prints for a file with this name and these bytes
 abbrev pub lines_answer : List ℕ → List ℕ → Result (List ℕ) Stop
-lines_answer name body = or_stop Entry (text_or_fault lines_text (said name body))
+lines_answer name body = or_stop Entry (text_or_fault lines_text (parsed name body))
 
 -- the answer is a text, and all of it was appended to the output
 abbrev pub PrintsWhole : Result (List ℕ) Stop → Option (List ℕ) → Option (List ℕ) → Type 0
 PrintsWhole answer old new = (text : List ℕ) × (answer ≡ Ok text) × Appends old new text
 
 -- the answer is a text, and a prefix of it was appended to the output
-abbrev pub PrintsFront : Result (List ℕ) Stop → Option (List ℕ) → Option (List ℕ) → Type 0
-PrintsFront answer old new = (text : List ℕ) × (answer ≡ Ok text) ×
+abbrev pub PrintsPrefix : Result (List ℕ) Stop → Option (List ℕ) → Option (List ℕ) → Type 0
+PrintsPrefix answer old new = (text : List ℕ) × (answer ≡ Ok text) ×
     ((sent : ℕ) × (sent ≤ length text) × Appends old new (take sent text))
 
 -- What printing `answer` appends to the output, by its result: the whole text; a prefix of it if
@@ -75,7 +75,7 @@ PrintsFront answer old new = (text : List ℕ) × (answer ≡ Ok text) ×
 abbrev pub Prints : {U : Type 0} → Result (List ℕ) Stop → Result U Stop →
     Option (List ℕ) → Option (List ℕ) → Type 0
 Prints answer (Ok _) old new = PrintsWhole answer old new
-Prints answer (Err Write) old new = PrintsFront answer old new
+Prints answer (Err Write) old new = PrintsPrefix answer old new
 Prints answer (Err NoMemory) old new = Keeps old new
 Prints answer (Err (Entry (Text text.NoMemory))) old new = Keeps old new
 Prints answer (Err stop) old new = (answer ≡ Err stop) × Keeps old new
@@ -105,7 +105,7 @@ named_texts (name ∷ names) (text ∷ texts) =
 abbrev pub files_survey : Settings → List (List ℕ) → List (List ℕ) →
     Result (List ℕ) CollectionFault
 files_survey settings names texts =
-    survey_of_entries (guessing settings) settings.show (named_texts names texts)
+    survey_of_entries (guess_settings settings) settings.show (named_texts names texts)
 
 -- what a survey of the files with these names appends to the output: the survey of some texts, one
 -- for each file; nothing if a file can't be read or an allocation fails
@@ -124,7 +124,7 @@ abbrev pub PrintsInput : {U : Type 0} → Settings → Stream → Result U Stop 
 PrintsInput settings input (Err NoMemory) old new = Keeps old new
 PrintsInput settings input result old new =
     IfSome input.old (λ bytes.
-    PrintsSurvey (survey_of (guessing settings) settings.show bytes) result old new) ×
+    PrintsSurvey (survey_of (guess_settings settings) settings.show bytes) result old new) ×
     OnOk result (IsAtEnd input.new)
 
 -- what a survey appends to the output: that of the files with these names, without touching

@@ -8,7 +8,7 @@ ghost use Rattle.program.specs.Stop.{IsUnread};
 
 use crate::stop::Stop;
 use grid_core::NoMemory;
-use puzzle_text::{Entry, LONGEST_PUZZLE};
+use puzzle_text::{Entry, MAX_PUZZLE_LEN};
 use std::alloc::Global;
 use std::io::{ErrorKind, Read};
 use std::rt::Files;
@@ -16,7 +16,7 @@ use std::{fs, io};
 
 /// The most bytes that are read of a file: one more than a puzzle's text may have, which shows that
 /// it is too long.
-const FILE_LIMIT: u64 = LONGEST_PUZZLE as u64 + 1;
+const FILE_LIMIT: u64 = MAX_PUZZLE_LEN as u64 + 1;
 
 /// Returns why the program stops if opening or reading a file failed with `error`.
 fn stop_of_error(error: &io::Error) -> Stop
@@ -32,7 +32,7 @@ fn stop_of_error(error: &io::Error) -> Stop
 }
 
 /// Reads `file` to its end, but at most one byte more than a puzzle's text may have.
-pub fn read_front<F: Read + Drop>(alloc: Global, file: F) -> Result<Vec<u8>, Stop>
+pub fn read_prefix<F: Read + Drop>(alloc: Global, file: F) -> Result<Vec<u8>, Stop>
     ensures bytes { IfOk result (λ body.
         IfSome (F.remaining file) (λ bytes. body.items ≡ take FILE_LIMIT bytes)) }
     ensures refused { IfErr result IsUnread }
@@ -49,7 +49,7 @@ pub fn read_file<R: Files + AllocGlobal>(rt: &R, path: &str) -> Result<Vec<u8>, 
     ensures { IfErr result IsUnread }
 {
     match fs::open(rt, path) {
-        Ok(file) => read_front(rt.alloc(), file),
+        Ok(file) => read_prefix(rt.alloc(), file),
         Err(error) => Err(stop_of_error(&error)),
     }
 }

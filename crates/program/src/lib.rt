@@ -6,6 +6,6 @@ mod performing;
 mod running;
 mod stop;
 
-pub use files::read_front;
+pub use files::read_prefix;
 pub use running::{refuse_words, report_stop, run, words_of};
 pub use stop::Stop;

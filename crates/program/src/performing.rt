@@ -11,8 +11,8 @@ ghost use Rattle.program.specs.Printing.{IsUnwritten, Performs, PrintsFile, Prin
 use crate::files::{entries_of, read_file, read_files};
 use crate::stop::Stop;
 use command_line::{Request, SurveyRequest};
-use lane_core::{Gate, MOST_GUESSES, OpenGate};
-use puzzle_text::{Format, LONGEST_COLLECTION};
+use lane_core::{Gate, MAX_GUESSES, OpenGate};
+use puzzle_text::{Format, MAX_COLLECTION_LEN};
 use reports::{convert, lines_report, solve_report};
 use solve_core::Pick;
 use std::io::{Read, Write};
@@ -52,7 +52,7 @@ fn survey_input<R: Threads + Wait + Sync + AllocGlobal, I: Read, O: Write, G: Ga
     requires writing { fault_count output.old < 2 ^ 32 - 1 }
     ensures answer { PrintsInput settings.now (stream I.remaining input.old input.new) result
         (O.contents output.old.inner) (O.contents output.new.inner) }
-    ensures bound { ReadsWithin (LONGEST_COLLECTION + 1)
+    ensures bound { ReadsWithin (MAX_COLLECTION_LEN + 1)
         (I.remaining input.old.inner) (I.remaining input.new.inner) }
     ensures read { IsErrOf result (Stop.Run reader_failed)
         ↔ (fault_count input.old < fault_count input.new) }
@@ -145,7 +145,7 @@ where
     }
     let gate = ProgressGate::new();
     let progress = Progress::new(rt.alloc(), progress, files_of(survey))?;
-    progress.tell_while(
+    progress.report_while(
         rt,
         &gate,
         &mut ||
@@ -163,7 +163,7 @@ fn solve_file<R: Files + AllocGlobal, O: Write>(
     path: &str,
     output: &mut Counted<O>,
 ) -> Result<(), Stop>
-    requires guesses { guesses ≤ MOST_GUESSES }
+    requires guesses { guesses ≤ MAX_GUESSES }
     requires writing { fault_count output.old < 2 ^ 32 - 1 }
     ensures answer { PrintsFile (solve_answer guesses pick path.now) result
         (O.contents output.old.inner) (O.contents output.new.inner) }
@@ -192,7 +192,7 @@ fn convert_file<R: Files + AllocGlobal, O: Write>(
 }
 
 /// Prints the grid that line logic reaches for a file's puzzle.
-fn close_file<R: Files + AllocGlobal, O: Write>(
+fn print_closed_grid<R: Files + AllocGlobal, O: Write>(
     rt: &R,
     path: &str,
     output: &mut Counted<O>,
@@ -233,6 +233,6 @@ where
             solve_file(rt, *guesses, *pick, path.as_str(), output)
         }
         Request::Convert(format, path) => convert_file(rt, *format, path.as_str(), output),
-        Request::Lines(path) => close_file(rt, path.as_str(), output),
+        Request::Lines(path) => print_closed_grid(rt, path.as_str(), output),
     }
 }

@@ -38,7 +38,7 @@ pub fn words_of<R: Env + AllocGlobal>(rt: &R) -> io::Result<Vec<String>> {
 /// Prints a fault word, followed by a colon and its line number if it has one.
 fn print_word<E: Write>(errors: &mut Counted<E>, word: FaultWord) -> Result<(), Stop>
     requires { fault_count errors.old < 2 ^ 32 - 1 }
-    ensures said { OnOk result
+    ensures printed { OnOk result
         (Appends (E.contents errors.old.inner) (E.contents errors.new.inner) (word_text word)) }
     ensures failed { OnErr result (fault_count errors.old < fault_count errors.new) }
     ensures sound { OnOk result (fault_count errors.new ≡ fault_count errors.old) }
@@ -54,7 +54,7 @@ fn print_word<E: Write>(errors: &mut Counted<E>, word: FaultWord) -> Result<(), 
 /// Prints why the program stops: `nonograde: `, the fault word, and LF.
 fn print_stop<E: Write>(errors: &mut Counted<E>, stop: &Stop) -> Result<(), Stop>
     requires { fault_count errors.old < 2 ^ 32 - 1 }
-    ensures said { OnOk result
+    ensures printed { OnOk result
         (Appends (E.contents errors.old.inner) (E.contents errors.new.inner) (stop_line stop.now)) }
     ensures failed { OnErr result (fault_count errors.old < fault_count errors.new) }
 {
@@ -80,7 +80,7 @@ pub fn refuse_words<E: Write>(errors: &mut Counted<E>, error: &io::Error) -> u8
     requires { fault_count errors.old < 2 ^ 32 - 1 }
     ensures memory { error_kind error.now ≡ ErrorKind.OutOfMemory → result ≡ 1 }
     ensures other { error_kind error.now ≢ ErrorKind.OutOfMemory → result ≡ 2 }
-    ensures said { fault_count errors.new ≡ fault_count errors.old
+    ensures printed { fault_count errors.new ≡ fault_count errors.old
         → Appends (E.contents errors.old.inner) (E.contents errors.new.inner)
         (refused_line result) }
 {
@@ -92,7 +92,7 @@ pub fn refuse_words<E: Write>(errors: &mut Counted<E>, error: &io::Error) -> u8
 }
 
 /// Prints what `Display` formats of `shown`, and flushes.
-fn print_shown<T: Display, O: Write>(
+fn print_display<T: Display, O: Write>(
     alloc: Global,
     shown: &T,
     output: &mut Counted<O>,
@@ -123,7 +123,7 @@ fn end_after<E: Write>(errors: &mut Counted<E>, done: Result<(), Stop>) -> u8
 
 /// Prints the message of `clap`: help and the version to `output`, and anything else to `errors`.
 /// Returns the program's exit status.
-fn tell_words<O: Write, E: Write>(
+fn print_clap_message<O: Write, E: Write>(
     alloc: Global,
     error: &Error,
     output: &mut Counted<O>,
@@ -139,7 +139,7 @@ fn tell_words<O: Write, E: Write>(
         let _ = write!(errors.inner, "{error}");
         return 2;
     }
-    let done = print_shown(alloc, error, output);
+    let done = print_display(alloc, error, output);
     end_after(errors, done)
 }
 
@@ -172,7 +172,7 @@ where
             end_after(errors, done)
         }
         Err(CommandFault::NoMemory) => report_stop(errors, &Stop::NoMemory),
-        Err(CommandFault::Words(error)) => tell_words(rt.alloc(), &error, output, errors),
+        Err(CommandFault::Words(error)) => print_clap_message(rt.alloc(), &error, output, errors),
     }
 }
 

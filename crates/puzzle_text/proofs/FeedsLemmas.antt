@@ -1,5 +1,5 @@
 -- What holds of a line's text holds of the text of its field: it has no line feed if the line has none, and is short if the line is.
-use Rattle.puzzle_text.proofs.Names.{All-cons, All-nil, rules, ◌≡◌, ℕ, ◌+◌, ◌-◌, ◌≤◌, Bool, true, false, cond, not, eqb, leb, ltb, List, [], ◌∷◌, length, drop, reverse, All, refl, arith, Option, Some, None, IfSome, Ok, map, option_and_then, slice_get, unwrap_or, filter, list_all, onto_first, AllByRecursion, option_map, cond_both, and_from, and_parts, le-leb, leb-true, ltb-false, get_or-reverse, length-drop, length-reverse, All-take, All-drop, All-filter, All-from_recursion, recursion_from_All, AllPass-from_list_all, list_all-from_AllPass, IsDescription, LONGEST_TEXT, text_lines, Line, numbered_from, raw_lines, strip_last, trim, trim_start, after_quote, first_with, quoted_text, shown_keyword, bad_line, least, least_of, number_of_line, texts_of, KeywordLine, HaveNoFeed, has_no_feed}
+use Rattle.puzzle_text.proofs.Names.{All-cons, All-nil, rules, ◌≡◌, ℕ, ◌+◌, ◌-◌, ◌≤◌, Bool, true, false, cond, not, eqb, leb, ltb, List, [], ◌∷◌, length, drop, reverse, All, refl, arith, Option, Some, None, IfSome, Ok, map, option_and_then, slice_get, unwrap_or, filter, list_all, onto_first, AllByRecursion, option_map, cond_both, and_from, and_parts, le-leb, leb-true, ltb-false, get_or-reverse, length-drop, length-reverse, All-take, All-drop, All-filter, All-from_recursion, recursion_from_All, AllPass-from_list_all, list_all-from_AllPass, IsDescription, MAX_TEXT_LEN, text_lines, TextLine, numbered_from, raw_lines, strip_last, trim, trim_start, after_quote, first_with, quoted_text, shown_keyword, bad_line, least, least_of, number_of_line, texts_of, KeywordLine, HaveNoFeed, has_no_feed}
 
 abbrev IsOther : ℕ → Type 0
 IsOther byte = not (eqb byte 10) ≡ true
@@ -27,7 +27,7 @@ module _ (P : List ℕ → Type 0) (cut : (n : ℕ) (bytes : List ℕ) → P byt
   of_or : (o : Option (List ℕ)) (bytes : List ℕ) → IfSome o P → P bytes → P (unwrap_or o bytes)
   of_or o bytes h other = search rules
 
-  of_text : (line : Line) → P line.text → P (quoted_text line)
+  of_text : (line : TextLine) → P line.text → P (quoted_text line)
   of_text line h = search (rules, of_trim, of_or, of_after, turned)
 
 -- ---- parts of texts without a line feed
@@ -38,7 +38,7 @@ clean_reverse bytes h k d lt = search (rules, length-reverse, get_or-reverse)
 clean_strip : (byte : ℕ) (bytes : List ℕ) → IsClean bytes → IsClean (strip_last byte bytes)
 clean_strip byte bytes h = cond_both _ _ _ IsClean (λ _. All-take IsOther (length bytes - 1) bytes h) (λ _. h)
 
-clean_text : (line : Line) → has_no_feed line.text ≡ true → has_no_feed (quoted_text line) ≡ true
+clean_text : (line : TextLine) → has_no_feed line.text ≡ true → has_no_feed (quoted_text line) ≡ true
 clean_text line h = search (rules, list_all-from_AllPass, of_text IsClean (All-drop IsOther) clean_reverse, AllPass-from_list_all)
 
 -- a line without the line feed at its end has no line feed
@@ -59,18 +59,18 @@ clean_lines number (raw ∷ raws) h =
     search (rules, list_all-from_AllPass, of_trim IsClean (All-drop IsOther) clean_reverse, clean_strip, clean_lines (number + 1) raws)
 
 -- No line of a text that isn't too long has a line feed in its text.
-pub lines_have_no_feed : (bytes : List ℕ) (text : List Line) → text_lines bytes ≡ Ok text → HaveNoFeed text
+pub lines_have_no_feed : (bytes : List ℕ) (text : List TextLine) → text_lines bytes ≡ Ok text → HaveNoFeed text
 lines_have_no_feed bytes text e = search (rules, clean_lines, all_raw)
 
 -- The lines that a filter keeps have no line feed in them either.
-pub clean_filter : (p : Line → Bool) (text : List Line) → HaveNoFeed text → HaveNoFeed (filter p text)
+pub clean_filter : (p : TextLine → Bool) (text : List TextLine) → HaveNoFeed text → HaveNoFeed (filter p text)
 clean_filter p text h = search (recursion_from_All, All-filter, All-from_recursion)
 
 -- the number of the line, if its text is too long
-abbrev long_of : Option Line → Option ℕ
-long_of o = number_of_line (option_and_then (λ line. cond (ltb LONGEST_TEXT (length (quoted_text line))) (Some line) None) o)
+abbrev long_of : Option TextLine → Option ℕ
+long_of o = number_of_line (option_and_then (λ line. cond (ltb MAX_TEXT_LEN (length (quoted_text line))) (Some line) None) o)
 
-pub first_clean : (text : List Line) → HaveNoFeed text → (line : Line) → slice_get text 0 ≡ Some line → has_no_feed line.text ≡ true
+pub first_clean : (text : List TextLine) → HaveNoFeed text → (line : TextLine) → slice_get text 0 ≡ Some line → has_no_feed line.text ≡ true
 first_clean [] h line e = absurd cc
 first_clean (found ∷ text) h line e = search rules
 
@@ -82,21 +82,21 @@ each_none [] e = tt
 each_none (number ∷ numbers) e = search (rules, each_none numbers, least_none)
 
 -- If no line is bad, the texts of all fields are allowed there.
-pub lawful_texts : (stray : Option ℕ) (text : List Line) → HaveNoFeed text → bad_line stray text ≡ None → IsDescription (texts_of text)
+pub lawful_texts : (stray : Option ℕ) (text : List TextLine) → HaveNoFeed text → bad_line stray text ≡ None → IsDescription (texts_of text)
 lawful_texts stray text h none = search (rules, each_none, least_none, first_clean, clean_filter, ltb-false, and_from, le-leb, clean_text)
 
 -- ---- short texts
 
 abbrev are_short : List KeywordLine → Bool
-are_short kept = list_all (λ found. leb (length found.line.text.now) LONGEST_TEXT) kept
+are_short kept = list_all (λ found. leb (length found.line.text.now) MAX_TEXT_LEN) kept
 
 abbrev IsShort : List ℕ → Type 0
-IsShort bytes = length bytes ≤ LONGEST_TEXT
+IsShort bytes = length bytes ≤ MAX_TEXT_LEN
 
-short_text : (line : Line) → IsShort line.text → IsShort (quoted_text line)
+short_text : (line : TextLine) → IsShort line.text → IsShort (quoted_text line)
 short_text = of_text IsShort (λ n bytes h. omega (arith, length-drop n bytes)) (λ bytes h. omega (arith, length-reverse bytes))
 
-short_here : (b : Bool) (line : Line) (others : List Line) → IsShort line.text → long_of (slice_get others 0) ≡ None
+short_here : (b : Bool) (line : TextLine) (others : List TextLine) → IsShort line.text → long_of (slice_get others 0) ≡ None
     → long_of (slice_get (cond b (line ∷ others) others) 0) ≡ None
 short_here b line others fits none = search (rules, short_text)
 

@@ -1,5 +1,5 @@
 -- With a greater limit, each text keeps its puzzle, or its fault unless that was `BadSize` or `BadNumber`.
-use Rattle.puzzle_text.proofs.Names.{rules, ◌≡◌, ℕ, ◌≤◌, Bool, true, false, List, [], ◌∷◌, refl, Option, Some, Result, option_and_then, list_all, and_parts, le-leb, leb-true, TextFault, is_run, Line, number_within, pieces, ◌>>=◌, each, each_some, clue_of, clues_of, size_of, two_sizes, size_line, both_clues}
+use Rattle.puzzle_text.proofs.Names.{rules, ◌≡◌, ℕ, ◌≤◌, Bool, true, false, List, [], ◌∷◌, refl, Option, Some, Result, option_and_then, list_all, and_parts, le-leb, leb-true, TextFault, is_run, TextLine, number_within, pieces, ◌>>=◌, each, each_some, clue_of, clues_of, size_of, two_sizes, size_line, both_clues}
 use Rattle.puzzle_text.specs.Laws.{GreaterLimitKeeps, KeepsAnswer}
 
 -- if `old` has a value, `new` has the same
@@ -41,17 +41,17 @@ module _ (a b : ℕ) (le : a ≤ b) where
   clue_keeps : (text : List ℕ) → KeepsSome (clue_of a text) (clue_of b text)
   clue_keeps text = some-bind _ _ _ _ (some-each _ _ (pieces text) number_keeps) (λ ns. search (rules, and_parts, runs_keep))
 
-  clues_keep : (section : List Line) → KeepsAnswer (clues_of a section) (clues_of b section)
+  clues_keep : (section : List TextLine) → KeepsAnswer (clues_of a section) (clues_of b section)
   clues_keep section = keeps-each _ _ section (λ line. search (rules, clue_keeps))
 
   two_keep : (parts : List (List ℕ)) → KeepsAnswer (two_sizes a parts) (two_sizes b parts)
   two_keep (m ∷ n ∷ []) = search (keeps-bind, keeps-same, size_keeps)
   two_keep parts = λ _ _. refl
 
-  line_keeps : (text : List Line) → KeepsAnswer (size_line a text) (size_line b text)
+  line_keeps : (text : List TextLine) → KeepsAnswer (size_line a text) (size_line b text)
   line_keeps text = search (keeps-bind, keeps-same, two_keep)
 
-  both_keep : (order : Bool) (p q : List Line) → KeepsAnswer (both_clues a order p q) (both_clues b order p q)
+  both_keep : (order : Bool) (p q : List TextLine) → KeepsAnswer (both_clues a order p q) (both_clues b order p q)
   both_keep true p q = search (keeps-bind, keeps-same, clues_keep)
   both_keep false p q = search (keeps-bind, keeps-same, clues_keep)
 

@@ -4,11 +4,11 @@ pub mod AllLemmas
 pub mod LinesLemmas
 pub mod NumbersLemmas
 pub mod SectionsLemmas
-pub mod SaidLines
+pub mod ParsedLines
 pub mod ReadBack
 pub mod ReadMk
 pub mod GreaterLimit
 pub mod ReadNon
 pub mod FeedsLemmas
-pub mod UsualLines
+pub mod FastLines
 pub mod CollectionLemmas

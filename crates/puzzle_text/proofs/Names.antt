@@ -20,31 +20,31 @@ pub use Rattle.std.specs.Str.Parse.{AllDigits, digits_value}
 pub use Rattle.grid_core.specs.Clues.{is_clue, is_run}
 pub use Rattle.grid_core.specs.Description.{Description, IsDescription, is_field, text_of}
 pub use Rattle.grid_core.specs.Nonogram.{IsNonogramWithin, Nonogram, is_goal, plain}
-pub use Rattle.grid_core.specs.declared.limits.TheConstants.{LONGEST_SIDE, LONGEST_TEXT}
+pub use Rattle.grid_core.specs.declared.limits.TheConstants.{MAX_SIDE, MAX_TEXT_LEN}
 pub use Rattle.puzzle_text.specs.Answers.{Gives, each, each_some, or_fault, ◌>>=◌}
 pub use Rattle.puzzle_text.specs.ClueLines.{clue_of, clue_of_numbers, clues_of, numbers_within}
 pub use Rattle.puzzle_text.specs.Collections.{Entry, body_of, entries_of, first_stray, is_marker, is_stray, name_of}
-pub use Rattle.puzzle_text.specs.Keywords.{after_quote, all_fields, before_quote, field_word, first_with, is_keyword_line, keyword, quoted_text, rest, with_keyword}
-pub use Rattle.puzzle_text.specs.Lines.{Line, is_blank, is_blank_line, is_empty, is_full, is_hash, lines, numbered_from, raw_lines, strip_last, trim, trim_end, trim_start, without_ending}
+pub use Rattle.puzzle_text.specs.Keywords.{after_quote, all_fields, before_quote, field_word, first_with, is_keyword_line, keyword, keyword_argument, quoted_text, with_keyword}
+pub use Rattle.puzzle_text.specs.Lines.{TextLine, is_blank, is_blank_line, is_empty, is_non_blank, is_hash, lines, numbered_from, raw_lines, strip_last, trim, trim_end, trim_start, without_ending}
 pub use Rattle.puzzle_text.specs.Mk.{at_hash, before_hash, mk_of, or_else, puzzle_of, read_mk}
 pub use Rattle.puzzle_text.specs.Nin.{nin_of, read_nin}
-pub use Rattle.puzzle_text.specs.Non.{Sections, bad_line, both_clues, cell_of, check_lines, field_text, goal_cells, goal_of, is_content, last_keyword, least, least_of, long_text, non_of, number_of_line, outline_of, placed, puzzle_of_clues, puzzle_said, read_non, rows_first, section, sections_of, sizes_of, texts_of}
+pub use Rattle.puzzle_text.specs.Non.{Sections, bad_line, both_clues, cell_of, check_lines, field_text, goal_cells, goal_of, is_content, last_keyword, least, least_of, long_text, non_of, number_of_line, outline_of, placed, puzzle_of_clues, build_puzzle, read_non, rows_first, section, sections_of, sizes_of, texts_of}
 pub use Rattle.puzzle_text.specs.Numbers.{is_separator, number_within, pieces}
-pub use Rattle.puzzle_text.specs.Readings.{fits, likelier, reading, sum_all}
-pub use Rattle.puzzle_text.specs.Sizes.{first_full, size_line, size_of, text_lines, two_sizes}
+pub use Rattle.puzzle_text.specs.Orientation.{fits, orient, oriented_puzzle, sum_all}
+pub use Rattle.puzzle_text.specs.Sizes.{first_non_blank, size_line, size_of, text_lines, two_sizes}
 pub use Rattle.puzzle_text.specs.Written.{clue_line, clue_lines, clue_text, goal_byte, goal_lines, is_ambiguous, quoted_line, text_mk, text_nin, text_non, two_numbers}
 pub use Rattle.puzzle_text.specs.declared.faults.TextFault.{TextFault}
 pub use Rattle.puzzle_text.specs.declared.faults.TextFault.TheVariants.{BadNumber, TooLong}
-pub use Rattle.puzzle_text.specs.declared.places.Under.{Under}
-pub use Rattle.puzzle_text.specs.declared.places.Under.TheVariants.{Columns, Other, Rows}
+pub use Rattle.puzzle_text.specs.declared.section_split.SectionKind.{SectionKind}
+pub use Rattle.puzzle_text.specs.declared.section_split.SectionKind.TheVariants.{Columns, Other, Rows}
 pub use Rattle.puzzle_text.specs.steps.Collections.{FollowsPlain, are_named, begins_with_marker, ends_line}
-pub use Rattle.puzzle_text.specs.steps.Places.{IsUnder, with_line}
+pub use Rattle.puzzle_text.specs.steps.SectionSplit.{IsSectionOfKeyword, with_line}
 pub use Rattle.puzzle_text.specs.steps.Shown.{shown_keyword, shown_line, shown_sections}
-pub use Rattle.puzzle_text.specs.steps.Usual.{AreClueLines, BeginsWith, BeginsWithNumber, EndsLine, HaveClues, IsNumeral, IsSeparator, KeepsOthers, SayClues, SaysClue, SaysSizes, clues_under}
+pub use Rattle.puzzle_text.specs.steps.Fast.{AreClueLines, BeginsWith, BeginsWithNumber, EndsLine, HaveClues, IsNumeral, IsSeparator, KeepsOthers, ReadsClues, ReadsClue, ReadsSizes, clues_of_kind}
 pub use Rattle.std.proofs.lemmas.List.Quantifiers.{position-Some}
 pub use Rattle.grid_core.specs.declared.fields.Field.{Field}
 pub use Rattle.grid_core.specs.declared.fields.Field.TheVariants.{By, Catalogue, Copyright, License, Title}
-pub use Rattle.puzzle_text.specs.Sections.{choice}
+pub use Rattle.puzzle_text.specs.Sections.{section_lines}
 pub use Rattle.puzzle_text.specs.declared.keyword_line.KeywordLine.{KeywordLine}
 pub use Rattle.puzzle_text.specs.steps.Lines.{HaveNoFeed, has_no_feed}
 pub use Rattle.puzzle_text.proofs.AllLemmas.{all-append, all-flat_map, all-map, all-weaker, all_pass, each_begins, filter_all, filter_none, some_with_front, with_front}

@@ -1,6 +1,6 @@
 -- Lines, numbers and clues that are written are read again as they were, and how long they are.
-use Rattle.puzzle_text.proofs.Names.{rules, ◌≡◌, true, ℕ, ◌+◌, ◌-◌, ◌<◌, ◌≤◌, false, eqb, List, [], ◌∷◌, ◌++◌, length, get_or, refl, append_assoc, arith, list_all, flat_map, AllByRecursion, leb-true, cond-false, ne_eqb, eq-eqb, take_at, get_or_at, get_or-reverse, length-append, reverse-reverse, nat_tests, All-from_recursion, All-get_or, Line, raw_lines, numbered_from, trim, trim_start, strip_last, without_ending, is_blank, ◌^◌, not, map, All, ap, Some, decimal, slice_split, is_ascii_digit, AllDigits, and_parts, inr, IsSeparator, le-leb, append-nil, get_or_default, slice_split_none, slice_split_at, digit_at, digit_from_value, decimal_is_IsNumeral, decimal_nonempty, is_clue, is_empty, is_separator, pieces, numbers_within, clue_of, clue_text, ◌*◌, Ok, get_or_append_left, get_or-append_right, length-decimal-le, size_of, two_sizes, clue_line, clue_lines, two_numbers, all-weaker, all_pass, all-map, filter_all, all-append}
-use Rattle.puzzle_text.proofs.SaidLines.{SayAll}
+use Rattle.puzzle_text.proofs.Names.{rules, ◌≡◌, true, ℕ, ◌+◌, ◌-◌, ◌<◌, ◌≤◌, false, eqb, List, [], ◌∷◌, ◌++◌, length, get_or, refl, append_assoc, arith, list_all, flat_map, AllByRecursion, leb-true, cond-false, ne_eqb, eq-eqb, take_at, get_or_at, get_or-reverse, length-append, reverse-reverse, nat_tests, All-from_recursion, All-get_or, TextLine, raw_lines, numbered_from, trim, trim_start, strip_last, without_ending, is_blank, ◌^◌, not, map, All, ap, Some, decimal, slice_split, is_ascii_digit, AllDigits, and_parts, inr, IsSeparator, le-leb, append-nil, get_or_default, slice_split_none, slice_split_at, digit_at, digit_from_value, decimal_is_IsNumeral, decimal_nonempty, is_clue, is_empty, is_separator, pieces, numbers_within, clue_of, clue_text, ◌*◌, Ok, get_or_append_left, get_or-append_right, length-decimal-le, size_of, two_sizes, clue_line, clue_lines, two_numbers, all-weaker, all_pass, all-map, filter_all, all-append}
+use Rattle.puzzle_text.proofs.ParsedLines.{ReadsAll}
 
 -- the text of a written line: no byte is less than a space, and neither end is blank
 pub record IsTidy (text : List ℕ) : Type 0 where
@@ -52,7 +52,7 @@ pub tidy_solid : (text : List ℕ) → 0 < length text → AllByRecursion (λ by
 tidy_solid text some high = search (rules, All-from_recursion, all-weaker, All-get_or)
 
 -- these texts as lines, numbered from `number` on
-abbrev pub numbered : ℕ → List (List ℕ) → List Line
+abbrev pub numbered : ℕ → List (List ℕ) → List TextLine
 numbered number [] = []
 numbered number (text ∷ texts) = record { number = number; text = text } ∷ numbered (number + 1) texts
 
@@ -82,8 +82,14 @@ filled n h = ap not (ne_eqb (length (decimal n)) 0 (λ e. omega (arith, decimal_
 pub pieces_of_clue : (s n : ℕ) (ns : List ℕ) → IsSeparator s → AllByRecursion IsWord (n ∷ ns)
     → pieces (clue_text s (n ∷ ns)) ≡ map decimal (n ∷ ns)
 pieces_of_clue s n ns spacing h =
-    let full = λ (piece : List ℕ). not (is_empty piece) in
-    search (rules, split_clue s n ns spacing h, filter_all full (map decimal (n ∷ ns)), all-map IsWord (λ piece. full piece ≡ true), filled)
+    let non_empty = λ (piece : List ℕ). not (is_empty piece) in
+    search (
+      rules,
+      split_clue s n ns spacing h,
+      filter_all non_empty (map decimal (n ∷ ns)),
+      all-map IsWord (λ piece. non_empty piece ≡ true),
+      filled,
+    )
 
 pub all_digits : (ds : List ℕ) → AllDigits 10 ds → list_all is_ascii_digit ds ≡ true
 all_digits [] h = refl
@@ -142,11 +148,11 @@ pub some_text : (text : List ℕ) → 48 ≤ get_or text 0 0 → not (is_empty t
 some_text text h = ap not (ne_eqb (length text) 0 (λ e. omega (arith, some_byte text)))
 
 -- The lines of written clues are read as these clues.
-pub say_clues : (s limit k : ℕ) (clues : List (List ℕ)) → IsSeparator s → limit < 2 ^ 64
-    → AllByRecursion (λ clue. is_clue limit clue ≡ true) clues → SayAll limit (numbered k (map (clue_text s) clues)) clues
-say_clues s limit k [] spacing wide h = record { full = tt; hash = tt; count = refl; said = refl }
-say_clues s limit k (clue ∷ clues) spacing wide h =
-    search (rules, say_clues s limit (k + 1) clues spacing wide h.1, first_digit, word_clue, some_text, ne_eqb, clue_again)
+pub reads_clues : (s limit k : ℕ) (clues : List (List ℕ)) → IsSeparator s → limit < 2 ^ 64
+    → AllByRecursion (λ clue. is_clue limit clue ≡ true) clues → ReadsAll limit (numbered k (map (clue_text s) clues)) clues
+reads_clues s limit k [] spacing wide h = record { non_blank = tt; hash = tt; count = refl; parsed = refl }
+reads_clues s limit k (clue ∷ clues) spacing wide h =
+    search (rules, reads_clues s limit (k + 1) clues spacing wide h.1, first_digit, word_clue, some_text, ne_eqb, clue_again)
 
 -- The texts of written clues are those of whole lines.
 pub kept_clues : (s limit : ℕ) (clues : List (List ℕ)) → IsSeparator s → limit < 2 ^ 64

@@ -1,7 +1,7 @@
 -- Puzzles that are written in `.mk` and in `.nin` are read again.
-use Rattle.puzzle_text.proofs.Names.{flat_map-map, rules, ◌≡◌, ℕ, ◌≤◌, List, [], ◌∷◌, ◌++◌, length, map, refl, append_assoc, arith, Ok, flat_map, AllByRecursion, append-nil, length-append, flat_map-append, Nonogram, plain, IsNonogramWithin, mk_of, read_mk, clue_text, text_mk, all-append, inr, true, false, ◌∙◌, eqb-true, is_clue, reading, likelier, nin_of, read_nin, text_nin, is_ambiguous, take-append_seam, drop-append_seam}
-use Rattle.puzzle_text.proofs.SaidLines.{mk_lines, short_lines, nin_lines}
-use Rattle.puzzle_text.proofs.ReadBack.{with_feed, numbered, lines_kept, IsKept, kept_clues, numbered-append, say_clues, some_sizes, kept_sizes, sizes_are, length_within}
+use Rattle.puzzle_text.proofs.Names.{flat_map-map, rules, ◌≡◌, ℕ, ◌≤◌, List, [], ◌∷◌, ◌++◌, length, map, refl, append_assoc, arith, Ok, flat_map, AllByRecursion, append-nil, length-append, flat_map-append, Nonogram, plain, IsNonogramWithin, mk_of, read_mk, clue_text, text_mk, all-append, inr, true, false, ◌∙◌, eqb-true, is_clue, oriented_puzzle, orient, nin_of, read_nin, text_nin, is_ambiguous, take-append_seam, drop-append_seam}
+use Rattle.puzzle_text.proofs.ParsedLines.{mk_lines, short_lines, nin_lines}
+use Rattle.puzzle_text.proofs.ReadBack.{with_feed, numbered, lines_kept, IsKept, kept_clues, numbered-append, reads_clues, some_sizes, kept_sizes, sizes_are, length_within}
 
 -- the lines of the puzzle's text in `.mk`
 abbrev pub texts_mk : Nonogram → List (List ℕ)
@@ -32,8 +32,9 @@ module _ (limit : ℕ) (p : Nonogram) (wide : limit ≤ 256) (lawful : IsNonogra
   mk_again =
       rw (numbered-append 2 (map (clue_text 32) p.rows) ((35 ∷ []) ∷ map (clue_text 32) p.columns))
       (mk_lines limit p.width p.height _ _ _ _ p.rows p.columns (sizes_are limit p.height p.width (omega arith) high across)
-      (some_sizes limit p.height p.width (omega arith) high across) refl (say_clues 32 limit 2 p.rows (inr refl) (omega arith) lawful.rows)
-      (say_clues 32 limit _ p.columns (inr refl) (omega arith) lawful.columns) lawful.clues.0 lawful.clues.1)
+      (some_sizes limit p.height p.width (omega arith) high across) refl
+      (reads_clues 32 limit 2 p.rows (inr refl) (omega arith) lawful.rows)
+      (reads_clues 32 limit _ p.columns (inr refl) (omega arith) lawful.columns) lawful.clues.0 lawful.clues.1)
 
   -- The text in `.mk` is short enough to be read.
   pub length_mk : length (text_mk p) ≤ 1048576
@@ -54,25 +55,25 @@ module _ (limit : ℕ) (p : Nonogram) (wide : limit ≤ 256) (lawful : IsNonogra
       let sizes = kept_sizes limit _ _ (omega arith) across high in
       (sizes, kept_clues 32 limit _ (inr refl) (omega arith) all_lawful)
 
-  -- The lines of a written puzzle are read as its clues, with the sizes in the order that `likelier` chooses.
-  nin_again : nin_of limit (numbered 1 (texts_nin p)) ≡ Ok (likelier p.width p.height clues)
+  -- The lines of a written puzzle are read as its clues, with the sizes in the order that `orient` chooses.
+  nin_again : nin_of limit (numbered 1 (texts_nin p)) ≡ Ok (orient p.width p.height clues)
   nin_again =
       nin_lines limit p.width p.height _ _ clues (sizes_are limit p.width p.height (omega arith) across high)
-      (some_sizes limit p.width p.height (omega arith) across high) (say_clues 32 limit 2 clues (inr refl) (omega arith) all_lawful)
+      (some_sizes limit p.width p.height (omega arith) across high) (reads_clues 32 limit 2 clues (inr refl) (omega arith) all_lawful)
       (omega (arith, length-append p.rows p.columns, lawful.clues.0, lawful.clues.1))
 
   -- The text in `.nin` is short enough to be read.
   pub length_nin : length (text_nin p) ≤ 1048576
   length_nin = search (rules, length-append, length_within limit p.width p.height p.rows p.columns)
 
-  -- A puzzle written in `.nin` is read as its clues, with the sizes in the order that `likelier` chooses.
-  likelier_read : read_nin limit (text_nin p) ≡ Ok (likelier p.width p.height clues)
-  likelier_read = rw (short_lines (text_nin p) length_nin, ← nin_is p, lines_kept 1 (texts_nin p) kept_nin) nin_again
+  -- A puzzle written in `.nin` is read as its clues, with the sizes in the order that `orient` chooses.
+  oriented_read : read_nin limit (text_nin p) ≡ Ok (orient p.width p.height clues)
+  oriented_read = rw (short_lines (text_nin p) length_nin, ← nin_is p, lines_kept 1 (texts_nin p) kept_nin) nin_again
 
   -- A puzzle written in `.nin` that isn't ambiguous is read again without its texts and its goal.
   pub nin_read_again : is_ambiguous p ≡ false → read_nin limit (text_nin p) ≡ Ok (plain p.width p.height p.rows p.columns)
-  nin_read_again clear = likelier_read ∙ search (rules, eqb-true, take-append_seam, drop-append_seam)
+  nin_read_again clear = oriented_read ∙ search (rules, eqb-true, take-append_seam, drop-append_seam)
 
   -- The text of an ambiguous puzzle is read with its sizes exchanged.
-  pub nin_read_otherwise : is_ambiguous p ≡ true → read_nin limit (text_nin p) ≡ Ok (reading p.height p.width (p.rows ++ p.columns))
-  nin_read_otherwise ambiguous = likelier_read ∙ search (rules, take-append_seam, drop-append_seam)
+  pub nin_read_otherwise : is_ambiguous p ≡ true → read_nin limit (text_nin p) ≡ Ok (oriented_puzzle p.height p.width (p.rows ++ p.columns))
+  nin_read_otherwise ambiguous = oriented_read ∙ search (rules, take-append_seam, drop-append_seam)

@@ -1,9 +1,9 @@
 -- Puzzles that are written in `.non` are read again.
-use Rattle.puzzle_text.proofs.Names.{rules, ◌≡◌, drop, reverse, ℕ, ◌*◌, ◌<◌, ◌≤◌, ◌^◌, Bool, true, false, not, eqb, List, [], ◌∷◌, ◌++◌, length, get_or, map, codes, refl, sym, ap, ◌∙◌, append_assoc, arith, Option, Some, inr, None, decimal, flat_map, list_all, AllByRecursion, not-true, and_parts, leb-true, eqb-true, reverse-append, reverse-reverse, append-nil, get_or_at, length-append, length-map, flat_map-append, length-decimal-le, flat_map-map, prefix_len, is_ascii_alphabetic, is_empty, trim, trim_end, trim_start, Nonogram, IsNonogramWithin, is_goal, Description, IsDescription, is_field, text_of, all_fields, field_word, clue_text, quoted_line, goal_byte, goal_lines, text_non, Field, Catalogue, all-append, all-flat_map, all-weaker, all_pass, ◌+◌, cond, ltb, Ok, filter, bytes_eq, eq-eqb, filter-append, is_clue, inl, Line, lines, is_full, each_some, with_keyword, first_with, quoted_text, placed, sections_of, number_of_line, long_text, cell_of, goal_of, texts_of, sizes_of, check_lines, outline_of, non_of, read_non, Sections, puzzle_said, Rows, Columns, Other, Title, By, Copyright, License, all-map, filter_all, filter_none, nil_from_length}
+use Rattle.puzzle_text.proofs.Names.{rules, ◌≡◌, drop, reverse, ℕ, ◌*◌, ◌<◌, ◌≤◌, ◌^◌, Bool, true, false, not, eqb, List, [], ◌∷◌, ◌++◌, length, get_or, map, codes, refl, sym, ap, ◌∙◌, append_assoc, arith, Option, Some, inr, None, decimal, flat_map, list_all, AllByRecursion, not-true, and_parts, leb-true, eqb-true, reverse-append, reverse-reverse, append-nil, get_or_at, length-append, length-map, flat_map-append, length-decimal-le, flat_map-map, prefix_len, is_ascii_alphabetic, is_empty, trim, trim_end, trim_start, Nonogram, IsNonogramWithin, is_goal, Description, IsDescription, is_field, text_of, all_fields, field_word, clue_text, quoted_line, goal_byte, goal_lines, text_non, Field, Catalogue, all-append, all-flat_map, all-weaker, all_pass, ◌+◌, cond, ltb, Ok, filter, bytes_eq, eq-eqb, filter-append, is_clue, inl, TextLine, lines, is_non_blank, each_some, with_keyword, first_with, quoted_text, placed, sections_of, number_of_line, long_text, cell_of, goal_of, texts_of, sizes_of, check_lines, outline_of, non_of, read_non, Sections, build_puzzle, Rows, Columns, Other, Title, By, Copyright, License, all-map, filter_all, filter_none, nil_from_length}
 use Rattle.std.proofs.lemmas.Nat.{mul-le}
 use Rattle.puzzle_text.proofs.SectionsLemmas.{OpensNone, word_at, no_lines, IsContent, below, below_keyword, content_digit, join_content, nothing_above, with_lines}
-use Rattle.puzzle_text.proofs.ReadBack.{IsKept, kept_tidy, tidy_solid, kept_edged, with_feed, tidy-join, tidy_decimal, kept_clues, length_lines, lines_kept, numbered, numbered-append, say_clues, word_clue, size_again, first_digit}
-use Rattle.puzzle_text.proofs.SaidLines.{SayAll, non_lines, short_lines}
+use Rattle.puzzle_text.proofs.ReadBack.{IsKept, kept_tidy, tidy_solid, kept_edged, with_feed, tidy-join, tidy_decimal, kept_clues, length_lines, lines_kept, numbered, numbered-append, reads_clues, word_clue, size_again, first_digit}
+use Rattle.puzzle_text.proofs.ParsedLines.{ReadsAll, non_lines, short_lines}
 
 -- the text of a line with a keyword and a text in double quotes
 abbrev pub field_line : List ℕ → List ℕ → List ℕ
@@ -101,8 +101,8 @@ pub lawful_field : (ts : Description) → IsDescription ts → (f : Field) → i
 lawful_field ts lawful f = search rules
 
 -- the argument of a keyword line with this text
-abbrev pub rest_of : List ℕ → List ℕ
-rest_of text = trim (drop (prefix_len is_ascii_alphabetic text) text)
+abbrev pub argument_of : List ℕ → List ℕ
+argument_of text = trim (drop (prefix_len is_ascii_alphabetic text) text)
 
 -- A text in double quotes has no blanks that could be trimmed.
 pub quote_kept : (text : List ℕ) → trim_end (34 ∷ (text ++ 34 ∷ [])) ≡ 34 ∷ (text ++ 34 ∷ [])
@@ -116,7 +116,7 @@ pub record IsFieldWord (f : Field) : Type 0 where
   pub short : length (field_word f) ≤ 9
   pub inked : (text : List ℕ) → 33 ≤ get_or (field_line (field_word f) text) 0 0
   pub word : (text : List ℕ) → word_at (field_line (field_word f) text) ≡ field_word f
-  pub rest : (text : List ℕ) → rest_of (field_line (field_word f) text) ≡ 34 ∷ (text ++ 34 ∷ [])
+  pub argument : (text : List ℕ) → argument_of (field_line (field_word f) text) ≡ 34 ∷ (text ++ 34 ∷ [])
   pub none : OpensNone (field_word f)
 
 pub facts : (f : Field) → IsFieldWord f
@@ -187,32 +187,32 @@ with-parts word ts (f ∷ fs) =
 -- ---- from texts to lines
 
 lines_with : (word : List ℕ) (k : ℕ) (texts : List (List ℕ))
-    → map (λ (line : Line). line.text) (with_keyword word (numbered k texts)) ≡ texts_with word texts
+    → map (λ (line : TextLine). line.text) (with_keyword word (numbered k texts)) ≡ texts_with word texts
 lines_with word k [] = refl
 lines_with word k (text ∷ texts) = let others = lines_with word (k + 1) texts in search rules
 
 -- `xs` are one line, with this `text`
-abbrev IsOne : List Line → List ℕ → Type 0
-IsOne xs text = (line : Line) × (xs ≡ line ∷ []) × (line.text ≡ text)
+abbrev IsOne : List TextLine → List ℕ → Type 0
+IsOne xs text = (line : TextLine) × (xs ≡ line ∷ []) × (line.text ≡ text)
 
-one_seen : (xs : List Line) (text : List ℕ) → map (λ (line : Line). line.text) xs ≡ text ∷ [] → IsOne xs text
+one_seen : (xs : List TextLine) (text : List ℕ) → map (λ (line : TextLine). line.text) xs ≡ text ∷ [] → IsOne xs text
 one_seen (x ∷ []) text e = (x, refl, cc)
 one_seen xs text e = absurd cc
 
 -- the lines whose keyword is `word` are one, with this text in quotes, or none if there is no text
-abbrev FieldIs : List ℕ → List Line → Option (List ℕ) → Type 0
+abbrev FieldIs : List ℕ → List TextLine → Option (List ℕ) → Type 0
 FieldIs word lines None = with_keyword word lines ≡ []
-FieldIs word lines (Some text) = (line : Line) × (with_keyword word lines ≡ line ∷ []) × (quoted_text line ≡ text)
+FieldIs word lines (Some text) = (line : TextLine) × (with_keyword word lines ≡ line ∷ []) × (quoted_text line ≡ text)
 
 field_is : (word : List ℕ) (o : Option (List ℕ)) (k : ℕ) (texts : List (List ℕ))
-    → ((text : List ℕ) → rest_of (field_line word text) ≡ 34 ∷ (text ++ 34 ∷ [])) → texts_with word texts ≡ one word o
+    → ((text : List ℕ) → argument_of (field_line word text) ≡ 34 ∷ (text ++ 34 ∷ [])) → texts_with word texts ≡ one word o
     → FieldIs word (numbered k texts) o
 field_is word None k texts after e = nil_from_length _ (sym (length-map _ _) ∙ ap length (lines_with word k texts ∙ e))
 field_is word (Some text) k texts after e =
     let found = one_seen (with_keyword word (numbered k texts)) (field_line word text) (lines_with word k texts ∙ e) in
     (found.0, found.1, search (rules, after, reverse-append, reverse-reverse))
 
-long_none : (word : List ℕ) (lines : List Line) (o : Option (List ℕ)) → FieldIs word lines o → is_field o ≡ true
+long_none : (word : List ℕ) (lines : List TextLine) (o : Option (List ℕ)) → FieldIs word lines o → is_field o ≡ true
     → number_of_line (long_text lines word) ≡ None
 long_none word lines o is lawful = search rules
 
@@ -224,7 +224,7 @@ below_keywords k (x ∷ xs) ys h = search (rules, below_keywords (k + 1) xs ys h
 
 -- What holds of texts holds of the texts of their lines.
 numbered_all : (P : List ℕ → Type 0) (k : ℕ) (texts : List (List ℕ)) → AllByRecursion P texts
-    → AllByRecursion (λ (line : Line). P line.text) (numbered k texts)
+    → AllByRecursion (λ (line : TextLine). P line.text) (numbered k texts)
 numbered_all P k [] h = tt
 numbered_all P k (text ∷ texts) h = (h.0, numbered_all P (k + 1) texts h.1)
 
@@ -236,12 +236,12 @@ these p k m = record { rows = numbered k (row_part p); columns = numbered m (col
 -- The non-blank lines of a section are read as its clues.
 part_again : (limit k : ℕ) (clues gap : List (List ℕ)) → limit < 2 ^ 64 → AllByRecursion (λ clue. is_clue limit clue ≡ true) clues
     → AllByRecursion (λ text. not (is_empty text) ≡ false) gap
-    → SayAll limit (filter is_full (numbered k (map (clue_text 44) clues ++ gap))) clues
+    → ReadsAll limit (filter is_non_blank (numbered k (map (clue_text 44) clues ++ gap))) clues
 part_again limit k clues gap wide lawful blank =
-    let said = say_clues 44 limit k clues (inl refl) wide lawful in
+    let parsed = reads_clues 44 limit k clues (inl refl) wide lawful in
     let none = numbered_all (λ text. not (is_empty text) ≡ false) (k + length (map (clue_text 44) clues)) gap blank in
     rw (numbered-append k (map (clue_text 44) clues) gap)
-    (search (rules, filter-append, filter_all is_full _ said.full, filter_none is_full _ none, append-nil, said))
+    (search (rules, filter-append, filter_all is_non_blank _ parsed.non_blank, filter_none is_non_blank _ none, append-nil, parsed))
 
 -- ---- the goal
 
@@ -249,7 +249,8 @@ each_cells : (cells : List Bool) → each_some cell_of (map goal_byte cells) ≡
 each_cells [] = refl
 each_cells (cell ∷ cells) = search (rules, each_cells cells)
 
-goal_again : (count : ℕ) (o : Option (List Bool)) (lines : List Line) → FieldIs (codes "goal") lines (goal_text o) → is_goal count o ≡ true
+goal_again : (count : ℕ) (o : Option (List Bool)) (lines : List TextLine) → FieldIs (codes "goal") lines (goal_text o)
+    → is_goal count o ≡ true
     → goal_of count (first_with (codes "goal") lines) ≡ Ok o
 goal_again count None lines is lawful = search rules
 goal_again count (Some cells) lines is lawful = search (rules, eq-eqb, length-map, eqb-true, each_cells)
@@ -283,7 +284,7 @@ module _ (limit : ℕ) (p : Nonogram) (wide : limit < 2 ^ 64) (lawful : IsNonogr
 
   -- ---- its lines
 
-  abbrev all_lines : List Line
+  abbrev all_lines : List TextLine
   all_lines = numbered 1 (texts_non p)
 
   width_line : IsOne (with_keyword (codes "width") all_lines) (size_text (codes "width") p.width)
@@ -302,7 +303,7 @@ module _ (limit : ℕ) (p : Nonogram) (wide : limit < 2 ^ 64) (lawful : IsNonogr
   goal_field = field_is _ _ 1 (texts_non p) quote_kept (whole (codes "goal") true refl (λ text. refl))
 
   field_at : (f : Field) → FieldIs (field_word f) all_lines (text_of p.texts f)
-  field_at f = field_is (field_word f) (text_of p.texts f) 1 (texts_non p) (facts f).rest (field_only f)
+  field_at f = field_is (field_word f) (text_of p.texts f) 1 (texts_non p) (facts f).argument (field_only f)
 
   long_at : (f : Field) → number_of_line (long_text all_lines (field_word f)) ≡ None
   long_at f = long_none (field_word f) all_lines (text_of p.texts f) (field_at f) (lawful_field p.texts lawful.texts f)
@@ -345,7 +346,7 @@ module _ (limit : ℕ) (p : Nonogram) (wide : limit < 2 ^ 64) (lawful : IsNonogr
   non_again =
       let outline : outline_of limit None all_lines ≡ Ok ((p.width, p.height), ltb rows_line.0.number columns_line.0.number) =
       rw (sizes_read, lines_checked, rows_line.1, columns_line.1) refl in
-      ap (λ (sections : Sections). puzzle_said limit sections all_lines) laid_out.2
+      ap (λ (sections : Sections). build_puzzle limit sections all_lines) laid_out.2
       ∙ non_lines limit (these p laid_out.0 laid_out.1) all_lines p.width p.height _ p.rows p.columns p refl
       (part_again limit laid_out.0 p.rows ([] ∷ []) wide lawful.rows (refl, tt))
       (part_again limit laid_out.1 p.columns (goal_gap p.goal) wide lawful.columns (all_gap _ refl p.goal)) outline

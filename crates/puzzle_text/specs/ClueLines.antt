@@ -3,7 +3,7 @@ use Rattle.std.specs.Prelude.{ℕ, zero, List, [], ◌∷◌, Option, Some, None
 use Rattle.grid_core.specs.Clues.{is_clue}
 use Rattle.puzzle_text.specs.declared.faults.TextFault.{TextFault}
 use Rattle.puzzle_text.specs.declared.faults.TextFault.TheVariants.{BadNumber}
-use Rattle.puzzle_text.specs.Lines.{Line}
+use Rattle.puzzle_text.specs.Lines.{TextLine}
 use Rattle.puzzle_text.specs.Numbers.{pieces, number_within}
 use Rattle.puzzle_text.specs.Answers.{or_fault, each, each_some}
 
@@ -21,6 +21,6 @@ abbrev pub clue_of : ℕ → List ℕ → Option (List ℕ)
 clue_of limit text = option_and_then (clue_of_numbers limit) (numbers_within limit (pieces text))
 
 -- the clues of `lines`, or `BadNumber` of the first line that is not a clue
-abbrev pub clues_of : ℕ → List Line → Result (List (List ℕ)) TextFault
+abbrev pub clues_of : ℕ → List TextLine → Result (List (List ℕ)) TextFault
 clues_of limit lines =
     each (λ line. or_fault (BadNumber line.number) (clue_of limit line.text)) lines

@@ -4,7 +4,7 @@ use Rattle.std.specs.List.{enumerate_from, find, list_any}
 use Rattle.std.specs.Option.{option_map}
 use Rattle.puzzle_text.specs.declared.faults.CollectionFault.{CollectionFault}
 use Rattle.puzzle_text.specs.declared.faults.CollectionFault.TheVariants.{TooLong, Stray, TooMany, NoMemory}
-use Rattle.puzzle_text.specs.declared.limits.TheConstants.{LONGEST_COLLECTION, MOST_ENTRIES}
+use Rattle.puzzle_text.specs.declared.limits.TheConstants.{MAX_COLLECTION_LEN, MAX_ENTRIES}
 use Rattle.puzzle_text.specs.Lines.{raw_lines, without_ending, trim, is_blank, is_empty}
 
 -- an entry of a collection: the name and the text of a puzzle
@@ -55,11 +55,11 @@ first_stray raws =
 -- `Stray` if there is a stray line, and otherwise the entries, unless there are too many
 abbrev pub checked : Option ℕ → List Entry → Result (List Entry) CollectionFault
 checked (Some number) entries = Err (Stray number)
-checked None entries = if nat_lt MOST_ENTRIES (length entries) then Err TooMany else Ok entries
+checked None entries = if nat_lt MAX_ENTRIES (length entries) then Err TooMany else Ok entries
 
 -- the entries of a collection, or its first fault
 abbrev pub cut : List ℕ → Result (List Entry) CollectionFault
-cut bytes = if nat_lt LONGEST_COLLECTION (length bytes) then Err TooLong
+cut bytes = if nat_lt MAX_COLLECTION_LEN (length bytes) then Err TooLong
     else checked (first_stray (raw_lines bytes)) (entries_of (raw_lines bytes))
 
 -- The call's result, its value seen through `view`, is `answer`; or the call returns `NoMemory`,

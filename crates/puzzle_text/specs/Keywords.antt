@@ -6,7 +6,7 @@ use Rattle.std.specs.Str.{bytes_eq, str_to_ascii_lowercase}
 use Rattle.std.specs.Char.{is_ascii_alphabetic}
 use Rattle.grid_core.specs.declared.fields.Field.{Field}
 use Rattle.grid_core.specs.declared.fields.Field.TheVariants.{Catalogue, Title, By, Copyright, License}
-use Rattle.puzzle_text.specs.Lines.{Line, is_empty, trim}
+use Rattle.puzzle_text.specs.Lines.{TextLine, is_empty, trim}
 
 -- the keyword of a text field
 abbrev pub field_word : Field → List ℕ
@@ -21,31 +21,31 @@ abbrev pub all_fields : List Field
 all_fields = Catalogue ∷ Title ∷ By ∷ Copyright ∷ License ∷ []
 
 -- the letters at the start of `line`, in lower case; empty if it is no keyword line
-abbrev pub keyword : Line → List ℕ
+abbrev pub keyword : TextLine → List ℕ
 keyword line = str_to_ascii_lowercase (take_while is_ascii_alphabetic line.text)
 
 -- `line` begins with a keyword
-abbrev pub is_keyword_line : Line → Bool
+abbrev pub is_keyword_line : TextLine → Bool
 is_keyword_line line = not (is_empty (keyword line))
 
 -- the argument of a keyword line: the text after its keyword, trimmed
-abbrev pub rest : Line → List ℕ
-rest line = trim (drop (prefix_len is_ascii_alphabetic line.text) line.text)
+abbrev pub keyword_argument : TextLine → List ℕ
+keyword_argument line = trim (drop (prefix_len is_ascii_alphabetic line.text) line.text)
 
 -- the keyword of `line` is `word`
-abbrev pub has_keyword : List ℕ → Line → Bool
+abbrev pub has_keyword : List ℕ → TextLine → Bool
 has_keyword word line = bytes_eq (keyword line) word
 
 -- those of `lines` whose keyword is `word`
-abbrev pub with_keyword : List ℕ → List Line → List Line
+abbrev pub with_keyword : List ℕ → List TextLine → List TextLine
 with_keyword word lines = filter (has_keyword word) lines
 
 -- the first of `lines` whose keyword is `word`
-abbrev pub first_with : List ℕ → List Line → Option Line
+abbrev pub first_with : List ℕ → List TextLine → Option TextLine
 first_with word lines = slice_get (with_keyword word lines) 0
 
 -- the second of `lines` whose keyword is `word`
-abbrev pub second_with : List ℕ → List Line → Option Line
+abbrev pub second_with : List ℕ → List TextLine → Option TextLine
 second_with word lines = slice_get (with_keyword word lines) 1
 
 -- the bytes after the first double quote, if there is one
@@ -63,5 +63,5 @@ abbrev pub quoted : List ℕ → List ℕ
 quoted bytes = unwrap_or (option_and_then before_quote (after_quote bytes)) bytes
 
 -- the text of a field's line: its argument, without double quotes around it
-abbrev pub quoted_text : Line → List ℕ
-quoted_text line = quoted (rest line)
+abbrev pub quoted_text : TextLine → List ℕ
+quoted_text line = quoted (keyword_argument line)

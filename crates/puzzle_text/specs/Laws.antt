@@ -3,11 +3,11 @@ use Rattle.std.specs.Prelude.{◌≡◌, ℕ, ◌≤◌, true, false, List, ◌+
 use Rattle.grid_core.specs.Nonogram.{Nonogram, IsNonogramWithin, plain}
 use Rattle.puzzle_text.specs.declared.faults.TextFault.{TextFault}
 use Rattle.puzzle_text.specs.declared.faults.TextFault.TheVariants.{BadSize, BadNumber}
-use Rattle.puzzle_text.specs.declared.limits.TheConstants.{LONGEST_PUZZLE}
+use Rattle.puzzle_text.specs.declared.limits.TheConstants.{MAX_PUZZLE_LEN}
 use Rattle.puzzle_text.specs.Mk.{read_mk}
 use Rattle.puzzle_text.specs.Nin.{read_nin}
 use Rattle.puzzle_text.specs.Non.{read_non}
-use Rattle.puzzle_text.specs.Readings.{reading}
+use Rattle.puzzle_text.specs.Orientation.{oriented_puzzle}
 use Rattle.puzzle_text.specs.Written.{text_mk, text_nin, text_non, is_ambiguous}
 
 -- the text of each puzzle in `.mk` is read again as the same puzzle without texts and goal
@@ -27,7 +27,7 @@ NinIsReadBack limit = (p : Nonogram) → IsNonogramWithin limit p → is_ambiguo
 -- its row clues and column clues.
 abbrev pub AmbiguousIsReadOtherwise : ℕ → Type 0
 AmbiguousIsReadOtherwise limit = (p : Nonogram) → IsNonogramWithin limit p → is_ambiguous p ≡ true
-    → read_nin limit (text_nin p) ≡ Ok (reading p.height p.width (p.rows ++ p.columns))
+    → read_nin limit (text_nin p) ≡ Ok (oriented_puzzle p.height p.width (p.rows ++ p.columns))
 
 -- the text of each puzzle in `.non` is read again as the same puzzle, including its texts and its
 -- goal
@@ -37,9 +37,9 @@ NonIsReadBack limit = (p : Nonogram) → IsNonogramWithin limit p → read_non l
 -- the text of each puzzle is short enough to be read, in each format
 abbrev pub WrittenIsShort : ℕ → Type 0
 WrittenIsShort limit = (p : Nonogram) → IsNonogramWithin limit p
-    → (length (text_non p) ≤ LONGEST_PUZZLE)
-    × (length (text_mk p) ≤ LONGEST_PUZZLE)
-    × (length (text_nin p) ≤ LONGEST_PUZZLE)
+    → (length (text_non p) ≤ MAX_PUZZLE_LEN)
+    × (length (text_mk p) ≤ MAX_PUZZLE_LEN)
+    × (length (text_nin p) ≤ MAX_PUZZLE_LEN)
 
 -- `new` is `old`, unless `old` is `BadSize` or `BadNumber`
 abbrev pub KeepsAnswer : {A : Type 0} → Result A TextFault → Result A TextFault → Type 0

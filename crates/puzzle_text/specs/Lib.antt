@@ -5,7 +5,7 @@ pub mod Answers
 pub mod ClueLines
 pub mod Sections
 pub mod Sizes
-pub mod Readings
+pub mod Orientation
 pub mod Nin
 pub mod Mk
 pub mod Keywords

@@ -37,18 +37,18 @@ without_ending raw = strip_last 13 (strip_last 10 raw)
 
 -- a text line: its number in the text, from 1, and its bytes without its line ending and without
 -- spaces and tabs at both ends
-pub record Line : Type 0 where
+pub record TextLine : Type 0 where
   pub number : ℕ
   pub text : List ℕ
 
 -- the lines that `raws` stand for, numbered from `number` on
-abbrev pub numbered_from : ℕ → List (List ℕ) → List Line
+abbrev pub numbered_from : ℕ → List (List ℕ) → List TextLine
 numbered_from number [] = []
 numbered_from number (raw ∷ raws) =
     record { number = number; text = trim (without_ending raw) } ∷ numbered_from (number + 1) raws
 
 -- the lines of a text, numbered from 1
-abbrev pub lines : List ℕ → List Line
+abbrev pub lines : List ℕ → List TextLine
 lines bytes = numbered_from 1 (raw_lines bytes)
 
 -- there are no bytes
@@ -56,13 +56,13 @@ abbrev pub is_empty : List ℕ → Bool
 is_empty bytes = length bytes == 0
 
 -- `line` is blank: it has no bytes but spaces, tabs and its line ending
-abbrev pub is_blank_line : Line → Bool
+abbrev pub is_blank_line : TextLine → Bool
 is_blank_line line = is_empty line.text
 
 -- `line` is not blank
-abbrev pub is_full : Line → Bool
-is_full line = not (is_blank_line line)
+abbrev pub is_non_blank : TextLine → Bool
+is_non_blank line = not (is_blank_line line)
 
 -- `line` begins with `#`
-abbrev pub is_hash : Line → Bool
+abbrev pub is_hash : TextLine → Bool
 is_hash line = slice_index line.text 0 == 35

@@ -2,20 +2,20 @@
 use Rattle.std.specs.Prelude.{ℕ, List, [], ◌∷◌, length, Option, Some, None, Result, Ok, Err, option_and_then, nat_le, nat_lt, if◌then◌else◌}
 use Rattle.puzzle_text.specs.declared.faults.TextFault.{TextFault}
 use Rattle.puzzle_text.specs.declared.faults.TextFault.TheVariants.{TooLong, NoSize, BadSize}
-use Rattle.puzzle_text.specs.declared.limits.TheConstants.{LONGEST_PUZZLE}
-use Rattle.puzzle_text.specs.Lines.{Line, lines, is_full}
+use Rattle.puzzle_text.specs.declared.limits.TheConstants.{MAX_PUZZLE_LEN}
+use Rattle.puzzle_text.specs.Lines.{TextLine, lines, is_non_blank}
 use Rattle.puzzle_text.specs.Numbers.{pieces, number_within}
 use Rattle.puzzle_text.specs.Answers.{◌>>=◌, or_fault}
 
 -- the lines of a text, or `TooLong`
-abbrev pub text_lines : List ℕ → Result (List Line) TextFault
-text_lines bytes = if nat_lt LONGEST_PUZZLE (length bytes) then Err TooLong else Ok (lines bytes)
+abbrev pub text_lines : List ℕ → Result (List TextLine) TextFault
+text_lines bytes = if nat_lt MAX_PUZZLE_LEN (length bytes) then Err TooLong else Ok (lines bytes)
 
 -- the first line that is not blank, and the lines after it
-abbrev pub first_full : List Line → Option (Line × List Line)
-first_full [] = None
-first_full (line ∷ lines) =
-    if is_full line then Some (line, lines) else first_full lines
+abbrev pub first_non_blank : List TextLine → Option (TextLine × List TextLine)
+first_non_blank [] = None
+first_non_blank (line ∷ lines) =
+    if is_non_blank line then Some (line, lines) else first_non_blank lines
 
 -- the size that `piece` stands for, from 1 to `limit`, or `BadSize`
 abbrev pub size_of : ℕ → List ℕ → Result ℕ TextFault
@@ -31,8 +31,8 @@ two_sizes limit (a ∷ b ∷ []) =
 two_sizes limit pieces = Err NoSize
 
 -- the two sizes of the size line, which is the first line that is not blank, and the lines after it
-abbrev pub size_line : ℕ → List Line → Result ((ℕ × ℕ) × List Line) TextFault
+abbrev pub size_line : ℕ → List TextLine → Result ((ℕ × ℕ) × List TextLine) TextFault
 size_line limit lines = do
-  found ← or_fault NoSize (first_full lines)
+  found ← or_fault NoSize (first_non_blank lines)
   sizes ← two_sizes limit (pieces found.0.text)
   Ok (sizes, found.1)

@@ -4,7 +4,7 @@ use Rattle.std.specs.List.{flat_map}
 use Rattle.grid_core.specs.Description.{Description, text_of}
 use Rattle.grid_core.specs.Nonogram.{Nonogram}
 use Rattle.puzzle_text.specs.Keywords.{all_fields, field_word}
-use Rattle.puzzle_text.specs.Readings.{is_admissible, reading}
+use Rattle.puzzle_text.specs.Orientation.{is_admissible, oriented_puzzle}
 
 -- a clue as text, with `separator` before each number but the first; the empty clue is `0`
 abbrev pub clue_text : ℕ → List ℕ → List ℕ
@@ -37,7 +37,7 @@ text_nin p = two_numbers p.width p.height ++ clue_lines 32 p.rows ++ clue_lines 
 abbrev pub is_ambiguous : Nonogram → Bool
 is_ambiguous p =
     not (p.width == p.height) && not (is_admissible p)
-    && is_admissible (reading p.height p.width (p.rows ++ p.columns))
+    && is_admissible (oriented_puzzle p.height p.width (p.rows ++ p.columns))
 
 -- a line with a keyword and a text in double quotes, if there is a text
 abbrev pub quoted_line : List ℕ → Option (List ℕ) → List ℕ

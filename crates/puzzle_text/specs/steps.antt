@@ -2,7 +2,7 @@
 pub mod Collections
 pub mod Lines
 pub mod Non
-pub mod Places
+pub mod SectionSplit
 pub mod Sections
 pub mod Shown
-pub mod Usual
+pub mod Fast

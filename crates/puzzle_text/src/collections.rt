@@ -8,7 +8,7 @@ ghost use Rattle.puzzle_text.specs.Lines.{is_empty, raw_lines};
 ghost use Rattle.puzzle_text.specs.Shown.{shown_entry};
 
 use crate::faults::CollectionFault;
-use crate::limits::{LONGEST_COLLECTION, MOST_ENTRIES};
+use crate::limits::{MAX_COLLECTION_LEN, MAX_ENTRIES};
 use crate::lines::{split_line, trim, without_ending};
 use memchr::memchr;
 use std::alloc::Global;
@@ -46,7 +46,7 @@ fn name_of(raw: &[u8]) -> &[u8]
 }
 
 /// Returns how many bytes come before the first `@`; all bytes if there is none.
-fn before_at(bytes: &[u8]) -> usize
+fn position_of_at(bytes: &[u8]) -> usize
     ensures within { result ≤ length bytes.now }
     ensures other { list_all (λ byte. not (byte == 64)) (take result bytes.now) ≡ true }
 {
@@ -69,10 +69,10 @@ fn ends_line(bytes: &[u8]) -> bool
 /// Skips text in which no entry begins; `bytes` start at the start of a line. Returns the text from
 /// the first `@` on if that is at the start of a line, and otherwise the text after the line that
 /// contains it; empty if there is no `@`.
-fn past_plain(bytes: &[u8]) -> &[u8]
+fn skip_to_line_with_at(bytes: &[u8]) -> &[u8]
     ensures { FollowsPlain bytes.now result.now }
 {
-    let (front, tail) = bytes.split_at(before_at(bytes));
+    let (front, tail) = bytes.split_at(position_of_at(bytes));
     if tail.is_empty() {
         return tail;
     }
@@ -91,15 +91,15 @@ fn split_body(bytes: &[u8]) -> (&[u8], &[u8])
     ensures others { entries_of (raw_lines result.1.now) ≡ entries_of (raw_lines bytes.now) }
     ensures within { length result.1.now ≤ length bytes.now }
 {
-    // Only lines with an `@` are looked at: `past_plain` skips all others by a search for that
-    // byte.
-    let mut rest = past_plain(bytes);
+    // Only lines with an `@` are looked at: `skip_to_line_with_at` skips all others by a search for
+    // that byte.
+    let mut rest = skip_to_line_with_at(bytes);
     'lines: while !rest.is_empty() {
         let (raw, after) = split_line(rest);
         if is_marker(raw) {
             break;
         }
-        rest = past_plain(after);
+        rest = skip_to_line_with_at(after);
     }
     bytes.split_at(bytes.len() - rest.len())
 }
@@ -133,13 +133,13 @@ fn begins_with_marker(bytes: &[u8]) -> bool
 }
 
 /// Returns the entries of a collection, ignoring the lines above the first marker line. Returns
-/// `None` if an entry has no name, if there are more than `MOST_ENTRIES`, or if an allocation
+/// `None` if an entry has no name, if there are more than `MAX_ENTRIES`, or if an allocation
 /// fails.
 fn named_entries<'a>(alloc: Global, bytes: &'a [u8]) -> Option<Vec<Entry<'a>>>
     ensures found { IfSome result
         (λ found. map shown_entry found.items ≡ entries_of (raw_lines bytes.now)) }
     ensures named { OnSome result (are_named (entries_of (raw_lines bytes.now)) ≡ true) }
-    ensures few { OnSome result (length (entries_of (raw_lines bytes.now)) ≤ MOST_ENTRIES) }
+    ensures few { OnSome result (length (entries_of (raw_lines bytes.now)) ≤ MAX_ENTRIES) }
 {
     let mut found = Vec::new(alloc);
     let mut rest = bytes;
@@ -148,7 +148,7 @@ fn named_entries<'a>(alloc: Global, bytes: &'a [u8]) -> Option<Vec<Entry<'a>>>
         rest = after;
         if is_marker(raw) {
             let name = name_of(raw);
-            if name.is_empty() || found.len() == MOST_ENTRIES {
+            if name.is_empty() || found.len() == MAX_ENTRIES {
                 return None;
             }
             let (body, others) = split_body(after);
@@ -192,10 +192,10 @@ fn first_stray(bytes: &[u8]) -> Option<u32>
 pub fn entries<'a>(alloc: Global, bytes: &'a [u8]) -> Result<Vec<Entry<'a>>, CollectionFault>
     ensures answer { GivesEntries (λ found. map shown_entry found.items) result (cut bytes.now) }
     // `NoMemory` is never returned in place of this fault, nor of any other.
-    ensures too_long { LONGEST_COLLECTION < length bytes.now
+    ensures too_long { MAX_COLLECTION_LEN < length bytes.now
         → result ≡ Err CollectionFault.TooLong }
 {
-    if bytes.len() > LONGEST_COLLECTION {
+    if bytes.len() > MAX_COLLECTION_LEN {
         return Err(CollectionFault::TooLong);
     }
     // A collection that begins with a marker line and has no fault takes this one pass over the
@@ -209,7 +209,7 @@ pub fn entries<'a>(alloc: Global, bytes: &'a [u8]) -> Result<Vec<Entry<'a>>, Col
     if let Some(number) = first_stray(bytes) {
         return Err(CollectionFault::Stray(number));
     }
-    if entry_count(bytes) > MOST_ENTRIES {
+    if entry_count(bytes) > MAX_ENTRIES {
         return Err(CollectionFault::TooMany);
     }
     match named_entries(alloc, bytes) {

@@ -10,22 +10,22 @@ ghost use Rattle.puzzle_text.specs.steps.Non.{with_all_found, with_found};
 ghost use Rattle.puzzle_text.specs.steps.Shown.{shown_keyword};
 
 use crate::keyword_line::KeywordLine;
-use crate::keywords::{FIELDS, field_word, nth_with, quoted_text};
-use grid_core::{Field, LONGEST_TEXT, NoMemory, Texts, TextsFault};
+use crate::keywords::{FIELDS, field_word, nth_with_keyword, quoted_text};
+use grid_core::{Field, MAX_TEXT_LEN, NoMemory, Texts, TextsFault};
 use std::alloc::Global;
 
-/// Returns the first line of a text field, if its text is longer than `LONGEST_TEXT` bytes.
+/// Returns the first line of a text field, if its text is longer than `MAX_TEXT_LEN` bytes.
 fn long_text<'a, 'b>(lines: &'b [KeywordLine<'a>], field: Field) -> Option<&'b KeywordLine<'a>>
     ensures { option_map (λ line. shown_keyword line.now) result
         ≡ long_text (map shown_keyword lines.now) (field_word field) }
 {
-    match nth_with(field_word(field), 0, lines) {
-        Some(found) if quoted_text(found).len() > LONGEST_TEXT => Some(found),
+    match nth_with_keyword(field_word(field), 0, lines) {
+        Some(found) if quoted_text(found).len() > MAX_TEXT_LEN => Some(found),
         _ => None,
     }
 }
 
-/// Returns the number of the first line of a text field, if its text is longer than `LONGEST_TEXT`
+/// Returns the number of the first line of a text field, if its text is longer than `MAX_TEXT_LEN`
 /// bytes.
 pub(crate) fn long_number(lines: &[KeywordLine<'_>], field: Field) -> Option<u32>
     ensures { result ≡ number_of_line (long_text (map shown_keyword lines.now) (field_word field)) }
@@ -36,14 +36,14 @@ pub(crate) fn long_number(lines: &[KeywordLine<'_>], field: Field) -> Option<u32
     }
 }
 
-/// Reports whether no line is longer than `LONGEST_TEXT` bytes.
+/// Reports whether no line is longer than `MAX_TEXT_LEN` bytes.
 pub(crate) fn are_short(lines: &[KeywordLine<'_>]) -> bool
     ensures { result
-        ≡ list_all (λ found. nat_le (length found.line.text.now) LONGEST_TEXT) lines.now }
+        ≡ list_all (λ found. nat_le (length found.line.text.now) MAX_TEXT_LEN) lines.now }
 {
     lines
         .iter()
-        .all(|found| found.line.text.len() <= LONGEST_TEXT)
+        .all(|found| found.line.text.len() <= MAX_TEXT_LEN)
 }
 
 /// Sets a field of `texts` to the text of the field's first line. Does nothing if no line has the
@@ -58,7 +58,7 @@ fn set_field(
     ensures { OnOk result (texts.new ≡ with_found texts.old field
         (field_text (field_word field) (map shown_keyword lines.now))) }
 {
-    let Some(found) = nth_with(field_word(field), 0, lines) else {
+    let Some(found) = nth_with_keyword(field_word(field), 0, lines) else {
         return Ok(());
     };
     // The contract requires that the text may stand in a field, so `BadText` cannot occur.

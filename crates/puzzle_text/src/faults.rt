@@ -13,7 +13,7 @@ use thiserror::Error;
 /// is reported, wherever in the text it is. Lines are numbered from 1.
 #[derive(Clone, Copy, Debug, PartialEq, Eq)]
 pub enum TextFault {
-    /// The text is longer than `LONGEST_PUZZLE` bytes.
+    /// The text is longer than `MAX_PUZZLE_LEN` bytes.
     TooLong,
     /// In `.non`, there is no `width` line or no `height` line. In the other formats, there is no
     /// size line, or it doesn't consist of exactly two pieces.
@@ -88,14 +88,14 @@ impl From<NoMemory> for TextFault {
 /// Lines are numbered from 1.
 #[derive(Clone, Copy, Debug, PartialEq, Eq, Error)]
 pub enum CollectionFault {
-    /// The collection is longer than `LONGEST_COLLECTION` bytes.
+    /// The collection is longer than `MAX_COLLECTION_LEN` bytes.
     #[error("the collection has more than 16777216 bytes")]
     TooLong,
     /// This line is a marker line without a name, or it is above the first marker line and not
     /// blank. The number is that of the first such line.
     #[error("line {0} belongs to no entry or names none")]
     Stray(u32),
-    /// The collection has more than `MOST_ENTRIES` marker lines.
+    /// The collection has more than `MAX_ENTRIES` marker lines.
     #[error("the collection has more than 10000 entries")]
     TooMany,
     /// An allocation failed. Never returned in place of another fault.

@@ -2,13 +2,13 @@
 
 ghost use Rattle.std.specs.Prelude.{◌≡◌, ◌+◌, ◌-◌, ◌<◌, ◌≤◌, ◌^◌, ◌++◌, sum, length, Some, None, IfSome, if◌then◌else◌};
 ghost use Rattle.std.specs.List.{list_all};
-ghost use Rattle.puzzle_text.specs.Readings.{fits, sum_all};
+ghost use Rattle.puzzle_text.specs.Orientation.{fits, sum_all};
 
-use grid_core::{Clue, MOST_RUNS};
+use grid_core::{Clue, MAX_RUNS};
 
 /// Returns the sum of a clue's numbers.
 fn sum_of(numbers: &[u16]) -> u32
-    requires { length numbers.now ≤ MOST_RUNS }
+    requires { length numbers.now ≤ MAX_RUNS }
     ensures { result ≡ sum numbers.now }
 {
     numbers.iter().map(|number| u32::from(*number)).sum()
@@ -32,7 +32,7 @@ fn filled_within(len: u16, clue: &Clue) -> Option<u32>
 }
 
 /// Returns how many cells these clues fill together, if each of them fits a line of `len` cells.
-pub(crate) fn sum_within(len: u16, clues: &[Clue]) -> Option<u32>
+pub(crate) fn filled_if_fitting(len: u16, clues: &[Clue]) -> Option<u32>
     requires { length clues.now ≤ 65535 }
     ensures sum { result
         ≡ (if list_all (fits len) clues.now then Some (sum_all clues.now) else None) }
@@ -50,11 +50,11 @@ pub(crate) fn sum_within(len: u16, clues: &[Clue]) -> Option<u32>
 
 /// Returns how many cells the clues of both lists fill together, if each of them fits a line of
 /// `len` cells.
-pub(crate) fn sum_of_both(len: u16, first: &[Clue], second: &[Clue]) -> Option<u32>
+pub(crate) fn filled_if_both_fit(len: u16, first: &[Clue], second: &[Clue]) -> Option<u32>
     requires first { length first.now ≤ 65535 }
     requires second { length second.now ≤ 65535 }
     ensures { result ≡ (if list_all (fits len) (first.now ++ second.now)
         then Some (sum_all (first.now ++ second.now)) else None) }
 {
-    Some(sum_within(len, first)? + sum_within(len, second)?)
+    Some(filled_if_fitting(len, first)? + filled_if_fitting(len, second)?)
 }

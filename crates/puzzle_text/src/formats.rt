@@ -10,10 +10,10 @@ ghost use Rattle.puzzle_text.specs.Shown.{shown_entry};
 use crate::collections::Entry;
 use crate::faults::{EntryFault, TextFault, WriteFault};
 use crate::keywords::same_word;
-use crate::limits::LONGEST_PUZZLE;
+use crate::limits::MAX_PUZZLE_LEN;
 use crate::reading::{read_mk, read_nin, read_non};
 use crate::writing::{write_mk, write_nin, write_non};
-use grid_core::{LONGEST_SIDE, Puzzle};
+use grid_core::{MAX_SIDE, Puzzle};
 use std::alloc::Global;
 
 /// A format of puzzle texts.
@@ -56,7 +56,7 @@ impl Format {
     }
 
     /// Returns the format whose word is exactly `name`, or `None` if there is none.
-    pub fn of_word(name: &str) -> Option<Format>
+    pub fn from_word(name: &str) -> Option<Format>
         ensures { result ≡ find (λ format. bytes_eq (word format) name.now) formats }
     {
         match name {
@@ -69,7 +69,7 @@ impl Format {
 
     /// Returns the format that the ending of `name` determines, ignoring the case of ASCII letters,
     /// or `None` if it is not the ending of a format.
-    pub fn of_name(name: &[u8]) -> Option<Format>
+    pub fn from_name(name: &[u8]) -> Option<Format>
         ensures { result ≡ format_of name.now }
     {
         if has_ending(name, b".non") {
@@ -87,9 +87,9 @@ impl Format {
     /// Reads a puzzle in this format. A text with faults fails with the first of them in the order
     /// of `TextFault`.
     pub fn read(self, alloc: Global, bytes: &[u8]) -> Result<Puzzle, TextFault>
-        ensures answer { Gives (λ p. p) result (read_as self LONGEST_SIDE bytes.now) }
+        ensures answer { Gives (λ p. p) result (read_as self MAX_SIDE bytes.now) }
         // `NoMemory` is never returned in place of this fault.
-        ensures too_long { LONGEST_PUZZLE < length bytes.now → result ≡ Err TextFault.TooLong }
+        ensures too_long { MAX_PUZZLE_LEN < length bytes.now → result ≡ Err TextFault.TooLong }
     {
         match self {
             Format::Non => read_non(alloc, bytes),
@@ -117,15 +117,15 @@ impl Format {
 /// Reads the puzzle of an entry in the format that its name's ending determines: `.non`, `.mk` or
 /// `.nin`, ignoring the case of ASCII letters. Any other name fails with `UnknownFormat`.
 pub fn read_entry(alloc: Global, entry: &Entry<'_>) -> Result<Puzzle, EntryFault>
-    ensures answer { GivesPuzzle result (read_entry LONGEST_SIDE (shown_entry entry.now)) }
+    ensures answer { GivesPuzzle result (read_entry MAX_SIDE (shown_entry entry.now)) }
     // `NoMemory` is never returned in place of these faults.
     ensures unknown { result ≡ Err EntryFault.UnknownFormat
         ↔ is_format (shown_entry entry.now).name ≡ false }
     ensures too_long { is_format (shown_entry entry.now).name ≡ true
-        → LONGEST_PUZZLE < length (shown_entry entry.now).body
+        → MAX_PUZZLE_LEN < length (shown_entry entry.now).body
         → result ≡ Err (EntryFault.Text TextFault.TooLong) }
 {
-    let Some(format) = Format::of_name(entry.name) else {
+    let Some(format) = Format::from_name(entry.name) else {
         return Err(EntryFault::UnknownFormat);
     };
     match format.read(alloc, entry.body) {

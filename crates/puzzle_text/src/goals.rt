@@ -7,7 +7,7 @@ ghost use Rattle.puzzle_text.specs.Answers.{Gives};
 ghost use Rattle.puzzle_text.specs.Non.{cell_of, goal_cells, goal_of};
 ghost use Rattle.puzzle_text.specs.steps.Shown.{shown_keyword};
 
-use crate::clue_lines::room_for;
+use crate::clue_lines::vec_with_capacity;
 use crate::faults::TextFault;
 use crate::keyword_line::KeywordLine;
 use crate::keywords::quoted_text;
@@ -31,7 +31,7 @@ fn goal_cells(alloc: Global, count: usize, text: &[u8]) -> Result<Option<Vec<boo
     if text.len() != count {
         return Ok(None);
     }
-    let mut cells = room_for(alloc, count)?;
+    let mut cells = vec_with_capacity(alloc, count)?;
     // The loop has no early return, so that the compiler can handle several bytes at a time.
     let mut all = true;
     for byte in text {

@@ -6,11 +6,11 @@ ghost use Rattle.std.specs.Option.{option_map};
 ghost use Rattle.std.specs.Char.{is_ascii_alphabetic};
 ghost use Rattle.std.specs.Str.{bytes_eq, str_to_ascii_lowercase};
 ghost use Rattle.puzzle_text.specs.Lines.{is_empty};
-ghost use Rattle.puzzle_text.specs.Keywords.{after_quote, before_quote, field_word, has_keyword, is_keyword_line, keyword, quoted, rest, quoted_text, with_keyword};
+ghost use Rattle.puzzle_text.specs.Keywords.{after_quote, before_quote, field_word, has_keyword, is_keyword_line, keyword, quoted, keyword_argument, quoted_text, with_keyword};
 ghost use Rattle.puzzle_text.specs.steps.Shown.{shown_keyword, shown_line};
 
 use crate::keyword_line::KeywordLine;
-use crate::lines::{Line, trim};
+use crate::lines::{TextLine, trim};
 use grid_core::{Field, NoMemory};
 use std::alloc::Global;
 
@@ -51,7 +51,7 @@ fn letters(text: &[u8]) -> usize
 }
 
 /// Returns the ASCII letters that a line begins with; empty if it is no keyword line.
-pub(crate) fn keyword<'a>(line: &Line<'a>) -> &'a [u8]
+pub(crate) fn keyword<'a>(line: &TextLine<'a>) -> &'a [u8]
     ensures { str_to_ascii_lowercase result.now ≡ keyword (shown_line line.now) }
 {
     let (word, _) = line.text.split_at(letters(line.text));
@@ -61,7 +61,7 @@ pub(crate) fn keyword<'a>(line: &Line<'a>) -> &'a [u8]
 /// Returns the keyword lines among these lines, in order.
 pub(crate) fn keyword_lines<'a>(
     alloc: Global,
-    lines: &[Line<'a>],
+    lines: &[TextLine<'a>],
 ) -> Result<Vec<KeywordLine<'a>>, NoMemory>
     ensures { IfOk result (λ found. map shown_keyword found.items
         ≡ filter is_keyword_line (map shown_line lines.now)) }
@@ -78,8 +78,8 @@ pub(crate) fn keyword_lines<'a>(
 
 /// Returns a keyword line's argument: the text after its keyword, without spaces and tabs at both
 /// ends.
-pub(crate) fn rest<'a>(found: &KeywordLine<'a>) -> &'a [u8]
-    ensures { result.now ≡ rest (shown_keyword found.now) }
+pub(crate) fn keyword_argument<'a>(found: &KeywordLine<'a>) -> &'a [u8]
+    ensures { result.now ≡ keyword_argument (shown_keyword found.now) }
 {
     let (_, rest) = found.line.text.split_at(found.word.len());
     trim(rest)
@@ -102,7 +102,7 @@ fn has_keyword(word: &[u8], line: &KeywordLine<'_>) -> bool
 
 /// Returns the line at index `place`, from 0, among those whose keyword is `word`, if there are
 /// that many.
-pub(crate) fn nth_with<'a, 'b>(
+pub(crate) fn nth_with_keyword<'a, 'b>(
     word: &[u8],
     place: usize,
     lines: &'b [KeywordLine<'a>],
@@ -166,5 +166,5 @@ fn quoted(bytes: &[u8]) -> &[u8]
 pub(crate) fn quoted_text<'a>(found: &KeywordLine<'a>) -> &'a [u8]
     ensures { result.now ≡ quoted_text (shown_keyword found.now) }
 {
-    quoted(rest(found))
+    quoted(keyword_argument(found))
 }

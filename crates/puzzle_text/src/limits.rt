@@ -1,11 +1,11 @@
 //! The limits on puzzles' texts and on collections. Those on puzzles are in `grid_core`.
 
 /// The greatest length of a puzzle's whole text, in bytes, in any format. (A single text in it,
-/// such as its title, has at most `grid_core`'s `LONGEST_TEXT`.)
-pub const LONGEST_PUZZLE: usize = 1_048_576;
+/// such as its title, has at most `grid_core`'s `MAX_TEXT_LEN`.)
+pub const MAX_PUZZLE_LEN: usize = 1_048_576;
 
 /// The greatest length of a collection, in bytes, including its marker lines.
-pub const LONGEST_COLLECTION: usize = 16_777_216;
+pub const MAX_COLLECTION_LEN: usize = 16_777_216;
 
 /// The greatest number of entries of a collection, and so of its marker lines.
-pub const MOST_ENTRIES: usize = 10_000;
+pub const MAX_ENTRIES: usize = 10_000;

@@ -12,7 +12,7 @@ use std::alloc::Global;
 /// A text line: its number, from 1, and its bytes without spaces and tabs at both ends. It is blank
 /// if nothing is left of it.
 #[derive(Clone, Copy)]
-pub(crate) struct Line<'a> {
+pub(crate) struct TextLine<'a> {
     pub number: u32,
     pub text: &'a [u8],
 }
@@ -108,7 +108,7 @@ pub(crate) fn next_line(bytes: &[u8]) -> (&[u8], &[u8])
 }
 
 /// Reports whether a line begins with `#`.
-pub(crate) fn is_hash(line: &Line<'_>) -> bool
+pub(crate) fn is_hash(line: &TextLine<'_>) -> bool
     ensures { result ≡ is_hash (shown_line line.now) }
 {
     match line.text {
@@ -118,7 +118,7 @@ pub(crate) fn is_hash(line: &Line<'_>) -> bool
 }
 
 /// Returns all lines of a text, numbered from 1.
-pub(crate) fn all_lines(alloc: Global, bytes: &[u8]) -> Result<Vec<Line<'_>>, NoMemory>
+pub(crate) fn all_lines(alloc: Global, bytes: &[u8]) -> Result<Vec<TextLine<'_>>, NoMemory>
     requires { length bytes.now < 2 ^ 32 }
     ensures { IfOk result (λ found. map shown_line found.items ≡ lines bytes.now) }
 {
@@ -129,7 +129,7 @@ pub(crate) fn all_lines(alloc: Global, bytes: &[u8]) -> Result<Vec<Line<'_>>, No
     while !rest.is_empty() {
         let (line, after) = next_line(rest);
         number += 1;
-        found.push(Line {
+        found.push(TextLine {
             number,
             text: trim(line),
         })?;

@@ -6,20 +6,20 @@ ghost use Rattle.std.specs.Option.{option_map};
 ghost use Rattle.grid_core.specs.PartialGrid.{IsSize};
 ghost use Rattle.puzzle_text.specs.Answers.{Gives};
 ghost use Rattle.puzzle_text.specs.Lines.{is_hash};
-ghost use Rattle.puzzle_text.specs.Mk.{at_hash, before_hash, both_choices, mk_of, puzzle_of, read_mk};
-ghost use Rattle.puzzle_text.specs.steps.Shown.{shown_chosen, shown_line};
+ghost use Rattle.puzzle_text.specs.Mk.{at_hash, before_hash, section_lines_of_both, mk_of, puzzle_of, read_mk};
+ghost use Rattle.puzzle_text.specs.steps.Shown.{shown_section_lines, shown_line};
 
 use crate::clue_lines::both_clues;
 use crate::faults::TextFault;
-use crate::limits::LONGEST_PUZZLE;
-use crate::lines::{Line, is_hash};
+use crate::limits::MAX_PUZZLE_LEN;
+use crate::lines::{TextLine, is_hash};
 use crate::parts::puzzle_from_parts;
-use crate::sections::{Chosen, choice};
+use crate::sections::{SectionLines, section_lines};
 use crate::sizes::{size_line, text_lines};
-use grid_core::{LONGEST_SIDE, NoMemory, Puzzle, Texts};
+use grid_core::{MAX_SIDE, NoMemory, Puzzle, Texts};
 use std::alloc::Global;
 
-fn hash_place(lines: &[Line<'_>]) -> Option<usize>
+fn hash_place(lines: &[TextLine<'_>]) -> Option<usize>
     ensures { result ≡ position (λ line. is_hash (shown_line line)) lines.now }
 {
     lines.iter().position(|line| is_hash(line))
@@ -27,8 +27,8 @@ fn hash_place(lines: &[Line<'_>]) -> Option<usize>
 
 /// Returns the lines before and the lines after the first one that begins with `#`, or `None` if
 /// there is none.
-#[tactic(auto, using(crate::proofs::SaidLines::at_hash_found, crate::proofs::SaidLines::at_hash_none))]
-fn at_hash<'a, 'b>(lines: &'b [Line<'a>]) -> Option<(&'b [Line<'a>], &'b [Line<'a>])>
+#[tactic(auto, using(crate::proofs::ParsedLines::at_hash_found, crate::proofs::ParsedLines::at_hash_none))]
+fn at_hash<'a, 'b>(lines: &'b [TextLine<'a>]) -> Option<(&'b [TextLine<'a>], &'b [TextLine<'a>])>
     ensures { option_map (λ parts. (map shown_line parts.0.now, map shown_line parts.1.now)) result
         ≡ at_hash (map shown_line lines.now) }
 {
@@ -38,8 +38,8 @@ fn at_hash<'a, 'b>(lines: &'b [Line<'a>]) -> Option<(&'b [Line<'a>], &'b [Line<'
     }
 }
 
-#[tactic(auto, using(crate::proofs::SaidLines::before_hash_found, crate::proofs::SaidLines::before_hash_none))]
-fn before_hash<'a, 'b>(lines: &'b [Line<'a>]) -> &'b [Line<'a>]
+#[tactic(auto, using(crate::proofs::ParsedLines::before_hash_found, crate::proofs::ParsedLines::before_hash_none))]
+fn before_hash<'a, 'b>(lines: &'b [TextLine<'a>]) -> &'b [TextLine<'a>]
     ensures { map shown_line result.now ≡ before_hash (map shown_line lines.now) }
 {
     match hash_place(lines) {
@@ -50,26 +50,26 @@ fn before_hash<'a, 'b>(lines: &'b [Line<'a>]) -> &'b [Line<'a>]
 
 /// Returns the clue lines of both sections for a puzzle of these sizes, or `None` if one of the
 /// sections doesn't have as many as its size.
-fn both_choices<'a, 'b>(
+fn section_lines_of_both<'a, 'b>(
     alloc: Global,
     width: u16,
     height: u16,
-    rows: &'b [Line<'a>],
-    columns: &'b [Line<'a>],
-) -> Result<Option<(Chosen<'a, 'b>, Chosen<'a, 'b>)>, NoMemory>
+    rows: &'b [TextLine<'a>],
+    columns: &'b [TextLine<'a>],
+) -> Result<Option<(SectionLines<'a, 'b>, SectionLines<'a, 'b>)>, NoMemory>
     ensures lines { IfOk result (λ found.
-        option_map (λ chosen. shown_chosen chosen.0
-        ++ shown_chosen chosen.1) found
-        ≡ both_choices width height
+        option_map (λ clue_lines. shown_section_lines clue_lines.0
+        ++ shown_section_lines clue_lines.1) found
+        ≡ section_lines_of_both width height
         (map shown_line rows.now) (map shown_line columns.now)) }
-    ensures length { IfOk result (λ found. IfSome found (λ chosen.
-        (length (shown_chosen chosen.0) ≡ height)
-        × (length (shown_chosen chosen.1) ≡ width))) }
+    ensures length { IfOk result (λ found. IfSome found (λ clue_lines.
+        (length (shown_section_lines clue_lines.0) ≡ height)
+        × (length (shown_section_lines clue_lines.1) ≡ width))) }
 {
-    let Some(row_lines) = choice(alloc, usize::from(height), rows)? else {
+    let Some(row_lines) = section_lines(alloc, usize::from(height), rows)? else {
         return Ok(None);
     };
-    let Some(column_lines) = choice(alloc, usize::from(width), columns)? else {
+    let Some(column_lines) = section_lines(alloc, usize::from(width), columns)? else {
         return Ok(None);
     };
     Ok(Some((row_lines, column_lines)))
@@ -77,27 +77,27 @@ fn both_choices<'a, 'b>(
 
 /// Parses the clue lines of both sections into a puzzle of these sizes. Fails with `BadNumber` at
 /// the first line that is not a clue.
-#[tactic(auto, using(crate::proofs::SaidLines::puzzle_of_parts, crate::proofs::SaidLines::puzzle_of_both))]
+#[tactic(auto, using(crate::proofs::ParsedLines::puzzle_of_parts, crate::proofs::ParsedLines::puzzle_of_both))]
 fn puzzle_of(
     alloc: Global,
     width: u16,
     height: u16,
-    rows: &Chosen<'_, '_>,
-    columns: &Chosen<'_, '_>,
+    rows: &SectionLines<'_, '_>,
+    columns: &SectionLines<'_, '_>,
 ) -> Result<Puzzle, TextFault>
     requires size { IsSize width height }
-    requires rows { length (shown_chosen rows.now) ≡ height }
-    requires columns { length (shown_chosen columns.now) ≡ width }
+    requires rows { length (shown_section_lines rows.now) ≡ height }
+    requires columns { length (shown_section_lines columns.now) ≡ width }
     ensures { Gives (λ p. p) result
-        (puzzle_of LONGEST_SIDE width height
-        (shown_chosen rows.now ++ shown_chosen columns.now)) }
+        (puzzle_of MAX_SIDE width height
+        (shown_section_lines rows.now ++ shown_section_lines columns.now)) }
 {
     let (rows, columns) = both_clues(alloc, true, rows, columns)?;
     Ok(puzzle_from_parts(width, height, rows, columns, Texts::none(), None))
 }
 
-fn mk_of(alloc: Global, lines: &[Line<'_>]) -> Result<Puzzle, TextFault>
-    ensures { Gives (λ p. p) result (mk_of LONGEST_SIDE (map shown_line lines.now)) }
+fn mk_of(alloc: Global, lines: &[TextLine<'_>]) -> Result<Puzzle, TextFault>
+    ensures { Gives (λ p. p) result (mk_of MAX_SIDE (map shown_line lines.now)) }
 {
     let ((a, b), section) = size_line(lines)?;
     let Some((rows, after)) = at_hash(section) else {
@@ -105,10 +105,10 @@ fn mk_of(alloc: Global, lines: &[Line<'_>]) -> Result<Puzzle, TextFault>
     };
     let columns = before_hash(after);
     // The first size is the height; the other order is for texts in which that doesn't fit.
-    if let Some((row_lines, column_lines)) = both_choices(alloc, b, a, rows, columns)? {
+    if let Some((row_lines, column_lines)) = section_lines_of_both(alloc, b, a, rows, columns)? {
         return puzzle_of(alloc, b, a, &row_lines, &column_lines);
     }
-    if let Some((row_lines, column_lines)) = both_choices(alloc, a, b, rows, columns)? {
+    if let Some((row_lines, column_lines)) = section_lines_of_both(alloc, a, b, rows, columns)? {
         return puzzle_of(alloc, a, b, &row_lines, &column_lines);
     }
     Err(TextFault::BadCount)
@@ -117,9 +117,9 @@ fn mk_of(alloc: Global, lines: &[Line<'_>]) -> Result<Puzzle, TextFault>
 /// Reads a text in the format `.mk`, whatever form it has: the general reader, which splits the
 /// text into lines. Its results are those of `read_mk`.
 pub fn plain_mk(alloc: Global, bytes: &[u8]) -> Result<Puzzle, TextFault>
-    ensures answer { Gives (λ p. p) result (read_mk LONGEST_SIDE bytes.now) }
+    ensures answer { Gives (λ p. p) result (read_mk MAX_SIDE bytes.now) }
     // `NoMemory` is never returned in place of this fault.
-    ensures too_long { LONGEST_PUZZLE < length bytes.now → result ≡ Err TextFault.TooLong }
+    ensures too_long { MAX_PUZZLE_LEN < length bytes.now → result ≡ Err TextFault.TooLong }
 {
     let lines = text_lines(alloc, bytes)?;
     mk_of(alloc, &lines)

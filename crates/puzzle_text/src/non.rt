@@ -8,7 +8,7 @@ ghost use Rattle.grid_core.specs.PartialGrid.{IsSize};
 ghost use Rattle.puzzle_text.specs.Answers.{Gives};
 ghost use Rattle.puzzle_text.specs.Keywords.{second_with};
 ghost use Rattle.puzzle_text.specs.steps.Lines.{HaveNoFeed};
-ghost use Rattle.puzzle_text.specs.Non.{bad_line, check_lines, least, least_of, non_of, number_of_line, outline_of, puzzle_of_clues, puzzle_said, read_non, repeated, rows_first, sizes_of, texts_of};
+ghost use Rattle.puzzle_text.specs.Non.{bad_line, check_lines, least, least_of, non_of, number_of_line, outline_of, puzzle_of_clues, build_puzzle, read_non, repeated, rows_first, sizes_of, texts_of};
 ghost use Rattle.puzzle_text.specs.steps.Shown.{shown_keyword, shown_line, shown_sections};
 
 use crate::clue_lines::both_clues;
@@ -16,13 +16,13 @@ use crate::descriptions::{are_short, long_number, texts_of};
 use crate::faults::TextFault;
 use crate::goals::goal_of;
 use crate::keyword_line::KeywordLine;
-use crate::keywords::{FIELDS, keyword_lines, nth_with, rest};
-use crate::limits::LONGEST_PUZZLE;
-use crate::lines::Line;
+use crate::keywords::{FIELDS, keyword_argument, keyword_lines, nth_with_keyword};
+use crate::limits::MAX_PUZZLE_LEN;
+use crate::lines::TextLine;
 use crate::parts::puzzle_from_parts;
-use crate::places::{Sections, clue_lines_of, sections_of};
+use crate::section_split::{Sections, clue_lines_of, sections_of};
 use crate::sizes::{size_of, text_lines};
-use grid_core::{Clue, LONGEST_SIDE, Puzzle};
+use grid_core::{Clue, MAX_SIDE, Puzzle};
 use std::alloc::Global;
 
 /// Returns the lesser of two numbers, of which a missing one is ignored; `None` if both are
@@ -52,7 +52,7 @@ fn second_number(lines: &[KeywordLine<'_>], word: &[u8]) -> Option<u32>
     ensures { result ≡ number_of_line
         (second_with (str_to_ascii_lowercase word.now) (map shown_keyword lines.now)) }
 {
-    match nth_with(word, 1, lines) {
+    match nth_with_keyword(word, 1, lines) {
         Some(found) => Some(found.line.number),
         None => None,
     }
@@ -107,16 +107,19 @@ fn check_lines(keyword_lines: &[KeywordLine<'_>], stray: Option<u32>) -> Result<
 /// otherwise with `BadSize` if one of the sizes is out of range.
 fn sizes_of(lines: &[KeywordLine<'_>]) -> Result<(u16, u16), TextFault>
     ensures sizes { Gives (λ sizes. sizes) result
-        (sizes_of LONGEST_SIDE (map shown_keyword lines.now)) }
+        (sizes_of MAX_SIDE (map shown_keyword lines.now)) }
     ensures range { IfOk result (λ sizes. IsSize sizes.0 sizes.1) }
 {
-    let Some(width) = nth_with(b"width", 0, lines) else {
+    let Some(width) = nth_with_keyword(b"width", 0, lines) else {
         return Err(TextFault::NoSize);
     };
-    let Some(height) = nth_with(b"height", 0, lines) else {
+    let Some(height) = nth_with_keyword(b"height", 0, lines) else {
         return Err(TextFault::NoSize);
     };
-    Ok((size_of(rest(width))?, size_of(rest(height))?))
+    Ok((
+        size_of(keyword_argument(width))?,
+        size_of(keyword_argument(height))?,
+    ))
 }
 
 /// Reports whether the rows section is before the columns section. Fails with `NoSection` if one of
@@ -124,10 +127,10 @@ fn sizes_of(lines: &[KeywordLine<'_>]) -> Result<(u16, u16), TextFault>
 fn rows_first(lines: &[KeywordLine<'_>]) -> Result<bool, TextFault>
     ensures { Gives (λ first. first) result (rows_first (map shown_keyword lines.now)) }
 {
-    let Some(rows) = nth_with(b"rows", 0, lines) else {
+    let Some(rows) = nth_with_keyword(b"rows", 0, lines) else {
         return Err(TextFault::NoSection);
     };
-    let Some(columns) = nth_with(b"columns", 0, lines) else {
+    let Some(columns) = nth_with_keyword(b"columns", 0, lines) else {
         return Err(TextFault::NoSection);
     };
     Ok(rows.line.number < columns.line.number)
@@ -141,7 +144,7 @@ pub(crate) fn outline_of(
 ) -> Result<((u16, u16), bool), TextFault>
     requires { HaveNoFeed (map shown_keyword keyword_lines.now) }
     ensures answer { Gives (λ outline. outline) result
-        (outline_of LONGEST_SIDE stray (map shown_keyword keyword_lines.now)) }
+        (outline_of MAX_SIDE stray (map shown_keyword keyword_lines.now)) }
     ensures range { IfOk result (λ outline. IsSize outline.0.0 outline.0.1) }
     ensures texts { OnOk result (IsDescription (texts_of (map shown_keyword keyword_lines.now))) }
 {
@@ -169,21 +172,21 @@ pub(crate) fn puzzle_of_clues(
         (map shown_keyword keyword_lines.now)) }
 {
     let count = usize::from(width) * usize::from(height);
-    let goal = goal_of(alloc, count, nth_with(b"goal", 0, keyword_lines))?;
+    let goal = goal_of(alloc, count, nth_with_keyword(b"goal", 0, keyword_lines))?;
     let texts = texts_of(alloc, keyword_lines)?;
     Ok(puzzle_from_parts(width, height, rows, columns, texts, goal))
 }
 
 /// Builds the puzzle of a text from its keyword lines and its sections. Fails with the text's first
 /// fault.
-fn puzzle_said(
+fn build_puzzle(
     alloc: Global,
     keyword_lines: &[KeywordLine<'_>],
     sections: &Sections<'_>,
 ) -> Result<Puzzle, TextFault>
     requires { HaveNoFeed (map shown_keyword keyword_lines.now) }
     ensures { Gives (λ p. p) result
-        (puzzle_said LONGEST_SIDE (shown_sections sections.now)
+        (build_puzzle MAX_SIDE (shown_sections sections.now)
         (map shown_keyword keyword_lines.now)) }
 {
     let ((width, height), rows_first) = outline_of(keyword_lines, sections.stray)?;
@@ -193,23 +196,23 @@ fn puzzle_said(
     puzzle_of_clues(alloc, keyword_lines, width, height, rows, columns)
 }
 
-#[tactic(auto, using(crate::proofs::SaidLines::said_of_kept, crate::proofs::FeedsLemmas::clean_filter))]
-fn non_of(alloc: Global, lines: &[Line<'_>]) -> Result<Puzzle, TextFault>
+#[tactic(auto, using(crate::proofs::ParsedLines::parsed_of_kept, crate::proofs::FeedsLemmas::clean_filter))]
+fn non_of(alloc: Global, lines: &[TextLine<'_>]) -> Result<Puzzle, TextFault>
     requires { HaveNoFeed (map shown_line lines.now) }
-    ensures { Gives (λ p. p) result (non_of LONGEST_SIDE (map shown_line lines.now)) }
+    ensures { Gives (λ p. p) result (non_of MAX_SIDE (map shown_line lines.now)) }
 {
     let keyword_lines = keyword_lines(alloc, lines)?;
     let sections = sections_of(alloc, lines)?;
-    puzzle_said(alloc, &keyword_lines, &sections)
+    build_puzzle(alloc, &keyword_lines, &sections)
 }
 
 /// Reads a text in the format `.non`, whatever form it has: the general reader, which splits the
 /// text into lines. Its results are those of `read_non`.
 #[tactic(auto, using(crate::proofs::FeedsLemmas::lines_have_no_feed))]
 pub fn plain_non(alloc: Global, bytes: &[u8]) -> Result<Puzzle, TextFault>
-    ensures answer { Gives (λ p. p) result (read_non LONGEST_SIDE bytes.now) }
+    ensures answer { Gives (λ p. p) result (read_non MAX_SIDE bytes.now) }
     // `NoMemory` is never returned in place of this fault.
-    ensures too_long { LONGEST_PUZZLE < length bytes.now → result ≡ Err TextFault.TooLong }
+    ensures too_long { MAX_PUZZLE_LEN < length bytes.now → result ≡ Err TextFault.TooLong }
 {
     let lines = text_lines(alloc, bytes)?;
     non_of(alloc, &lines)

@@ -38,7 +38,7 @@ fn is_separator(byte: u8) -> bool
 }
 
 /// Skips separators. Returns the line from its first byte on that is not a comma, a space or a tab.
-pub(crate) fn from_piece(mut text: &[u8]) -> &[u8]
+pub(crate) fn skip_separators(mut text: &[u8]) -> &[u8]
     ensures pieces { pieces result.now ≡ pieces text.entry.now }
     ensures first { 0 < length result.now → is_separator (slice_index result.now 0) ≡ false }
     ensures within { length result.now ≤ length text.entry.now }
@@ -66,7 +66,7 @@ pub(crate) fn next_piece(text: &[u8]) -> Option<(&[u8], &[u8])>
     ensures some { IfSome result (λ found. pieces text.now ≡ found.0.now ∷ pieces found.1.now) }
     ensures shorter { IfSome result (λ found. length found.1.now < length text.now) }
 {
-    let text = from_piece(text);
+    let text = skip_separators(text);
     if text.is_empty() {
         return None;
     }

@@ -1,40 +1,40 @@
 //! The fast path: readers for texts in their usual form, which parse a text's bytes in one pass,
-//! with the parsers of `usual_lines` for clue lines. What a fast reader doesn't accept, be it a
+//! with the parsers of `fast_lines` for clue lines. What a fast reader doesn't accept, be it a
 //! fault or an unusual line, the general reader reads from the start.
 
 ghost use Rattle.std.specs.Prelude.{◌≡◌, ◌≤◌, length, map, IfOk, IfSome, IsSome, Ok};
 ghost use Rattle.puzzle_text.specs.Mk.{read_mk};
 ghost use Rattle.puzzle_text.specs.Nin.{read_nin};
-ghost use Rattle.puzzle_text.specs.Non.{puzzle_said, read_non, Sections};
+ghost use Rattle.puzzle_text.specs.Non.{build_puzzle, read_non, Sections};
 ghost use Rattle.puzzle_text.specs.steps.Lines.{HaveNoFeed};
 ghost use Rattle.puzzle_text.specs.steps.Shown.{shown_keyword};
-ghost use Rattle.puzzle_text.specs.steps.Usual.{HaveClues};
+ghost use Rattle.puzzle_text.specs.steps.Fast.{HaveClues};
 
+use crate::fast_lines::{hash_line, read_clue_lines, size_line};
+use crate::fast_sections::{FastSections, fast_sections_of};
 use crate::faults::TextFault;
-use crate::limits::LONGEST_PUZZLE;
+use crate::limits::MAX_PUZZLE_LEN;
 use crate::non::{outline_of, puzzle_of_clues};
+use crate::orientation::orient;
 use crate::parts::puzzle_from_parts;
-use crate::readings::likelier;
-use crate::usual_lines::{hash_line, read_clue_lines, size_line};
-use crate::usual_parts::{Parts, parts_of};
-use grid_core::{LONGEST_SIDE, Puzzle, Texts};
+use grid_core::{MAX_SIDE, Puzzle, Texts};
 use std::alloc::Global;
 
 /// Builds the puzzle from the keyword lines and clues that the fast path collected from a `.non`
 /// text. Any error sends the text to the general reader, which finds the fault to be reported.
-fn puzzle_said(alloc: Global, parts: Parts<'_>) -> Result<Puzzle, TextFault>
-    requires { HaveNoFeed (map shown_keyword parts.keyword_lines.items) }
+fn build_puzzle(alloc: Global, fast_sections: FastSections<'_>) -> Result<Puzzle, TextFault>
+    requires { HaveNoFeed (map shown_keyword fast_sections.keyword_lines.items) }
     ensures { IfOk result (λ p. (sections : Sections)
-        → HaveClues sections parts.entry.rows.items parts.entry.columns.items
-        → puzzle_said LONGEST_SIDE sections
-        (map shown_keyword parts.entry.keyword_lines.items)
+        → HaveClues sections fast_sections.entry.rows.items fast_sections.entry.columns.items
+        → build_puzzle MAX_SIDE sections
+        (map shown_keyword fast_sections.entry.keyword_lines.items)
         ≡ Ok p) }
 {
-    let Parts {
+    let FastSections {
         keyword_lines,
         rows,
         columns,
-    } = parts;
+    } = fast_sections;
     // There is no stray line, since the fast path accepts none.
     let ((width, height), _) = outline_of(&keyword_lines, None)?;
     if rows.len() != usize::from(height) || columns.len() != usize::from(width) {
@@ -47,25 +47,25 @@ fn puzzle_said(alloc: Global, parts: Parts<'_>) -> Result<Puzzle, TextFault>
 /// the clue lines of a section follow its keyword line, with no other line before or between them.
 /// All other keyword lines may be in any order. If it returns a puzzle, `read_non` returns the
 /// same.
-#[tactic(auto, using(crate::proofs::UsualLines::kept_clean))]
+#[tactic(auto, using(crate::proofs::FastLines::kept_clean))]
 pub fn quick_non(alloc: Global, bytes: &[u8]) -> Option<Puzzle>
-    ensures answer { IfSome result (λ p. read_non LONGEST_SIDE bytes.now ≡ Ok p) }
-    ensures short { IsSome result → length bytes.now ≤ LONGEST_PUZZLE }
+    ensures answer { IfSome result (λ p. read_non MAX_SIDE bytes.now ≡ Ok p) }
+    ensures short { IsSome result → length bytes.now ≤ MAX_PUZZLE_LEN }
 {
-    if bytes.len() > LONGEST_PUZZLE {
+    if bytes.len() > MAX_PUZZLE_LEN {
         return None;
     }
-    puzzle_said(alloc, parts_of(alloc, bytes)?).ok()
+    build_puzzle(alloc, fast_sections_of(alloc, bytes)?).ok()
 }
 
 /// Reads a `.mk` text in its usual form: the height comes first, the line between the sections is
 /// just `#`, and there is no other line than those of the sizes and the clues. If it returns a
 /// puzzle, `read_mk` returns the same.
 pub fn quick_mk(alloc: Global, bytes: &[u8]) -> Option<Puzzle>
-    ensures answer { IfSome result (λ p. read_mk LONGEST_SIDE bytes.now ≡ Ok p) }
-    ensures short { IsSome result → length bytes.now ≤ LONGEST_PUZZLE }
+    ensures answer { IfSome result (λ p. read_mk MAX_SIDE bytes.now ≡ Ok p) }
+    ensures short { IsSome result → length bytes.now ≤ MAX_PUZZLE_LEN }
 {
-    if bytes.len() > LONGEST_PUZZLE {
+    if bytes.len() > MAX_PUZZLE_LEN {
         return None;
     }
     let ((height, width), after) = size_line(bytes)?;
@@ -80,10 +80,10 @@ pub fn quick_mk(alloc: Global, bytes: &[u8]) -> Option<Puzzle>
 /// Reads a `.nin` text in its usual form: there is no other line than those of the sizes and the
 /// clues. If it returns a puzzle, `read_nin` returns the same.
 pub fn quick_nin(alloc: Global, bytes: &[u8]) -> Option<Puzzle>
-    ensures answer { IfSome result (λ p. read_nin LONGEST_SIDE bytes.now ≡ Ok p) }
-    ensures short { IsSome result → length bytes.now ≤ LONGEST_PUZZLE }
+    ensures answer { IfSome result (λ p. read_nin MAX_SIDE bytes.now ≡ Ok p) }
+    ensures short { IsSome result → length bytes.now ≤ MAX_PUZZLE_LEN }
 {
-    if bytes.len() > LONGEST_PUZZLE {
+    if bytes.len() > MAX_PUZZLE_LEN {
         return None;
     }
     let ((a, b), after) = size_line(bytes)?;
@@ -91,5 +91,5 @@ pub fn quick_nin(alloc: Global, bytes: &[u8]) -> Option<Puzzle>
     if !rest.is_empty() {
         return None;
     }
-    likelier(a, b, clues).ok()
+    orient(a, b, clues).ok()
 }

@@ -8,21 +8,21 @@ ghost use Rattle.puzzle_text.specs.Nin.{read_nin};
 ghost use Rattle.puzzle_text.specs.Non.{read_non};
 
 use crate::faults::TextFault;
-use crate::limits::LONGEST_PUZZLE;
+use crate::limits::MAX_PUZZLE_LEN;
 use crate::mk::plain_mk;
 use crate::nin::plain_nin;
 use crate::non::plain_non;
 use crate::quick::{quick_mk, quick_nin, quick_non};
-use grid_core::{LONGEST_SIDE, Puzzle};
+use grid_core::{MAX_SIDE, Puzzle};
 use std::alloc::Global;
 
 /// Reads a puzzle in the format `.non`: keyword lines for the texts, the sizes and the goal, and a
 /// section of clue lines each below `rows` and `columns`. A text with faults fails with the first
 /// of them in the order of `TextFault`.
 pub fn read_non(alloc: Global, bytes: &[u8]) -> Result<Puzzle, TextFault>
-    ensures answer { Gives (λ p. p) result (read_non LONGEST_SIDE bytes.now) }
+    ensures answer { Gives (λ p. p) result (read_non MAX_SIDE bytes.now) }
     // `NoMemory` is never returned in place of this fault.
-    ensures too_long { LONGEST_PUZZLE < length bytes.now → result ≡ Err TextFault.TooLong }
+    ensures too_long { MAX_PUZZLE_LEN < length bytes.now → result ≡ Err TextFault.TooLong }
 {
     match quick_non(alloc, bytes) {
         Some(puzzle) => Ok(puzzle),
@@ -36,9 +36,9 @@ pub fn read_non(alloc: Global, bytes: &[u8]) -> Result<Puzzle, TextFault>
 /// order both sections have as many clue lines as their size. A text with faults fails with the
 /// first of them in the order of `TextFault`.
 pub fn read_mk(alloc: Global, bytes: &[u8]) -> Result<Puzzle, TextFault>
-    ensures answer { Gives (λ p. p) result (read_mk LONGEST_SIDE bytes.now) }
+    ensures answer { Gives (λ p. p) result (read_mk MAX_SIDE bytes.now) }
     // `NoMemory` is never returned in place of this fault.
-    ensures too_long { LONGEST_PUZZLE < length bytes.now → result ≡ Err TextFault.TooLong }
+    ensures too_long { MAX_PUZZLE_LEN < length bytes.now → result ≡ Err TextFault.TooLong }
 {
     match quick_mk(alloc, bytes) {
         Some(puzzle) => Ok(puzzle),
@@ -51,9 +51,9 @@ pub fn read_mk(alloc: Global, bytes: &[u8]) -> Result<Puzzle, TextFault>
 /// its line and the row clues add up to as many filled cells as the column clues. A text with
 /// faults fails with the first of them in the order of `TextFault`.
 pub fn read_nin(alloc: Global, bytes: &[u8]) -> Result<Puzzle, TextFault>
-    ensures answer { Gives (λ p. p) result (read_nin LONGEST_SIDE bytes.now) }
+    ensures answer { Gives (λ p. p) result (read_nin MAX_SIDE bytes.now) }
     // `NoMemory` is never returned in place of this fault.
-    ensures too_long { LONGEST_PUZZLE < length bytes.now → result ≡ Err TextFault.TooLong }
+    ensures too_long { MAX_PUZZLE_LEN < length bytes.now → result ≡ Err TextFault.TooLong }
 {
     match quick_nin(alloc, bytes) {
         Some(puzzle) => Ok(puzzle),

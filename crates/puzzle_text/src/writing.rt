@@ -9,7 +9,7 @@ ghost use Rattle.puzzle_text.specs.Written.{clue_lines, clue_text, goal_byte, go
 
 use crate::faults::WriteFault;
 use crate::keywords::{FIELDS, field_word};
-use crate::readings::is_ambiguous;
+use crate::orientation::is_ambiguous;
 use crate::texts::push_number;
 use grid_core::{Clue, Field, NoMemory, Puzzle, Texts};
 use std::alloc::Global;

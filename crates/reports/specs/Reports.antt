@@ -2,7 +2,7 @@
 use Rattle.std.specs.Prelude.{◌≡◌, ℕ, true, List, ◌++◌, codes, decimal, count_by, if◌then◌else◌, Option, Some, None, Result, Ok, Err, Vec}
 use Rattle.std.specs.declared.alloc.Global.{Global}
 use Rattle.std.specs.List.{list_all}
-use Rattle.grid_core.specs.declared.limits.TheConstants.{LONGEST_SIDE}
+use Rattle.grid_core.specs.declared.limits.TheConstants.{MAX_SIDE}
 use Rattle.grid_core.specs.Cells.{is_known}
 use Rattle.grid_core.specs.Nonogram.{Nonogram}
 use Rattle.grid_core.specs.PartialGrid.{PartialGrid}
@@ -43,8 +43,8 @@ solve_text name limit pick p =
     (record { name = name; result = reported (record { limit = limit; pick = pick }) (Ok p) })
 
 -- the puzzle in the text of this name and body, or the fault of the text
-abbrev pub said : List ℕ → List ℕ → Result Nonogram EntryFault
-said name body = read_entry LONGEST_SIDE (record { name = name; body = body })
+abbrev pub parsed : List ℕ → List ℕ → Result Nonogram EntryFault
+parsed name body = read_entry MAX_SIDE (record { name = name; body = body })
 
 -- the text that is made of the puzzle, or the fault
 abbrev pub text_or_fault :

@@ -3,10 +3,10 @@
 ghost use Rattle.std.specs.Prelude.{◌≡◌, ◌<◌, ◌↔◌, true, false, length, Err, MatchResult, Ok};
 ghost use Rattle.puzzle_text.specs.Formats.{is_format};
 ghost use Rattle.reports.specs.Converting.{GivesConverted, converted, text_in_format};
-ghost use Rattle.reports.specs.Reports.{said};
+ghost use Rattle.reports.specs.Reports.{parsed};
 
 use grid_core::Puzzle;
-use puzzle_text::{Entry, EntryFault, Format, LONGEST_PUZZLE, TextFault, WriteFault, read_entry};
+use puzzle_text::{Entry, EntryFault, Format, MAX_PUZZLE_LEN, TextFault, WriteFault, read_entry};
 use std::alloc::Global;
 use thiserror::Error;
 
@@ -48,11 +48,11 @@ pub fn convert(
     body: &[u8],
     format: Format,
 ) -> Result<Vec<u8>, ConvertFault>
-    ensures answer { GivesConverted result (converted format (said name.now body.now)) }
+    ensures answer { GivesConverted result (converted format (parsed name.now body.now)) }
     // `NoMemory` is never returned in place of these faults.
     ensures unknown { result ≡ Err (ConvertFault.Entry EntryFault.UnknownFormat)
         ↔ is_format name.now ≡ false }
-    ensures too_long { is_format name.now ≡ true → LONGEST_PUZZLE < length body.now
+    ensures too_long { is_format name.now ≡ true → MAX_PUZZLE_LEN < length body.now
         → result ≡ Err (ConvertFault.Entry (EntryFault.Text TextFault.TooLong)) }
 {
     match read_entry(alloc, &Entry { name, body }) {

@@ -4,12 +4,12 @@ ghost use Rattle.std.specs.Prelude.{◌≡◌, ◌≤◌, ◌<◌, ◌↔◌, �
 ghost use Rattle.std.specs.List.{list_all};
 ghost use Rattle.grid_core.specs.Cells.{is_known};
 ghost use Rattle.puzzle_text.specs.Formats.{is_format};
-ghost use Rattle.reports.specs.Reports.{GivesText, closed_text, closed_word, grid_report, lines_text, said, solve_text, text_or_fault};
+ghost use Rattle.reports.specs.Reports.{GivesText, closed_text, closed_word, grid_report, lines_text, parsed, solve_text, text_or_fault};
 
 use grid_core::{Grid, NoMemory, Puzzle};
-use lane_core::{Job, MOST_GUESSES, grade};
+use lane_core::{Job, MAX_GUESSES, grade};
 use puzzle_text::{
-    Entry, EntryFault, LONGEST_PUZZLE, TextFault, push_bytes, push_number, read_entry,
+    Entry, EntryFault, MAX_PUZZLE_LEN, TextFault, push_bytes, push_number, read_entry,
 };
 use solve_core::{Pick, line_grid};
 use std::alloc::Global;
@@ -88,10 +88,10 @@ fn lines_answer(alloc: Global, puzzle: &Puzzle) -> Result<Vec<u8>, EntryFault>
 /// with K the number of known cells, and then its rows; or `none 0` if it is dead. Fails with the
 /// fault of the text, or with `Text(NoMemory)` if an allocation fails.
 pub fn lines_report(alloc: Global, name: &[u8], body: &[u8]) -> Result<Vec<u8>, EntryFault>
-    ensures answer { GivesText result (text_or_fault lines_text (said name.now body.now)) }
+    ensures answer { GivesText result (text_or_fault lines_text (parsed name.now body.now)) }
     // `NoMemory` is never returned in place of these faults.
     ensures unknown { result ≡ Err EntryFault.UnknownFormat ↔ is_format name.now ≡ false }
-    ensures too_long { is_format name.now ≡ true → LONGEST_PUZZLE < length body.now
+    ensures too_long { is_format name.now ≡ true → MAX_PUZZLE_LEN < length body.now
         → result ≡ Err (EntryFault.Text TextFault.TooLong) }
 {
     match read_entry(alloc, &Entry { name, body }) {
@@ -109,7 +109,7 @@ fn solve_text(
     guesses: u32,
     pick: Pick,
 ) -> Result<Vec<u8>, NoMemory>
-    requires { guesses ≤ MOST_GUESSES }
+    requires { guesses ≤ MAX_GUESSES }
     ensures { IfOk result (λ text. text.items ≡ solve_text name.now guesses pick puzzle) }
 {
     // Graded as the only entry of a survey would be, so that the text is the same as there.
@@ -128,12 +128,12 @@ pub fn solve_report(
     guesses: u32,
     pick: Pick,
 ) -> Result<Vec<u8>, EntryFault>
-    requires { guesses ≤ MOST_GUESSES }
+    requires { guesses ≤ MAX_GUESSES }
     ensures answer { GivesText result
-        (text_or_fault (solve_text name.now guesses pick) (said name.now body.now)) }
+        (text_or_fault (solve_text name.now guesses pick) (parsed name.now body.now)) }
     // `NoMemory` is never returned in place of these faults.
     ensures unknown { result ≡ Err EntryFault.UnknownFormat ↔ is_format name.now ≡ false }
-    ensures too_long { is_format name.now ≡ true → LONGEST_PUZZLE < length body.now
+    ensures too_long { is_format name.now ≡ true → MAX_PUZZLE_LEN < length body.now
         → result ≡ Err (EntryFault.Text TextFault.TooLong) }
 {
     match read_entry(alloc, &Entry { name, body }) {

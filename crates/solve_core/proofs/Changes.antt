@@ -10,8 +10,8 @@ none_of : (q p : ℕ) (ps : List ℕ) → q ≢ p → ((k : ℕ) → k < length 
 none_of q p ps h l k m = grind arith
 
 -- `p` is an element of `places`, or differs from each of them
-pub is_among : (places : List ℕ) (p : ℕ) →
-    ((k : ℕ) × (k < length places) × (get_or places k 0 ≡ p)) ⊎ ((k : ℕ) → k < length places → get_or places k 0 ≢ p)
+pub is_among : (indices : List ℕ) (p : ℕ) →
+    ((k : ℕ) × (k < length indices) × (get_or indices k 0 ≡ p)) ⊎ ((k : ℕ) → k < length indices → get_or indices k 0 ≢ p)
 is_among [] p = inr (λ k l. absurd (omega arith))
 is_among (q ∷ ps) p = elim (cases_eq q p) [
   | inl first ↦ inl (0, omega arith, first)

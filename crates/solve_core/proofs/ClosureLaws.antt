@@ -10,12 +10,13 @@ at_more (x ∷ g) (y ∷ z) zero d h = h.0
 at_more (x ∷ g) (y ∷ z) (suc k) d h = at_more g z k d h.1
 at_more _ _ k d h = absurd h
 
-cells_at-monotone : (g z : List Cell) (d : Cell) (places : List ℕ) → Extends g z → Extends (cells_at Unknown g places) (cells_at d z places)
+cells_at-monotone : (g z : List Cell) (d : Cell) (indices : List ℕ) → Extends g z
+    → Extends (cells_at Unknown g indices) (cells_at d z indices)
 cells_at-monotone g z d [] h = tt
-cells_at-monotone g z d (k ∷ places) h = (at_more g z k d h, cells_at-monotone g z d places h)
+cells_at-monotone g z d (k ∷ indices) h = (at_more g z k d h, cells_at-monotone g z d indices h)
 
 -- writing the cells that are there already changes nothing
-pub with_cells-read : (d : Cell) (g : List Cell) (places : List ℕ) → with_cells g places (cells_at d g places) ≡ g
+pub with_cells-read : (d : Cell) (g : List Cell) (indices : List ℕ) → with_cells g indices (cells_at d g indices) ≡ g
 with_cells-read d g [] = refl
 with_cells-read d g (p ∷ ps) = ap (λ (r : List Cell). with_cells r ps (cells_at d g ps)) (set-get_or g p d) ∙ with_cells-read d g ps
 
@@ -27,35 +28,35 @@ set-monotone (x ∷ g) (y ∷ z) (suc k) c d h e = (h.0, set-monotone g z k c d 
 set-monotone _ _ k c d h e = absurd h
 
 -- writing several cells is monotone in the grid and in the cells
-pub with_cells-monotone : (g z : List Cell) (places : List ℕ) (cs ds : List Cell) → Extends g z → Extends cs ds →
-    Extends (with_cells g places cs) (with_cells z places ds)
-with_cells-monotone g z (k ∷ places) (c ∷ cs) (d ∷ ds) h e =
-    with_cells-monotone (set g k c) (set z k d) places cs ds (set-monotone g z k c d h e.0) e.1
-with_cells-monotone g z (k ∷ places) [] (d ∷ ds) h e = absurd e
-with_cells-monotone g z (k ∷ places) (c ∷ cs) [] h e = absurd e
+pub with_cells-monotone : (g z : List Cell) (indices : List ℕ) (cs ds : List Cell) → Extends g z → Extends cs ds →
+    Extends (with_cells g indices cs) (with_cells z indices ds)
+with_cells-monotone g z (k ∷ indices) (c ∷ cs) (d ∷ ds) h e =
+    with_cells-monotone (set g k c) (set z k d) indices cs ds (set-monotone g z k c d h e.0) e.1
+with_cells-monotone g z (k ∷ indices) [] (d ∷ ds) h e = absurd e
+with_cells-monotone g z (k ∷ indices) (c ∷ cs) [] h e = absurd e
 with_cells-monotone g z _ _ _ h e = h
 
-written-monotone : (g z : List Cell) (places : List ℕ) (o p : Option (List Cell)) → Extends g z → AtMost o p →
-    AtMost (option_map (with_cells g places) o) (option_map (with_cells z places) p)
-written-monotone g z places o p h k = search (rules, with_cells-monotone)
+written-monotone : (g z : List Cell) (indices : List ℕ) (o p : Option (List Cell)) → Extends g z → AtMost o p →
+    AtMost (option_map (with_cells g indices) o) (option_map (with_cells z indices) p)
+written-monotone g z indices o p h k = search (rules, with_cells-monotone)
 
 -- deducing a line is monotone: a grid that knows more yields no less
 pub deduce_line-monotone : (line : GridLine) (g z : List Cell) → Extends g z → AtMost (deduce_line g line) (deduce_line z line)
 deduce_line-monotone line g z h = search (rules, written-monotone, deduced-monotone, cells_at-monotone)
 
 -- writing cells doesn't change the length of a grid
-pub length-with_cells : (g : List Cell) (places : List ℕ) (cs : List Cell) → length (with_cells g places cs) ≡ length g
+pub length-with_cells : (g : List Cell) (indices : List ℕ) (cs : List Cell) → length (with_cells g indices cs) ≡ length g
 length-with_cells g [] cs = refl
-length-with_cells g (k ∷ places) [] = refl
-length-with_cells g (k ∷ places) (c ∷ cs) = length-with_cells (set g k c) places cs ∙ length-set g k c
+length-with_cells g (k ∷ indices) [] = refl
+length-with_cells g (k ∷ indices) (c ∷ cs) = length-with_cells (set g k c) indices cs ∙ length-set g k c
 
-length-written : (g : List Cell) (places : List ℕ) (o : Option (List Cell)) → HasLength (length g) (option_map (with_cells g places) o)
-length-written g places o = search (rules, length-with_cells)
+length-written : (g : List Cell) (indices : List ℕ) (o : Option (List Cell)) → HasLength (length g) (option_map (with_cells g indices) o)
+length-written g indices o = search (rules, length-with_cells)
 
 -- the grid with a line deduced is dead or as long as before
 lengths : (g : List Cell) (lines : List GridLine) → AllByRecursion (HasLength (length g)) (map (deduce_line g) lines)
 lengths g [] = tt
-lengths g (line ∷ lines) = (length-written g line.places (deduced (cells_at Unknown g line.places) line.clue), lengths g lines)
+lengths g (line ∷ lines) = (length-written g line.indices (deduced (cells_at Unknown g line.indices) line.clue), lengths g lines)
 
 -- a round only adds known cells
 pub round-above : (lines : List GridLine) (g : List Cell) → AtMost (Some g) (round lines g)
@@ -104,24 +105,24 @@ IsLeastClosed-unique f g (Some x) (Some y) h k = search (rules, Extends-antisym)
 
 -- `full`, a full grid, meets the clue of each of `lines`
 abbrev pub MeetsLines : List GridLine → List Bool → Type 0
-MeetsLines lines full = AllByRecursion (λ line. runs (cells_at false full line.places) ≡ line.clue) lines
+MeetsLines lines full = AllByRecursion (λ line. runs (cells_at false full line.indices) ≡ line.clue) lines
 
-read-colour : (full : List Bool) (places : List ℕ) → cells_at Blank (map colour full) places ≡ map colour (cells_at false full places)
+read-colour : (full : List Bool) (indices : List ℕ) → cells_at Blank (map colour full) indices ≡ map colour (cells_at false full indices)
 read-colour full [] = refl
-read-colour full (k ∷ places) = λ i. get_or-map colour full k false i ∷ read-colour full places i
+read-colour full (k ∷ indices) = λ i. get_or-map colour full k false i ∷ read-colour full indices i
 
 lines_below : (lines : List GridLine) (full : List Bool) (g : List Cell) → MeetsLines lines full → Extends g (map colour full) →
     AllByRecursion (λ o. AtMost o (Some (map colour full))) (map (deduce_line g) lines)
 lines_below [] full g m h = tt
 lines_below (line ∷ lines) full g m h =
     let z = map colour full in
-    let same = read-colour full line.places in
-    let old = cells_at Unknown g line.places in
-    let below : AtMost (deduced old line.clue) (Some (cells_at Blank z line.places)) =
-    rw same (deduced-below old line.clue (cells_at false full line.places)
-    (record { extends = rw same at (cells_at-monotone g z Blank line.places h); runs_are = m.0 })) in (
-      rw (with_cells-read Blank z line.places) at
-          (written-monotone g z line.places (deduced old line.clue) (Some (cells_at Blank z line.places)) h below),
+    let same = read-colour full line.indices in
+    let old = cells_at Unknown g line.indices in
+    let below : AtMost (deduced old line.clue) (Some (cells_at Blank z line.indices)) =
+    rw same (deduced-below old line.clue (cells_at false full line.indices)
+    (record { extends = rw same at (cells_at-monotone g z Blank line.indices h); runs_are = m.0 })) in (
+      rw (with_cells-read Blank z line.indices) at
+          (written-monotone g z line.indices (deduced old line.clue) (Some (cells_at Blank z line.indices)) h below),
       lines_below lines full g m.1 h,
     )
 
@@ -142,12 +143,12 @@ same_at_most z (Some w) h k = ap (λ (r : List Cell). Some r) (Extends-antisym w
 
 -- the cell indices of each line are below `n`
 abbrev pub AreInRange : ℕ → List GridLine → Type 0
-AreInRange n lines = AllByRecursion (λ line. AllByRecursion (λ k. k < n) line.places) lines
+AreInRange n lines = AllByRecursion (λ line. AllByRecursion (λ k. k < n) line.indices) lines
 
-cells_at-colour : (full : List Bool) (places : List ℕ) → AllByRecursion (λ k. k < length full) places →
-    cells_at Unknown (map colour full) places ≡ map colour (cells_at false full places)
+cells_at-colour : (full : List Bool) (indices : List ℕ) → AllByRecursion (λ k. k < length full) indices →
+    cells_at Unknown (map colour full) indices ≡ map colour (cells_at false full indices)
 cells_at-colour full [] h = refl
-cells_at-colour full (k ∷ places) h = λ i. get_or-map_colour full k h.0 i ∷ cells_at-colour full places h.1 i
+cells_at-colour full (k ∷ indices) h = λ i. get_or-map_colour full k h.0 i ∷ cells_at-colour full indices h.1 i
 
 meets_each : (lines : List GridLine) (full : List Bool) (w : List Cell) → AreInRange (length full) lines →
     AllByRecursion (λ o. AtMost o (Some w)) (map (deduce_line (map colour full)) lines) → MeetsLines lines full

@@ -1,6 +1,6 @@
 -- Counts of an index in two sets, and the known neighbours in a row that they count.
-use Rattle.solve_core.proofs.Names.{◌≡◌, ℕ, ◌+◌, ◌-◌, ◌<◌, ◌≤◌, ◌⊎◌, inl, inr, Bool, true, nat_eq, List, length, get_or, Option, IfSome, IfNone, arith, true≢false, cases_eq, cases_lt, eqb-true, eq-eqb, or_cases, Cell, Unknown, is_known, Has, has, IsMaskOf, IsShifted, IsUnknownCell, AreCounts, IsKnownCell, IsMostInRow, row_score, two_of, is_sure, rules}
-use Rattle.place_sets.proofs.HasLemmas.{true_has, has_true}
+use Rattle.solve_core.proofs.Names.{◌≡◌, ℕ, ◌+◌, ◌-◌, ◌<◌, ◌≤◌, ◌⊎◌, inl, inr, Bool, true, nat_eq, List, length, get_or, Option, IfSome, IfNone, arith, true≢false, cases_eq, cases_lt, eqb-true, eq-eqb, or_cases, Cell, Unknown, is_known, Has, has, IsMaskOf, IsShifted, IsUnknownCell, AreCounts, IsKnownCell, IsMostInRow, row_score, two_of, is_known_or_outside, rules}
+use Rattle.bit_sets.proofs.HasLemmas.{true_has, has_true}
 use Rattle.grid_core.proofs.LineCells.{has_by}
 
 -- if `e` and `b` are the sets of the counts `f`, the number of them that contain `i` is `f i`
@@ -10,21 +10,21 @@ counts_by f e b c i = search (rules, true_has, cases_lt, true≢false, has_true)
 -- `left` has the cells whose left neighbour is known, and the first cell
 pub left_is : (row : List Cell) (w known up first left : ℕ) → length row ≤ w → IsMaskOf (IsKnownCell row) known →
     IsMaskOf (IsShifted w (Has known) 1) up → IsMaskOf (λ i. i ≡ 0) first → IsMaskOf (λ i. Has up i ⊎ Has first i) left → (x : ℕ) →
-    x < length row → has left x ≡ is_sure (nat_eq x 0) (get_or row (x - 1) Unknown)
+    x < length row → has left x ≡ is_known_or_outside (nat_eq x 0) (get_or row (x - 1) Unknown)
 left_is row w known up first left fits k u f l x h = grind (arith, has_by, true≢false, eq-eqb, or_cases, eqb-true, cases_eq)
 
 -- `right` has the cells whose right neighbour is known, and the last cell
 pub right_is : (row : List Cell) (w known down first last right : ℕ) → length row ≤ w → 1 ≤ length row →
     IsMaskOf (IsKnownCell row) known → IsMaskOf (λ i. Has known (i + 1)) down
     → IsMaskOf (λ i. i ≡ 0) first → IsMaskOf (IsShifted w (Has first) (length row - 1)) last → IsMaskOf (λ i. Has down i ⊎ Has last i) right
-    → (x : ℕ) → x < length row → has right x ≡ is_sure (nat_eq (x + 1) (length row)) (get_or row (x + 1) Unknown)
+    → (x : ℕ) → x < length row → has right x ≡ is_known_or_outside (nat_eq (x + 1) (length row)) (get_or row (x + 1) Unknown)
 right_is row w known down first last right fits some k d f m r x h =
-    has_by right x (is_sure (nat_eq (x + 1) (length row)) (get_or row (x + 1) Unknown)) to from
+    has_by right x (is_known_or_outside (nat_eq (x + 1) (length row)) (get_or row (x + 1) Unknown)) to from
   where
-    to : Has right x → is_sure (nat_eq (x + 1) (length row)) (get_or row (x + 1) Unknown) ≡ true
+    to : Has right x → is_known_or_outside (nat_eq (x + 1) (length row)) (get_or row (x + 1) Unknown) ≡ true
     to y = search (rules, true≢false, nat_eq, eq-eqb)
 
-    from : is_sure (nat_eq (x + 1) (length row)) (get_or row (x + 1) Unknown) ≡ true → Has right x
+    from : is_known_or_outside (nat_eq (x + 1) (length row)) (get_or row (x + 1) Unknown) ≡ true → Has right x
     from e = elim (or_cases (nat_eq (x + 1) (length row)) (is_known (get_or row (x + 1) Unknown)) e) [
       | inl end ↦ grind (arith, eqb-true)
       | inr sure ↦ elim (cases_eq (x + 1) (length row)) [

@@ -1,5 +1,5 @@
 -- Numbers of known and of unknown cells.
-use Rattle.solve_core.proofs.Names.{take, ◌≤◌, ◌≡◌, ℕ, zero, suc, ◌+◌, ◌<◌, true, false, List, [], ◌∷◌, length, get_or, cond, refl, sym, ap, ◌∙◌, arith, true≢false, list_all, count_by_more_yes, sum_by-cons, Cell, Unknown, is_known, is_unknown, GridLine, unknown_count, IsTried, count_by, AllPass-from_list_all, rules}
+use Rattle.solve_core.proofs.Names.{take, ◌≤◌, ◌≡◌, ℕ, zero, suc, ◌+◌, ◌<◌, true, false, List, [], ◌∷◌, length, get_or, cond, refl, sym, ap, ◌∙◌, arith, true≢false, list_all, count_by_more_yes, sum_by-cons, Cell, Unknown, is_known, is_unknown, GridLine, unknown_count, HasNoRefutedColour, count_by, AllPass-from_list_all, rules}
 
 -- the known and the unknown cells together are all cells
 pub known-and-unknown : (cells : List Cell) → count_by is_known cells + unknown_count cells ≡ length cells
@@ -34,5 +34,5 @@ all-of-none (_ ∷ cells) h = all-of-none cells h
 
 -- in a full grid no unknown cell has a refuted colour
 pub full-tried : (lines : List GridLine) (cells : List Cell) → list_all is_known cells ≡ true → (k : ℕ) → k < length cells →
-    IsTried lines cells k
+    HasNoRefutedColour lines cells k
 full-tried lines cells h k l e = absurd (true≢false (sym (AllPass-from_list_all is_known cells h k Unknown l) ∙ ap is_known e))

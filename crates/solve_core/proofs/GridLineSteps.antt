@@ -1,16 +1,16 @@
 -- The rows and the columns of a grid: how they are read, written and counted.
-use Rattle.solve_core.proofs.Names.{◌≡◌, ℕ, ◌+◌, ◌-◌, ◌*◌, ◌/◌, ◌%◌, ◌<◌, ◌≤◌, List, [], ◌∷◌, length, get_or, refl, sym, ap, ◌∙◌, arith, replicate, ext_get_or, get_or_default, get_or-replicate, length-replicate, div_below, Cell, Unknown, PartialGrid, IsSize, places_from, cells_at, length-places_from, get_or-places_from, length-cells_at, get_or-cells_at, IsUnknownCell, AreLinesOf, cells_of_rows, row_of, get_or-row_of, get_or-rows, length-row_of, length-rows, cases_lt, inl, inr, subst, rules, sum_by-cons, count_by, is_known}
+use Rattle.solve_core.proofs.Names.{◌≡◌, ℕ, ◌+◌, ◌-◌, ◌*◌, ◌/◌, ◌%◌, ◌<◌, ◌≤◌, List, [], ◌∷◌, length, get_or, refl, sym, ap, ◌∙◌, arith, replicate, ext_get_or, get_or_default, get_or-replicate, length-replicate, div_below, Cell, Unknown, PartialGrid, IsSize, strided_indices, cells_at, length-strided_indices, get_or-strided_indices, length-cells_at, get_or-cells_at, IsUnknownCell, AreLinesOf, cells_of_rows, row_of, get_or-row_of, get_or-rows, length-row_of, length-rows, cases_lt, inl, inr, subst, rules, sum_by-cons, count_by, is_known}
 use Rattle.std.specs.Prelude.{◌^◌, sum_by}
 use Rattle.std.proofs.lemmas.List.Sums.{count_by-le-length, sum_by-append}
-use Rattle.solve_core.proofs.SideLines.{row_within}
+use Rattle.solve_core.proofs.AxisLines.{row_within}
 use Rattle.solve_core.proofs.LineSteps.{get_or-replicated}
 
-pub length-along : (cells : List Cell) (first step n : ℕ) → length (cells_at Unknown cells (places_from first step n)) ≡ n
-length-along cells first step n = length-cells_at Unknown cells (places_from first step n) ∙ length-places_from first step n
+pub length-along : (cells : List Cell) (first step n : ℕ) → length (cells_at Unknown cells (strided_indices first step n)) ≡ n
+length-along cells first step n = length-cells_at Unknown cells (strided_indices first step n) ∙ length-strided_indices first step n
 
 pub get_or-along : (cells : List Cell) (first step n i k : ℕ) → i < n → first + i * step ≡ k →
-    get_or (cells_at Unknown cells (places_from first step n)) i Unknown ≡ get_or cells k Unknown
-get_or-along cells first step n i k h e = search (rules, get_or-cells_at, length-places_from, get_or-places_from)
+    get_or (cells_at Unknown cells (strided_indices first step n)) i Unknown ≡ get_or cells k Unknown
+get_or-along cells first step n i k h e = search (rules, get_or-cells_at, length-strided_indices, get_or-strided_indices)
 
 -- the column and the row of cell `k` are within the grid, and determine `k`
 pub place_in : (cells : List Cell) (rows columns : List (List Cell)) (k : ℕ) → AreLinesOf cells rows columns → k < length cells
@@ -62,9 +62,9 @@ abbrev pub grid_of_lines : List (List Cell) → List (List Cell) → PartialGrid
 grid_of_lines rows columns = record { width = length columns; height = length rows; cells = cells_of_rows rows }
 
 -- each cell that is read from an unknown grid is unknown
-read-unknown : (n : ℕ) (places : List ℕ) → cells_at Unknown (replicate n Unknown) places ≡ replicate (length places) Unknown
+read-unknown : (n : ℕ) (indices : List ℕ) → cells_at Unknown (replicate n Unknown) indices ≡ replicate (length indices) Unknown
 read-unknown n [] = refl
-read-unknown n (k ∷ places) = λ i. get_or-replicated n k Unknown i ∷ read-unknown n places i
+read-unknown n (k ∷ indices) = λ i. get_or-replicated n k Unknown i ∷ read-unknown n indices i
 
 -- unknown rows and columns are the lines of the unknown grid
 pub lines-unknown : (w h : ℕ) (rows columns : List (List Cell)) → IsSize w h → rows ≡ replicate h (replicate w Unknown) →
@@ -73,8 +73,8 @@ pub lines-unknown : (w h : ℕ) (rows columns : List (List Cell)) → IsSize w h
 lines-unknown w h rows columns size er el =
     let wide : length columns ≡ w = ap length el ∙ length-replicate w (replicate h Unknown) in
     let high : length rows ≡ h = ap length er ∙ length-replicate h (replicate w Unknown) in
-    let along = λ (first step n : ℕ). read-unknown (w * h) (places_from first step n) ∙
-    ap (λ (k : ℕ). replicate k Unknown) (length-places_from first step n) in
+    let along = λ (first step n : ℕ). read-unknown (w * h) (strided_indices first step n) ∙
+    ap (λ (k : ℕ). replicate k Unknown) (length-strided_indices first step n) in
     let are : AreLinesOf (replicate (w * h) Unknown) rows columns = search (rules, length-replicate, along, get_or-replicate) in
     let same = lines_cells (replicate (w * h) Unknown) rows columns are in
     (same, rw same are)
@@ -128,12 +128,12 @@ lines-read g rows columns size count wide rows_are long cells = record {
   count = count;
   rows_are = λ y ly.
       let same : length (get_or rows y []) ≡ w = ap length (rows_are y ly) ∙ length-row_of g y ∙ wide in
-      ext_get_or Unknown (get_or rows y []) (cells_at Unknown g.cells (places_from (y * w) 1 w))
+      ext_get_or Unknown (get_or rows y []) (cells_at Unknown g.cells (strided_indices (y * w) 1 w))
       (same ∙ sym (length-along g.cells (y * w) 1 w))
       (λ x h. let lx : x < w = omega (arith, h, same) in
       row_cell x y lx ly ∙ sym (get_or-along g.cells (y * w) 1 w x (y * w + x) lx (omega arith)));
   columns_are = λ x lx.
-      ext_get_or Unknown (get_or columns x []) (cells_at Unknown g.cells (places_from x w (length rows)))
+      ext_get_or Unknown (get_or columns x []) (cells_at Unknown g.cells (strided_indices x w (length rows)))
       (long x lx ∙ sym (length-along g.cells x w (length rows)))
       (λ y h. let ly : y < length rows = omega (arith, h, long x lx) in
       cells x y lx ly ∙ row_cell x y lx ly ∙ sym (get_or-along g.cells x w (length rows) y (y * w + x) ly (omega arith)));

@@ -8,13 +8,13 @@ pub mod ClosureLaws
 pub mod TrialLaws
 pub mod StepLaws
 pub mod LineSteps
-pub mod LearnedLines
-pub mod SideLines
+pub mod AssignedLines
+pub mod AxisLines
 pub mod GridSteps
 pub mod GridLineSteps
 pub mod BoardSteps
 pub mod TrialSteps
-pub mod OpeningLaws
+pub mod ConsistencyLaws
 pub mod SearchLaws
 pub mod ReportLaws
 pub mod AnswerLaws
@@ -28,4 +28,4 @@ pub mod PickRows
 pub mod StatedLaws
 pub mod WordLemmas
 pub mod TableSteps
-pub mod Remembering
+pub mod CacheLaws

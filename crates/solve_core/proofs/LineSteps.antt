@@ -1,5 +1,5 @@
 -- Writing a line into a grid: which cells change, and what becomes of the closure.
-use Rattle.solve_core.proofs.Names.{◌≡◌, ◌≢◌, ℕ, zero, suc, ◌+◌, ◌*◌, ◌<◌, true, List, [], ◌∷◌, length, get_or, set, Option, Some, None, option_map, refl, sym, ap, ◌∙◌, ext_get_or, inl, inr, arith, length-set, get_or-set_same, replicate, AllByRecursion, Cell, Unknown, CellExtends, Extends, is_known, GridLine, places_from, cells_at, deduced, length-places_from, get_or-places_from, length-cells_at, get_or-cells_at, with_cells, deduce_line, round, closure, IsDeduced, IsWritten, unknown_count, AtMost, Extends-refl, Extends-trans, Extends-antisym, length-Extends, deduced-above, deduced-settled, IsLeastClosed, rules}
+use Rattle.solve_core.proofs.Names.{◌≡◌, ◌≢◌, ℕ, zero, suc, ◌+◌, ◌*◌, ◌<◌, true, List, [], ◌∷◌, length, get_or, set, Option, Some, None, option_map, refl, sym, ap, ◌∙◌, ext_get_or, inl, inr, arith, length-set, get_or-set_same, replicate, AllByRecursion, Cell, Unknown, CellExtends, Extends, is_known, GridLine, strided_indices, cells_at, deduced, length-strided_indices, get_or-strided_indices, length-cells_at, get_or-cells_at, with_cells, deduce_line, round, closure, IsDeduced, IsWritten, unknown_count, AtMost, Extends-refl, Extends-trans, Extends-antisym, length-Extends, deduced-above, deduced-idempotent, IsLeastClosed, rules}
 use Rattle.solve_core.proofs.Changes.{is_among}
 use Rattle.solve_core.proofs.Closing.{fewer_unknown}
 use Rattle.solve_core.proofs.ClosureLaws.{IsLeastClosed-unique, closure-IsLeastClosed, length-with_cells, with_cells-monotone, with_cells-read}
@@ -14,9 +14,9 @@ set_elsewhere (x ∷ g) (suc p) c zero h = refl
 set_elsewhere (x ∷ g) (suc p) c (suc k) h = set_elsewhere g p c k (λ e. h (ap suc e))
 
 -- cell `k` keeps its value if nothing else is written at its index
-pub get_or-with_cells : (g : List Cell) (places : List ℕ) (d : List Cell) (k : ℕ)
-    → ((i : ℕ) → i < length places → get_or places i 0 ≡ k → get_or d i Unknown ≡ get_or g k Unknown) →
-    get_or (with_cells g places d) k Unknown ≡ get_or g k Unknown
+pub get_or-with_cells : (g : List Cell) (indices : List ℕ) (d : List Cell) (k : ℕ)
+    → ((i : ℕ) → i < length indices → get_or indices i 0 ≡ k → get_or d i Unknown ≡ get_or g k Unknown) →
+    get_or (with_cells g indices d) k Unknown ≡ get_or g k Unknown
 get_or-with_cells g [] d k h = refl
 get_or-with_cells g (p ∷ ps) [] k h = refl
 get_or-with_cells g (p ∷ ps) (c ∷ d) k h =
@@ -36,37 +36,37 @@ AreDistinct (p ∷ ps) = ((i : ℕ) → i < length ps → get_or ps i 0 ≢ p) �
 
 -- each index is below `n`
 abbrev pub AreBelow : ℕ → List ℕ → Type 0
-AreBelow n places = AllByRecursion (λ k. k < n) places
+AreBelow n indices = AllByRecursion (λ k. k < n) indices
 
 -- the cells that were written at `places` are read there
-pub cells_at-with_cells : (g : List Cell) (places : List ℕ) (d : List Cell) → AreDistinct places → AreBelow (length g) places →
-    length d ≡ length places → cells_at Unknown (with_cells g places d) places ≡ d
+pub cells_at-with_cells : (g : List Cell) (indices : List ℕ) (d : List Cell) → AreDistinct indices → AreBelow (length g) indices →
+    length d ≡ length indices → cells_at Unknown (with_cells g indices d) indices ≡ d
 cells_at-with_cells g [] [] a b e = refl
 cells_at-with_cells g (p ∷ ps) (c ∷ d) a b e =
     search (rules, get_or-with_cells, get_or-set_same, length-set, (cells_at-with_cells (set g p c) ps d a.1 (rw length-set b.1)))
 cells_at-with_cells g _ _ a b e = absurd (omega arith)
 
 -- a grid that differs from `z` only at `places` becomes `z` when the cells of `z` are written there
-pub with_cells-same : (g z : List Cell) (places : List ℕ) → AreDistinct places → AreBelow (length g) places → length z ≡ length g →
-    ((p : ℕ) → ((k : ℕ) → k < length places → get_or places k 0 ≢ p) → get_or g p Unknown ≡ get_or z p Unknown) →
-    with_cells g places (cells_at Unknown z places) ≡ z
-with_cells-same g z places a b e others =
-    let line = cells_at Unknown z places in
-    let now = with_cells g places line in
-    let read = cells_at-with_cells g places line a b (length-cells_at Unknown z places) in
-    ext_get_or Unknown now z (length-with_cells g places line ∙ sym e) (λ p l. elim (is_among places p) [
-      | inl there ↦ rw (← there.2) (sym (get_or-cells_at Unknown now places there.0 there.1) ∙
-          ap (λ (r : List Cell). get_or r there.0 Unknown) read ∙ get_or-cells_at Unknown z places there.0 there.1)
-      | inr none ↦ get_or-with_cells g places line p (λ k h s. absurd (none k h s)) ∙ others p none
+pub with_cells-same : (g z : List Cell) (indices : List ℕ) → AreDistinct indices → AreBelow (length g) indices → length z ≡ length g →
+    ((p : ℕ) → ((k : ℕ) → k < length indices → get_or indices k 0 ≢ p) → get_or g p Unknown ≡ get_or z p Unknown) →
+    with_cells g indices (cells_at Unknown z indices) ≡ z
+with_cells-same g z indices a b e others =
+    let line = cells_at Unknown z indices in
+    let now = with_cells g indices line in
+    let read = cells_at-with_cells g indices line a b (length-cells_at Unknown z indices) in
+    ext_get_or Unknown now z (length-with_cells g indices line ∙ sym e) (λ p l. elim (is_among indices p) [
+      | inl there ↦ rw (← there.2) (sym (get_or-cells_at Unknown now indices there.0 there.1) ∙
+          ap (λ (r : List Cell). get_or r there.0 Unknown) read ∙ get_or-cells_at Unknown z indices there.0 there.1)
+      | inr none ↦ get_or-with_cells g indices line p (λ k h s. absurd (none k h s)) ∙ others p none
     ])
 
 -- indices that are `step` apart are distinct, if `step` is positive
-pub distinct_from : (first step n : ℕ) → 0 < step → AreDistinct (places_from first step n)
+pub distinct_from : (first step n : ℕ) → 0 < step → AreDistinct (strided_indices first step n)
 distinct_from first step zero h = tt
-distinct_from first step (suc n) h = search (rules, length-places_from, get_or-places_from, (distinct_from (first + step) step n h))
+distinct_from first step (suc n) h = search (rules, length-strided_indices, get_or-strided_indices, (distinct_from (first + step) step n h))
 
 -- indices that are `step` apart are below `size`, if each of them is
-pub below_from : (first step n size : ℕ) → ((i : ℕ) → i < n → first + i * step < size) → AreBelow size (places_from first step n)
+pub below_from : (first step n size : ℕ) → ((i : ℕ) → i < n → first + i * step < size) → AreBelow size (strided_indices first step n)
 below_from first step zero size h = tt
 below_from first step (suc n) size h = (
   (let start = h 0 (omega arith) in omega (arith, start)),
@@ -74,9 +74,9 @@ below_from first step (suc n) size h = (
 )
 
 -- two grids with the same cells at `places` are read alike there
-pub cells_at-same : (a b : List Cell) (places : List ℕ) →
-    ((i : ℕ) → i < length places → get_or a (get_or places i 0) Unknown ≡ get_or b (get_or places i 0) Unknown) →
-    cells_at Unknown a places ≡ cells_at Unknown b places
+pub cells_at-same : (a b : List Cell) (indices : List ℕ) →
+    ((i : ℕ) → i < length indices → get_or a (get_or indices i 0) Unknown ≡ get_or b (get_or indices i 0) Unknown) →
+    cells_at Unknown a indices ≡ cells_at Unknown b indices
 cells_at-same a b [] h = refl
 cells_at-same a b (p ∷ ps) h =
     let first : get_or a p Unknown ≡ get_or b p Unknown = h 0 (omega arith) in
@@ -84,49 +84,49 @@ cells_at-same a b (p ∷ ps) h =
     λ i. first i ∷ rest i
 
 -- a cell that is written at one of `places` is read there
-pub cells_at-set : (g : List Cell) (places : List ℕ) (b : ℕ) (c : Cell) → AreDistinct places → AreBelow (length g) places
-    → b < length places →
-    cells_at Unknown (set g (get_or places b 0) c) places ≡ set (cells_at Unknown g places) b c
+pub cells_at-set : (g : List Cell) (indices : List ℕ) (b : ℕ) (c : Cell) → AreDistinct indices → AreBelow (length g) indices
+    → b < length indices →
+    cells_at Unknown (set g (get_or indices b 0) c) indices ≡ set (cells_at Unknown g indices) b c
 cells_at-set g [] b c distinct below l = absurd (omega arith)
 cells_at-set g (p ∷ ps) zero c distinct below l = search (rules, get_or-set_same, cells_at-same, set_elsewhere)
 cells_at-set g (p ∷ ps) (suc b) c distinct below l = search (rules, set_elsewhere, (cells_at-set g ps b c distinct.1 below.1 (omega arith)))
 
 -- a line that deduces just its own cells leaves the grid unchanged
 pub settled_line : (g : List Cell) (line : GridLine) → IsDeduced g line → deduce_line g line ≡ Some g
-settled_line g line h = ap (option_map (with_cells g line.places)) h
-    ∙ ap (λ (r : List Cell). Some r) (with_cells-read Unknown g line.places)
+settled_line g line h = ap (option_map (with_cells g line.indices)) h
+    ∙ ap (λ (r : List Cell). Some r) (with_cells-read Unknown g line.indices)
 
 -- `new` is the grid `g` with a deduced line written into it
 module _ (line : GridLine) (g new : List Cell) (w : IsWritten line g new) where
-  above : Extends (cells_at Unknown g line.places) w.certain
-  above = rw w.is_certain at (deduced-above (cells_at Unknown g line.places) line.clue)
+  above : Extends (cells_at Unknown g line.indices) w.certain
+  above = rw w.is_certain at (deduced-above (cells_at Unknown g line.indices) line.clue)
 
   -- deducing the line yields the new grid
   pub written_line : deduce_line g line ≡ Some new
-  written_line = ap (option_map (with_cells g line.places)) w.is_certain ∙ ap (λ (r : List Cell). Some r) (sym w.written)
+  written_line = ap (option_map (with_cells g line.indices)) w.is_certain ∙ ap (λ (r : List Cell). Some r) (sym w.written)
 
   -- the new grid extends the old one
   pub written-extends : Extends g new
-  written-extends = rw w.written (rw (with_cells-read Unknown g line.places) at
-      (with_cells-monotone g g line.places (cells_at Unknown g line.places) w.certain (Extends-refl g) above))
+  written-extends = rw w.written (rw (with_cells-read Unknown g line.indices) at
+      (with_cells-monotone g g line.indices (cells_at Unknown g line.indices) w.certain (Extends-refl g) above))
 
-  module _ (a : AreDistinct line.places) (b : AreBelow (length g) line.places) where
+  module _ (a : AreDistinct line.indices) (b : AreBelow (length g) line.indices) where
     -- the line of the new grid has the deduced cells
-    pub written-read : cells_at Unknown new line.places ≡ w.certain
+    pub written-read : cells_at Unknown new line.indices ≡ w.certain
     written-read = search (rules, cells_at-with_cells, length-Extends, above, length-cells_at)
 
     -- the line of the new grid deduces just its own cells
     pub written-settled : IsDeduced new line
-    written-settled = rw written-read (deduced-settled (cells_at Unknown g line.places) w.certain line.clue w.is_certain)
+    written-settled = rw written-read (deduced-idempotent (cells_at Unknown g line.indices) w.certain line.clue w.is_certain)
 
     -- a cell keeps its value if it isn't on the line, or if the line doesn't change it
     pub written-elsewhere : (k : ℕ) →
-        ((i : ℕ) → i < length line.places → get_or line.places i 0 ≡ k → get_or new k Unknown ≡ get_or g k Unknown) →
+        ((i : ℕ) → i < length line.indices → get_or line.indices i 0 ≡ k → get_or new k Unknown ≡ get_or g k Unknown) →
         get_or new k Unknown ≡ get_or g k Unknown
     written-elsewhere k h = search (rules, get_or-with_cells, written-read, get_or-cells_at)
 
   -- if the deduced line differs from the old one, fewer cells are unknown
-  pub written-fewer : w.certain ≢ cells_at Unknown g line.places → AreDistinct line.places → AreBelow (length g) line.places →
+  pub written-fewer : w.certain ≢ cells_at Unknown g line.indices → AreDistinct line.indices → AreBelow (length g) line.indices →
       unknown_count new < unknown_count g
   written-fewer n a b = search (rules, fewer_unknown, written-extends, written-read)
 
@@ -146,34 +146,34 @@ line_keeps lines g new line m h e =
 
 -- if one of the lines is dead, so is the closure
 pub line_dead : (lines : List GridLine) (g : List Cell) (line : GridLine) → IsOneOf line lines →
-    deduced (cells_at Unknown g line.places) line.clue ≡ None → closure lines g ≡ None
+    deduced (cells_at Unknown g line.indices) line.clue ≡ None → closure lines g ≡ None
 line_dead lines g line m e = search (rules, step_within, closure-IsLeastClosed, option_map)
 
 -- a cell that changed to one that extends it was unknown and is known now
-pub learned_cell : (old new : Cell) → CellExtends old new → new ≢ old → (old ≡ Unknown) × (is_known new ≡ true)
-learned_cell old new h k = search rules
+pub assigned_cell : (old new : Cell) → CellExtends old new → new ≢ old → (old ≡ Unknown) × (is_known new ≡ true)
+assigned_cell old new h k = search rules
 
 -- writing a cell that isn't on a line doesn't change the line
 pub kept-elsewhere : (g : List Cell) (k : ℕ) (c : Cell) (line : GridLine)
-    → ((b : ℕ) → b < length line.places → k ≢ get_or line.places b 0) →
-    cells_at Unknown (set g k c) line.places ≡ cells_at Unknown g line.places
+    → ((b : ℕ) → b < length line.indices → k ≢ get_or line.indices b 0) →
+    cells_at Unknown (set g k c) line.indices ≡ cells_at Unknown g line.indices
 kept-elsewhere g k c line apart = search (rules, cells_at-same, set_elsewhere)
 
 -- each line of a line-closed grid deduces just its own cells
 pub closed_settled : (lines : List GridLine) (g : List Cell) (line : GridLine) → round lines g ≡ Some g → IsOneOf line lines →
-    AreDistinct line.places → AreBelow (length g) line.places → IsDeduced g line
-closed_settled lines g line e m distinct within = to (deduced (cells_at Unknown g line.places) line.clue)
-    (deduced-above (cells_at Unknown g line.places) line.clue) (closed_line lines g line e m)
+    AreDistinct line.indices → AreBelow (length g) line.indices → IsDeduced g line
+closed_settled lines g line e m distinct within = to (deduced (cells_at Unknown g line.indices) line.clue)
+    (deduced-above (cells_at Unknown g line.indices) line.clue) (closed_line lines g line e m)
   where
-    to : (o : Option (List Cell)) → AtMost (Some (cells_at Unknown g line.places)) o →
-        AtMost (option_map (with_cells g line.places) o) (Some g) → o ≡ Some (cells_at Unknown g line.places)
+    to : (o : Option (List Cell)) → AtMost (Some (cells_at Unknown g line.indices)) o →
+        AtMost (option_map (with_cells g line.indices) o) (Some g) → o ≡ Some (cells_at Unknown g line.indices)
     to None above below = absurd below
     to (Some d) above below =
-        let old = with_cells-monotone g g line.places (cells_at Unknown g line.places) d (Extends-refl g) above in
-        let up : Extends g (with_cells g line.places d) = rw (with_cells-read Unknown g line.places) at old in
-        let same : with_cells g line.places d ≡ g = Extends-antisym (with_cells g line.places d) g below up in
-        let long : length d ≡ length line.places = sym (length-Extends (cells_at Unknown g line.places) d above) ∙
-        length-cells_at Unknown g line.places in
-        let read : cells_at Unknown (with_cells g line.places d) line.places ≡ d =
-        cells_at-with_cells g line.places d distinct within long in
-        ap (λ (r : List Cell). Some r) (sym read ∙ ap (λ (r : List Cell). cells_at Unknown r line.places) same)
+        let old = with_cells-monotone g g line.indices (cells_at Unknown g line.indices) d (Extends-refl g) above in
+        let up : Extends g (with_cells g line.indices d) = rw (with_cells-read Unknown g line.indices) at old in
+        let same : with_cells g line.indices d ≡ g = Extends-antisym (with_cells g line.indices d) g below up in
+        let long : length d ≡ length line.indices = sym (length-Extends (cells_at Unknown g line.indices) d above) ∙
+        length-cells_at Unknown g line.indices in
+        let read : cells_at Unknown (with_cells g line.indices d) line.indices ≡ d =
+        cells_at-with_cells g line.indices d distinct within long in
+        ap (λ (r : List Cell). Some r) (sym read ∙ ap (λ (r : List Cell). cells_at Unknown r line.indices) same)

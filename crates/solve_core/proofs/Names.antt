@@ -11,47 +11,47 @@ pub use Rattle.std.proofs.lemmas.Nat.{div-mul-add, div_below, mod-mul-add}
 pub use Rattle.std.proofs.lemmas.Nat.Bits.{bit_at-lt, bit_at-suc, bit_at-zero, bit_at_and, bit_at_lowest}
 pub use Rattle.std.specs.Int.{bit_at}
 pub use Rattle.std.specs.List.{All, AllByRecursion, list_all, position_or_len, range_with_len}
-pub use Rattle.place_sets.proofs.Doubling.{one_within, width_most}
-pub use Rattle.place_sets.specs.Masks.{Has, IsMarked, IsMaskOf, IsShifted, has}
+pub use Rattle.bit_sets.proofs.Doubling.{one_within, width_most}
+pub use Rattle.bit_sets.specs.Masks.{Has, IsWithBit, IsMaskOf, IsShifted, has}
 pub use Rattle.grid_core.proofs.Changing.{same_cells, same_without_change}
-pub use Rattle.grid_core.proofs.LineLaws.{all_lines, each_line, get_or-cells_at, get_or-places_from, get_or-places_on, length-cells_at, length-places_from, length-places_on, place-within}
+pub use Rattle.grid_core.proofs.LineLaws.{all_lines, each_line, get_or-cells_at, get_or-strided_indices, get_or-line_indices, length-cells_at, length-strided_indices, length-line_indices, index-within}
 pub use Rattle.grid_core.proofs.RowLists.{get_or-row_of, get_or-rows, length-row_of, length-rows}
 pub use Rattle.grid_core.specs.Cells.{CellExtends, Extends, colour, is_filled, is_known, is_unknown}
-pub use Rattle.grid_core.specs.Lines.{IsChanged, IsUnknownCell, IsUnknownFrom, unlearned}
-pub use Rattle.grid_core.specs.Nonogram.{GridLine, IsNonogram, Nonogram, Solves, cells_at, clues_on, crossing, line_on, lines_of, places_from, places_on}
+pub use Rattle.grid_core.specs.Lines.{IsChanged, IsUnknownCell, IsUnknownFrom, with_unknown_at}
+pub use Rattle.grid_core.specs.Nonogram.{GridLine, IsNonogram, Nonogram, Solves, cells_at, clues_on, crossing, line_on, lines_of, strided_indices, line_indices}
 pub use Rattle.grid_core.specs.PartialGrid.{IsSize, PartialGrid}
 pub use Rattle.grid_core.specs.Rows.{cells_of_rows, row_of}
 pub use Rattle.grid_core.specs.Runs.{runs}
 pub use Rattle.grid_core.specs.declared.cells.Cell.{Cell}
 pub use Rattle.grid_core.specs.declared.cells.Cell.TheVariants.{Blank, Filled, Unknown}
-pub use Rattle.grid_core.specs.declared.limits.TheConstants.{LONGEST_SIDE, MOST_RUNS}
-pub use Rattle.grid_core.specs.declared.sides.Side.{Side}
-pub use Rattle.grid_core.specs.declared.sides.Side.TheVariants.{Columns, Rows}
-pub use Rattle.grid_core.specs.steps.Sides.{column_on, count_on, place_on, row_on}
-pub use Rattle.line_core.proofs.DeductionLaws.{AtMost-trans, Extends-antisym, Extends-at, Extends-from_places, Extends-refl, Extends-trans, deduced-above, deduced-below, deduced-full, deduced-monotone, deduced-settled, get_or-map_colour, length-Extends, length-deduced}
+pub use Rattle.grid_core.specs.declared.limits.TheConstants.{MAX_SIDE, MAX_RUNS}
+pub use Rattle.grid_core.specs.declared.axes.Axis.{Axis}
+pub use Rattle.grid_core.specs.declared.axes.Axis.TheVariants.{Columns, Rows}
+pub use Rattle.grid_core.specs.steps.Axes.{column_on, line_count, cell_index_on, row_on}
+pub use Rattle.line_core.proofs.DeductionLaws.{AtMost-trans, Extends-antisym, Extends-at, Extends-from_places, Extends-refl, Extends-trans, deduced-above, deduced-below, deduced-full, deduced-monotone, deduced-idempotent, get_or-map_colour, length-Extends, length-deduced}
 pub use Rattle.line_core.specs.Deduction.{deduced}
 pub use Rattle.line_core.specs.Order.{AtMost}
 pub use Rattle.solve_core.specs.Closure.{closure, deduce_line, join, join_all, join_cells, option_cons, repeat, round, with_cells}
 pub use Rattle.solve_core.specs.LeastClosed.{IsLeastClosed}
-pub use Rattle.solve_core.specs.Picks.{better, first_most, is_above_sure, is_below_sure, is_left_sure, is_right_sure, is_sure, most_known, picked, sure_neighbours}
+pub use Rattle.solve_core.specs.Picks.{better, first_most, is_above_known, is_below_known, is_left_known, is_right_known, is_known_or_outside, most_known, picked, known_neighbours}
 pub use Rattle.solve_core.specs.Report.{events_from, grade_by, grid_of, guesses_in, guesses_of, is_decided, known_in, limited_search, line_closure, report_of, search_of, solutions_in, through_solution, trial_closure, unknown_grid, verdict_by, verdict_of, whole_search, within_guesses}
 pub use Rattle.solve_core.specs.Search.{Event, Guess, IsPick, Solution, events, events_within, first_unknown, guess_at, search_from}
-pub use Rattle.solve_core.specs.Trials.{IsTried, all_present, is_refuted, left_over, trial_round, trials, tried}
+pub use Rattle.solve_core.specs.Trials.{HasNoRefutedColour, all_present, is_refuted, left_over, trial_round, trials, after_trials_of}
 pub use Rattle.solve_core.specs.Verdicts.{Holds, IsFinal}
 pub use Rattle.solve_core.specs.declared.branches.Branch.{Branch}
-pub use Rattle.solve_core.specs.declared.closures.Progress.TheVariants.{Changed, Dead, Same}
+pub use Rattle.solve_core.specs.declared.propagation.Effect.TheVariants.{Changed, Dead, Unchanged}
 pub use Rattle.solve_core.specs.declared.findings.Findings.{Findings}
-pub use Rattle.solve_core.specs.steps.Boards.{BoardSpace, IsBoard, IsBoardOf, board_of, cells_along}
-pub use Rattle.solve_core.specs.steps.Branches.{AreBefore, AreInOrder, AreKnownBefore, AreOlder, IsBranch, IsClosed, IsNext, IsOpen, IsWork, cells_before, open_events, pending, ready_events}
-pub use Rattle.solve_core.specs.steps.Closers.{AreFresh, Closing, IsIdle, IsMemoryOf}
+pub use Rattle.solve_core.specs.steps.Boards.{BufferCapacities, IsBoard, IsBoardOf, board_of, cells_along}
+pub use Rattle.solve_core.specs.steps.Branches.{AreBefore, AreInOrder, AreKnownBefore, AreOlder, IsBranch, IsClosed, IsNext, IsNextCell, AreBranchesOf, cells_before, events_from_cell, pending, events_from_guess}
+pub use Rattle.solve_core.specs.steps.Propagation.{AreFresh, PropagatorState, HasNoDirtyLine, HasCorrectCache}
 pub use Rattle.solve_core.specs.steps.ColourMasks.{ColourMasks, mask_if, mask_of, no_colours}
-pub use Rattle.solve_core.specs.steps.Counts.{AreCounts, IsKnownCell, IsMostInRow, row_score, told_by, two_of}
+pub use Rattle.solve_core.specs.steps.Counts.{AreCounts, IsKnownCell, IsMostInRow, row_score, set_count, two_of}
 pub use Rattle.solve_core.specs.steps.Endings.{Ending, ending}
 pub use Rattle.solve_core.specs.steps.GridLines.{AreLinesOf}
 pub use Rattle.solve_core.specs.steps.Guesses.{IsUnderWay, owed, owed_by}
-pub use Rattle.solve_core.specs.steps.Learning.{CanLearn, CanWriteIn, IsIn}
-pub use Rattle.solve_core.specs.steps.LineMarks.{AreMarksWithin, AreUnmarked, IsMarkedOn, IsUnmarkedOn, LineMarks, marks_on}
-pub use Rattle.solve_core.specs.steps.Marks.{HasMarks, HasWork, IsAtRest, IsDeduced, IsLearned, IsWritten, MarksAfter, MarksChanges, Progresses}
-pub use Rattle.solve_core.specs.steps.Openings.{AreBothNoted, AreOpenings}
-pub use Rattle.solve_core.specs.steps.Trails.{IsStepOf, IsTrailed, LineStep, TrailStep, TrailedGrid, cleared, step_on, unknown_count, without}
-pub use Rattle.solve_core.specs.steps.Tried.{HasRoomFor, IsReady, Tried}
+pub use Rattle.solve_core.specs.steps.CrossingWrites.{CanAssignAcross, CanWriteIn, IsIn}
+pub use Rattle.solve_core.specs.steps.LineMasks.{IsMaskWithin, IsEmptyMask, IsInMask, IsEmptyOn, LineMasks, mask_on}
+pub use Rattle.solve_core.specs.steps.Worklist.{IsWorklist, CanPropagate, IsAtFixpoint, IsDeduced, IsPropagated, IsWritten, WorklistAfter, AddsToWorklist, StepsTowards}
+pub use Rattle.solve_core.specs.steps.ConsistentColours.{AreBothRecorded, AreConsistent}
+pub use Rattle.solve_core.specs.steps.Trails.{IsEntryOf, IsTrailed, LineEntry, CellEntry, TrailedGrid, undone, entry_on, unknown_count, undo_entry}
+pub use Rattle.solve_core.specs.steps.TrialState.{HasRoomFor, IsReadyForTrial, TrialState}

@@ -1,5 +1,5 @@
 -- The rules for the next guess are lawful, and what the rule of most known neighbours picks.
-use Rattle.solve_core.proofs.Names.{◌≡◌, ℕ, zero, suc, ◌<◌, ◌≤◌, Bool, true, false, List, length, get_or, Option, Some, None, ap, arith, true≢false, cases_eq, cases_lt, le-ltb, lt-ltb, Cell, Unknown, is_unknown, first_most, most_known, picked, sure_neighbours, IsPick, rules}
+use Rattle.solve_core.proofs.Names.{◌≡◌, ℕ, zero, suc, ◌<◌, ◌≤◌, Bool, true, false, List, length, get_or, Option, Some, None, ap, arith, true≢false, cases_eq, cases_lt, le-ltb, lt-ltb, Cell, Unknown, is_unknown, first_most, most_known, picked, known_neighbours, IsPick, rules}
 use Rattle.solve_core.specs.declared.picks.Pick.{Pick}
 use Rattle.solve_core.specs.declared.picks.Pick.TheVariants.{First, Most}
 use Rattle.solve_core.specs.MostKnown.{IsMostKnown}
@@ -20,7 +20,7 @@ first_most-is score passes zero = λ j l. absurd (omega arith)
 first_most-is score passes (suc n) = search (rules, cases_eq, true≢false, cases_lt, lt-ltb, le-ltb, (first_most-is score passes n))
 
 picked-most : (width : ℕ) (grid : List Cell) (best : Option ℕ) → most_known width grid ≡ best
-    → IsFirstMost (sure_neighbours width grid) (λ j. is_unknown (get_or grid j Unknown)) (length grid) best
+    → IsFirstMost (known_neighbours width grid) (λ j. is_unknown (get_or grid j Unknown)) (length grid) best
 picked-most width grid best e = search (rules, first_most-is)
 
 -- the cell that the rule of most known neighbours picks has the properties that `IsMostKnown` states

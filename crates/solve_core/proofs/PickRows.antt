@@ -1,7 +1,7 @@
 -- Finding the cell of the next guess row by row.
-use Rattle.solve_core.proofs.Names.{◌≡◌, ℕ, zero, suc, ◌+◌, ◌-◌, ◌*◌, ◌<◌, ◌≤◌, Bool, true, nat_eq, nat_lt, nat_le, inl, inr, List, [], length, get_or, Option, Some, None, refl, sym, ap, ◌∙◌, arith, true≢false, add-one, add-zero, cases_Bool, cases_eq, cases_lt, eq-eqb, ne_eqb, eqb-false, lt-ltb, le-ltb, le-leb, lt-leb, mod-mul-add, Cell, Unknown, is_unknown, IsMostInRow, row_score, two_of, is_sure, AreLinesOf, cells_of_rows, first_most, is_left_sure, is_right_sure, is_above_sure, is_below_sure, sure_neighbours, rules}
+use Rattle.solve_core.proofs.Names.{◌≡◌, ℕ, zero, suc, ◌+◌, ◌-◌, ◌*◌, ◌<◌, ◌≤◌, Bool, true, nat_eq, nat_lt, nat_le, inl, inr, List, [], length, get_or, Option, Some, None, refl, sym, ap, ◌∙◌, arith, true≢false, add-one, add-zero, cases_Bool, cases_eq, cases_lt, eq-eqb, ne_eqb, eqb-false, lt-ltb, le-ltb, le-leb, lt-leb, mod-mul-add, Cell, Unknown, is_unknown, IsMostInRow, row_score, two_of, is_known_or_outside, AreLinesOf, cells_of_rows, first_most, is_left_known, is_right_known, is_above_known, is_below_known, known_neighbours, rules}
 use Rattle.solve_core.proofs.GridLineSteps.{cell-read, lines-long}
-use Rattle.solve_core.proofs.SideLines.{row_within}
+use Rattle.solve_core.proofs.AxisLines.{row_within}
 use Rattle.solve_core.proofs.SearchLaws.{unknown_is}
 
 bottom_is : (w h y x : ℕ) → y < h → x < w → nat_eq (y + 1) h ≡ nat_le (w * h) (y * w + x + w)
@@ -13,9 +13,9 @@ bottom_is w h y x ly lx = elim (cases_eq (y + 1) h) [
 
 -- the score of a cell in its row is its number of known neighbours in the grid
 pub score-is : (rows columns : List (List Cell)) (y x : ℕ) (above below : ℕ → Bool) → AreLinesOf (cells_of_rows rows) rows columns →
-    y < length rows → x < length columns → above x ≡ is_sure (nat_eq y 0) (get_or (get_or rows (y - 1) []) x Unknown) →
-    below x ≡ is_sure (nat_eq (y + 1) (length rows)) (get_or (get_or rows (y + 1) []) x Unknown) →
-    row_score (get_or rows y []) above below x ≡ sure_neighbours (length columns) (cells_of_rows rows) (y * length columns + x)
+    y < length rows → x < length columns → above x ≡ is_known_or_outside (nat_eq y 0) (get_or (get_or rows (y - 1) []) x Unknown) →
+    below x ≡ is_known_or_outside (nat_eq (y + 1) (length rows)) (get_or (get_or rows (y + 1) []) x Unknown) →
+    row_score (get_or rows y []) above below x ≡ known_neighbours (length columns) (cells_of_rows rows) (y * length columns + x)
 score-is rows columns y x above below a ly lx up down =
     (λ i. two_of (left i) (right i) + two_of ((up ∙ over) i) ((down ∙ under) i)) ∙ omega arith
   where
@@ -29,18 +29,20 @@ score-is rows columns y x above below a ly lx up down =
         get_or (get_or rows v []) z Unknown ≡ get_or (cells_of_rows rows) q Unknown
     there z v q lz lv e = rw e at ((cell-read rows columns z v a lz lv).0)
 
-    left : is_sure (nat_eq x 0) (get_or (get_or rows y []) (x - 1) Unknown) ≡ is_left_sure (length columns) (cells_of_rows rows) k
+    left : is_known_or_outside (nat_eq x 0) (get_or (get_or rows y []) (x - 1) Unknown)
+        ≡ is_left_known (length columns) (cells_of_rows rows) k
     left = search (rules, nat_eq, k, mod-mul-add, eqb-false, there)
 
-    right : is_sure (nat_eq (x + 1) (length (get_or rows y []))) (get_or (get_or rows y []) (x + 1) Unknown)
-        ≡ is_right_sure (length columns) (cells_of_rows rows) k
+    right : is_known_or_outside (nat_eq (x + 1) (length (get_or rows y []))) (get_or (get_or rows y []) (x + 1) Unknown)
+        ≡ is_right_known (length columns) (cells_of_rows rows) k
     right = search (rules, nat_eq, k, mod-mul-add, long, eqb-false, there)
 
-    over : is_sure (nat_eq y 0) (get_or (get_or rows (y - 1) []) x Unknown) ≡ is_above_sure (length columns) (cells_of_rows rows) k
+    over : is_known_or_outside (nat_eq y 0) (get_or (get_or rows (y - 1) []) x Unknown)
+        ≡ is_above_known (length columns) (cells_of_rows rows) k
     over = search (rules, nat_eq, nat_lt, k, lt-ltb, ne_eqb, le-ltb, there, eqb-false)
 
-    under : is_sure (nat_eq (y + 1) (length rows)) (get_or (get_or rows (y + 1) []) x Unknown)
-        ≡ is_below_sure (length columns) (cells_of_rows rows) k
+    under : is_known_or_outside (nat_eq (y + 1) (length rows)) (get_or (get_or rows (y + 1) []) x Unknown)
+        ≡ is_below_known (length columns) (cells_of_rows rows) k
     under = search (rules, nat_eq, nat_le, k, bottom_is, eqb-false, there)
 
 -- the least score by which a later index is better than the best one
@@ -112,13 +114,14 @@ module _ (score : ℕ → ℕ) (passes : ℕ → Bool) where
 pub row-step : (rows columns : List (List Cell)) (y width : ℕ) (cells row : List Cell) (above below : ℕ → Bool) (best : Option ℕ)
     (least : ℕ) (found : Option (ℕ × ℕ)) → AreLinesOf (cells_of_rows rows) rows columns → y < length rows → width ≡ length columns →
     cells_of_rows rows ≡ cells → row ≡ get_or rows y [] →
-    ((x : ℕ) → x < length columns → above x ≡ is_sure (nat_eq y 0) (get_or (get_or rows (y - 1) []) x Unknown)) →
-    ((x : ℕ) → x < length columns → below x ≡ is_sure (nat_eq (y + 1) (length rows)) (get_or (get_or rows (y + 1) []) x Unknown)) →
-    best ≡ first_most (sure_neighbours width cells) (λ k. is_unknown (get_or cells k Unknown)) (y * width) →
-    least ≡ least_after (sure_neighbours width cells) best → IsMostInRow row above below least found →
-    (best_after (y * width) best found ≡ first_most (sure_neighbours width cells) (λ k. is_unknown (get_or cells k Unknown))
+    ((x : ℕ) → x < length columns → above x ≡ is_known_or_outside (nat_eq y 0) (get_or (get_or rows (y - 1) []) x Unknown)) →
+    ((x : ℕ) → x < length columns
+    → below x ≡ is_known_or_outside (nat_eq (y + 1) (length rows)) (get_or (get_or rows (y + 1) []) x Unknown)) →
+    best ≡ first_most (known_neighbours width cells) (λ k. is_unknown (get_or cells k Unknown)) (y * width) →
+    least ≡ least_after (known_neighbours width cells) best → IsMostInRow row above below least found →
+    (best_after (y * width) best found ≡ first_most (known_neighbours width cells) (λ k. is_unknown (get_or cells k Unknown))
     ((y + 1) * width))
-    × (least_then least found ≡ least_after (sure_neighbours width cells) (best_after (y * width) best found))
+    × (least_then least found ≡ least_after (known_neighbours width cells) (best_after (y * width) best found))
 row-step rows columns y width cells row above below best least found a ly wide seen is up down first l m =
     let w = length columns in
     let grid = cells_of_rows rows in
@@ -126,7 +129,7 @@ row-step rows columns y width cells row above below best least found a ly wide s
     let next : y * w + w ≡ (y + 1) * w = omega arith in
     let here = λ (x : ℕ) (h : x < length (get_or rows y [])). rw long at h in
     rw (wide, ← seen)
-    (rw (long, next) at (row-next (sure_neighbours w grid) (λ k. is_unknown (get_or grid k Unknown)) (y * w) (get_or rows y []) above below
+    (rw (long, next) at (row-next (known_neighbours w grid) (λ k. is_unknown (get_or grid k Unknown)) (y * w) (get_or rows y []) above below
     best least found (λ x h. score-is rows columns y x above below a ly (here x h) (up x (here x h)) (down x (here x h)))
     (λ x h. ap is_unknown (cell-read rows columns x y a (here x h) ly).0) (rw (wide, ← seen) at first) (rw (wide, ← seen) at l)
     (rw is at m)))

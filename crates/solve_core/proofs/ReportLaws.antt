@@ -44,10 +44,10 @@ pub report-is : (pick : List Cell → Option ℕ) (p : Nonogram) (limit : ℕ) �
 report-is pick p limit = rw (ending-none p 0 limit (whole_search pick p), zero-add (guesses_of pick p limit)) refl
 
 -- the report computed from the closure of the unknown grid, and from trials of that, is the defined report
-pub report-told : (pick : List Cell → Option ℕ) (p : Nonogram) (limit : ℕ) (start : List Cell) (closed tried : Option (List Cell)) →
+pub report-of : (pick : List Cell → Option ℕ) (p : Nonogram) (limit : ℕ) (start : List Cell) (closed tried : Option (List Cell)) →
     start ≡ unknown_grid p → closed ≡ closure (lines_of p) start → tried ≡ option_and_then (trials (lines_of p)) closed →
     report_by pick p limit closed tried ≡ report_of pick p limit
-report-told pick p limit start closed tried s c t =
+report-of pick p limit start closed tried s c t =
     let lines : closed ≡ line_closure p = c ∙ ap (closure (lines_of p)) s in
     (λ i. report_by pick p limit (lines i) ((t ∙ ap (option_and_then (trials (lines_of p))) lines) i)) ∙ report-is pick p limit
 
@@ -91,6 +91,6 @@ ending-guess p found spent limit es l h = search (rules, add-one)
 pub ending-next : (p : Nonogram) (found more : List PartialGrid) (spent limit : ℕ) (whole : Ending) (before below after : List Event) →
     before ≡ Guess ∷ below → length found < 2 → spent < limit → ending p found spent (limit - spent) before ≡ whole →
     ((s l : ℕ) → ending p more s l after ≡ ending p found s l below) → ending p more (spent + 1) (limit - (spent + 1)) after ≡ whole
-ending-next p found more spent limit whole before below after e room less told h =
-    h (spent + 1) (limit - (spent + 1)) ∙ sym (ending-guess p found spent limit below room less) ∙
-    ap (ending p found spent (limit - spent)) (sym e) ∙ told
+ending-next p found more spent limit whole before below after e few less given h =
+    h (spent + 1) (limit - (spent + 1)) ∙ sym (ending-guess p found spent limit below few less) ∙
+    ap (ending p found spent (limit - spent)) (sym e) ∙ given

@@ -1,5 +1,5 @@
 -- The events after a guess, and the cell of the next guess.
-use Rattle.solve_core.proofs.Names.{◌≡◌, ◌≢◌, ℕ, ◌+◌, ◌<◌, List, ◌++◌, length, get_or, set, refl, sym, arith, Option, Some, IfSome, true, false, get_or-set_other, cases_lt, position-Some, Cell, Unknown, Filled, is_unknown, is_known, Extends, GridLine, round, closure, Event, IsPick, search_from, events, first_unknown, unknown_count, AreKnownBefore, IsClosed, IsNext, IsOpen, Extends-at, IsUnknownFrom, rules}
+use Rattle.solve_core.proofs.Names.{◌≡◌, ◌≢◌, ℕ, ◌+◌, ◌<◌, List, ◌++◌, length, get_or, set, refl, sym, arith, Option, Some, IfSome, true, false, get_or-set_other, cases_lt, position-Some, Cell, Unknown, Filled, is_unknown, is_known, Extends, GridLine, round, closure, Event, IsPick, search_from, events, first_unknown, unknown_count, AreKnownBefore, IsClosed, IsNext, IsNextCell, Extends-at, IsUnknownFrom, rules}
 use Rattle.grid_core.proofs.FirstUnknown.{position_none, position_some}
 use Rattle.solve_core.proofs.Closing.{repeat-fixed}
 use Rattle.solve_core.proofs.ClosureLaws.{closure-IsLeastClosed}
@@ -25,9 +25,9 @@ pub unknown_count-positive : (cells : List Cell) (k : ℕ) → k < length cells 
 unknown_count-positive cells k l e = omega (arith, count-settled cells k Filled l e refl)
 
 -- the cell to guess, if there is one, is unknown
-pub open-unknown : (pick : List Cell → Option ℕ) (lawful : IsPick pick) (lines : List GridLine) (cells : List Cell) (next : Option ℕ) →
-    IsOpen pick lines cells next → IfSome next (λ place. (place < length cells) × (get_or cells place Unknown ≡ Unknown))
-open-unknown pick lawful lines cells next h = search (rules, next-unknown)
+pub cell-unknown : (pick : List Cell → Option ℕ) (lawful : IsPick pick) (lines : List GridLine) (cells : List Cell) (next : Option ℕ) →
+    IsNextCell pick lines cells next → IfSome next (λ place. (place < length cells) × (get_or cells place Unknown ≡ Unknown))
+cell-unknown pick lawful lines cells next h = search (rules, next-unknown)
 
 -- the closure after an unknown cell is assigned has fewer unknown cells
 pub alive-fewer : (lines : List GridLine) (cells now : List Cell) (k : ℕ) (c : Cell) → k < length cells → get_or cells k Unknown ≡ Unknown →

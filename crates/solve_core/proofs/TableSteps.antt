@@ -1,15 +1,15 @@
 -- Lookahead tables of lines when they are created, cleared and written.
-use Rattle.solve_core.proofs.Names.{bit_at-zero, eqb-true, inl, inr, ◌≡◌, ◌≢◌, ℕ, zero, suc, refl, arith, ◌<◌, ◌≤◌, Bool, true, false, List, length, [], ◌∷◌, ◌++◌, None, get_or, get_or-set_other, get_or-set_same, set, Has, IsMarked, IsMaskOf, has}
+use Rattle.solve_core.proofs.Names.{bit_at-zero, eqb-true, inl, inr, ◌≡◌, ◌≢◌, ℕ, zero, suc, refl, arith, ◌<◌, ◌≤◌, Bool, true, false, List, length, [], ◌∷◌, ◌++◌, None, get_or, get_or-set_other, get_or-set_same, set, Has, IsWithBit, IsMaskOf, has}
 use Rattle.std.proofs.lemmas.Bool.{cases_eq, cases_lt}
 use Rattle.std.proofs.Math.ListN.{get_or-eq_default}
 use Rattle.grid_core.specs.Nonogram.{Nonogram, crossing, line_on}
-use Rattle.grid_core.specs.declared.sides.Side.{Side}
-use Rattle.grid_core.specs.declared.sides.Side.TheVariants.{Rows, Columns}
-use Rattle.line_core.proofs.Pairing.{empty_table}
-use Rattle.solve_core.proofs.SideLines.{by_side}
-use Rattle.line_core.specs.Pairs.{IsTableOf, Table, neutral_if, no_table}
+use Rattle.grid_core.specs.declared.axes.Axis.{Axis}
+use Rattle.grid_core.specs.declared.axes.Axis.TheVariants.{Rows, Columns}
+use Rattle.line_core.proofs.LookaheadLemmas.{empty_table}
+use Rattle.solve_core.proofs.AxisLines.{by_axis}
+use Rattle.line_core.specs.Lookahead.{IsTableOf, Table, inert_if, no_table}
 use Rattle.solve_core.specs.steps.ColourMasks.{ColourMasks, mask_if, no_colours}
-use Rattle.solve_core.specs.steps.LinePairs.{AreEmpty, AreNeutralOf, AreTablesOf, LineTables, table_on}
+use Rattle.solve_core.specs.steps.LookaheadTables.{AreEmpty, AreNeutralOf, AreTablesOf, LineTables, table_on}
 
 -- an empty list of tables has no table with a line
 pub none_empty : (xs : List Table) → xs ≡ [] → AreEmpty xs
@@ -35,29 +35,29 @@ pub empty_tables : (p : Nonogram) (rows columns : List Table) → AreEmpty rows 
 empty_tables p rows columns r c = grind (arith, table_on, empty_table)
 
 -- the tables stay those of the puzzle if that of one line is written and the others are unchanged
-pub line_written : (p : Nonogram) (side : Side) (i : ℕ) (old new : LineTables) → AreTablesOf p old
-    → IsTableOf (line_on side p i).clue (table_on side i new)
-    → ((s : Side) (k : ℕ) → (s ≡ side → k ≢ i) → table_on s k new ≡ table_on s k old) → AreTablesOf p new
-line_written p side i old new tables table others = record {
-  each = by_side (λ s. (k : ℕ) → IsTableOf (line_on s p k).clue (table_on s k new)) side
-      (λ k. elim (cases_eq k i) [ inl e ↦ rw e table | inr n ↦ rw (others side k (λ e. n)) (tables.each side k) ])
-      (λ k. rw (others (crossing side) k (λ e. absurd (not_across side e))) (tables.each (crossing side) k));
+pub line_written : (p : Nonogram) (axis : Axis) (i : ℕ) (old new : LineTables) → AreTablesOf p old
+    → IsTableOf (line_on axis p i).clue (table_on axis i new)
+    → ((s : Axis) (k : ℕ) → (s ≡ axis → k ≢ i) → table_on s k new ≡ table_on s k old) → AreTablesOf p new
+line_written p axis i old new tables table others = record {
+  each = by_axis (λ s. (k : ℕ) → IsTableOf (line_on s p k).clue (table_on s k new)) axis
+      (λ k. elim (cases_eq k i) [ inl e ↦ rw e table | inr n ↦ rw (others axis k (λ e. n)) (tables.each axis k) ])
+      (λ k. rw (others (crossing axis) k (λ e. absurd (not_across axis e))) (tables.each (crossing axis) k));
 }
   where
-    not_across : (side : Side) → crossing side ≢ side
+    not_across : (axis : Axis) → crossing axis ≢ axis
     not_across Rows e = cc
     not_across Columns e = cc
 
 -- writing the table of a row leaves those of the other lines unchanged
 pub row_others : (i : ℕ) (old new columns : List Table) → ((k : ℕ) → k ≢ i → get_or new k no_table ≡ get_or old k no_table)
-    → (s : Side) (k : ℕ) → (s ≡ Rows → k ≢ i)
+    → (s : Axis) (k : ℕ) → (s ≡ Rows → k ≢ i)
     → table_on s k (record { rows = new; columns = columns }) ≡ table_on s k (record { rows = old; columns = columns })
 row_others i old new columns others Rows k n = others k (n refl)
 row_others i old new columns others Columns k n = refl
 
 -- writing the table of a column leaves those of the other lines unchanged
 pub column_others : (i : ℕ) (old new rows : List Table) → ((k : ℕ) → k ≢ i → get_or new k no_table ≡ get_or old k no_table)
-    → (s : Side) (k : ℕ) → (s ≡ Columns → k ≢ i)
+    → (s : Axis) (k : ℕ) → (s ≡ Columns → k ≢ i)
     → table_on s k (record { rows = rows; columns = new }) ≡ table_on s k (record { rows = rows; columns = old })
 column_others i old new rows others Rows k n = refl
 column_others i old new rows others Columns k n = others k (n refl)
@@ -76,8 +76,8 @@ none_marked false k has = absurd (omega (arith, has, bit_at-zero k))
 pub table_marked : (width i place : ℕ) (old : List Table) (written read d : Table) (before after : List ColourMasks)
     → AreNeutralOf width old before → place ≡ i → place < length old → read ≡ get_or (set old place written) place d
     → length after ≡ length before
-    → ((j : ℕ) (filled : Bool) → j < length before → IsMaskOf (IsMarked (Has (mask_if filled (get_or before j no_colours))) i
-    (has (neutral_if filled read) j)) (mask_if filled (get_or after j no_colours)))
+    → ((j : ℕ) (filled : Bool) → j < length before → IsMaskOf (IsWithBit (Has (mask_if filled (get_or before j no_colours))) i
+    (has (inert_if filled read) j)) (mask_if filled (get_or after j no_colours)))
     → AreNeutralOf width (set old place written) after
 table_marked width i place old written read d before after are e inside is count marked = record {
   few = rw count are.few;

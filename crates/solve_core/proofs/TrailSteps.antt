@@ -1,20 +1,21 @@
 -- How a trail grows, and what undoing its entries yields.
-use Rattle.solve_core.proofs.Names.{◌≡◌, drop, ℕ, zero, suc, ◌+◌, ◌<◌, true, List, [], ◌∷◌, ◌++◌, length, get_or, set, refl, sym, ap, ◌∙◌, arith, length-append, append_assoc, true≢false, AllByRecursion, Cell, Unknown, Filled, Blank, is_known, cells_at, TrailStep, TrailedGrid, unlearned, without, unknown_count, cleared, IsTrailed}
+use Rattle.solve_core.proofs.Names.{◌≡◌, drop, ℕ, zero, suc, ◌+◌, ◌<◌, true, List, [], ◌∷◌, ◌++◌, length, get_or, set, refl, sym, ap, ◌∙◌, arith, length-append, append_assoc, true≢false, AllByRecursion, Cell, Unknown, Filled, Blank, is_known, cells_at, CellEntry, TrailedGrid, with_unknown_at, undo_entry, unknown_count, undone, IsTrailed}
 use Rattle.solve_core.proofs.ClosureLaws.{length-with_cells}
 
 -- undoing two lists of entries undoes those of the second list first
-pub cleared-append : (cells : List Cell) (steps more : List TrailStep) → cleared cells (steps ++ more) ≡ cleared (cleared cells more) steps
-cleared-append cells [] more = refl
-cleared-append cells (s ∷ steps) more = ap (λ (cs : List Cell). without cs s) (cleared-append cells steps more)
+pub undone-append : (cells : List Cell) (entries more : List CellEntry)
+    → undone cells (entries ++ more) ≡ undone (undone cells more) entries
+undone-append cells [] more = refl
+undone-append cells (s ∷ entries) more = ap (λ (cs : List Cell). undo_entry cs s) (undone-append cells entries more)
 
 -- undoing an entry doesn't change the number of cells
-pub length-without : (cells : List Cell) (s : TrailStep) → length (without cells s) ≡ length cells
-length-without cells s = length-with_cells cells s.places (unlearned s.changes (cells_at Unknown cells s.places))
+pub length-undo_entry : (cells : List Cell) (s : CellEntry) → length (undo_entry cells s) ≡ length cells
+length-undo_entry cells s = length-with_cells cells s.indices (with_unknown_at s.changes (cells_at Unknown cells s.indices))
 
 -- undoing several entries doesn't change the number of cells
-pub length-cleared : (cells : List Cell) (steps : List TrailStep) → length (cleared cells steps) ≡ length cells
-length-cleared cells [] = refl
-length-cleared cells (s ∷ steps) = length-without (cleared cells steps) s ∙ length-cleared cells steps
+pub length-undone : (cells : List Cell) (entries : List CellEntry) → length (undone cells entries) ≡ length cells
+length-undone cells [] = refl
+length-undone cells (s ∷ entries) = length-undo_entry (undone cells entries) s ∙ length-undone cells entries
 
 -- a property of all items of a list holds of the item at each index
 pub all_at : {X : Type 0} (P : X → Type 0) (xs : List X) (k : ℕ) (d : X) → AllByRecursion P xs → k < length xs → P (get_or xs k d)
@@ -39,15 +40,15 @@ trailed_trans a b c x y = record {
   added = x.added ++ y.added;
   width = y.width ∙ x.width;
   height = y.height ∙ x.height;
-  kept = y.kept ∙ ap (λ (steps : List TrailStep). steps ++ y.added) x.kept ∙ append_assoc a.trail x.added y.added;
-  undo = cleared-append c.cells x.added y.added ∙ ap (λ (r : List Cell). cleared r x.added) y.undo ∙ x.undo;
+  kept = y.kept ∙ ap (λ (entries : List CellEntry). entries ++ y.added) x.kept ∙ append_assoc a.trail x.added y.added;
+  undo = undone-append c.cells x.added y.added ∙ ap (λ (r : List Cell). undone r x.added) y.undo ∙ x.undo;
   count = omega (arith, length-append x.added y.added, x.count, y.count);
 }
 
-longer : (steps : List TrailStep) (old new : TrailedGrid) → new.trail ≡ old.trail ++ steps → cleared new.cells steps ≡ old.cells →
+longer : (entries : List CellEntry) (old new : TrailedGrid) → new.trail ≡ old.trail ++ entries → undone new.cells entries ≡ old.cells →
     unknown_count new.cells < unknown_count old.cells → length old.trail < length new.trail
 longer [] old new kept undo fewer = absurd (omega (arith, ap unknown_count undo))
-longer (s ∷ steps) old new kept undo fewer = omega (arith, ap length kept, length-append old.trail (s ∷ steps))
+longer (s ∷ entries) old new kept undo fewer = omega (arith, ap length kept, length-append old.trail (s ∷ entries))
 
 -- if fewer cells are unknown, the trail is longer
 pub trailed-longer : (old new : TrailedGrid) → IsTrailed old new → unknown_count new.cells < unknown_count old.cells →

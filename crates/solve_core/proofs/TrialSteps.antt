@@ -1,10 +1,10 @@
 -- What the outcome of a trial shows of a cell, and why assigning the colour that is left is a step towards the grid
 -- after trials.
-use Rattle.solve_core.proofs.Names.{◌≡◌, ℕ, ◌+◌, ◌<◌, inl, inr, Bool, true, false, List, length, get_or, set, Some, None, ap, ◌∙◌, arith, zero-add, Cell, Unknown, Filled, Blank, CellExtends, Extends, is_known, GridLine, Changed, round, closure, is_refuted, left_over, tried, trial_round, trials, IsTried, Progresses, unknown_count, AtMost, Extends-refl, Extends-trans, length-Extends, rules}
+use Rattle.solve_core.proofs.Names.{◌≡◌, ℕ, ◌+◌, ◌<◌, inl, inr, Bool, true, false, List, length, get_or, set, Some, None, ap, ◌∙◌, arith, zero-add, Cell, Unknown, Filled, Blank, CellExtends, Extends, is_known, GridLine, Changed, round, closure, is_refuted, left_over, after_trials_of, trial_round, trials, HasNoRefutedColour, StepsTowards, unknown_count, AtMost, Extends-refl, Extends-trans, length-Extends, rules}
 use Rattle.solve_core.proofs.Order.{set_extends, set_within, below_each}
 use Rattle.solve_core.proofs.Closing.{repeat-fixed, fewer_unknown}
 use Rattle.solve_core.proofs.ClosureLaws.{closure-IsLeastClosed, same_at_most}
-use Rattle.solve_core.proofs.TrialLaws.{OptionBelow, tried_cells, tried_cells-above, all_below, each_below, tried-below, after_trials, trials-IsLeastClosed, left_blank_below, left_filled_below}
+use Rattle.solve_core.proofs.TrialLaws.{OptionBelow, cells_after_trials, cells_after_trials-above, all_below, each_below, after_trials_of-below, after_trials, trials-IsLeastClosed, left_blank_below, left_filled_below}
 use Rattle.solve_core.proofs.LineSteps.{least_between}
 use Rattle.solve_core.proofs.TrailSteps.{count-settled}
 
@@ -16,7 +16,7 @@ trials_between lines g z h below = least_between (trial_round lines) g z (trials
 
 -- a trial-closed grid is line-closed
 pub trial_closed-round : (lines : List GridLine) (z : List Cell) → trial_round lines z ≡ Some z → round lines z ≡ Some z
-trial_closed-round lines z e = (after_trials lines z z (tried_cells lines z) e).1
+trial_closed-round lines z e = (after_trials lines z z (cells_after_trials lines z) e).1
 
 pub closure_below : (lines : List GridLine) (g : List Cell) → AtMost (closure lines g) (trials lines g)
 closure_below lines g = search (rules, below_each, trials-IsLeastClosed, closure-IsLeastClosed, trial_closed-round)
@@ -27,16 +27,17 @@ closure_trials lines g new e = search (rules, trials_between, closure-IsLeastClo
 
 -- the outcome of the trials of one cell is below each trial-closed grid that extends the grid
 tried_at_end : (lines : List GridLine) (g w : List Cell) (k : ℕ) → trial_round lines w ≡ Some w → Extends g w → k < length w →
-    OptionBelow (tried lines g k Unknown) (get_or w k Unknown)
+    OptionBelow (after_trials_of lines g k Unknown) (get_or w k Unknown)
 tried_at_end lines g w k closed gw l =
-    let after = after_trials lines w w (tried_cells lines w) closed in
-    let at = λ (j : ℕ). tried lines w j (get_or w j Unknown) in
-    let here : OptionBelow (tried lines w k (get_or w k Unknown)) (get_or w k Unknown) =
+    let after = after_trials lines w w (cells_after_trials lines w) closed in
+    let at = λ (j : ℕ). after_trials_of lines w j (get_or w j Unknown) in
+    let here : OptionBelow (after_trials_of lines w k (get_or w k Unknown)) (get_or w k Unknown) =
     rw (zero-add k) at (each_below at 0 w after.0 k l) in
-    tried-below lines g w w k Unknown gw (Extends-refl w) after.1 l tt here
+    after_trials_of-below lines g w w k Unknown gw (Extends-refl w) after.1 l tt here
 
 left_below : (lines : List GridLine) (g : List Cell) (k : ℕ) (colour : Cell) → k < length g →
-    ((w : Cell) → OptionBelow (tried lines g k Unknown) w → CellExtends colour w) → AtMost (Some (set g k colour)) (trials lines g)
+    ((w : Cell) → OptionBelow (after_trials_of lines g k Unknown) w → CellExtends colour w)
+    → AtMost (Some (set g k colour)) (trials lines g)
 left_below lines g k colour l below = search (rules, below_each, trials-IsLeastClosed, set_within, tried_at_end, length-Extends)
 
 -- if filled is refuted, the grid with the cell blank is below the grid after trials
@@ -50,28 +51,31 @@ pub filled_below : (lines : List GridLine) (g : List Cell) (k : ℕ) → k < len
 filled_below lines g k l r = left_below lines g k Filled l (λ w h. left_filled_below (is_refuted lines g k Filled) w (rw r at h))
 
 -- a line-closed grid in which no unknown cell has a refuted colour is trial-closed
-pub tried-closed : (lines : List GridLine) (z : List Cell) → round lines z ≡ Some z → ((k : ℕ) → k < length z → IsTried lines z k) →
+pub tried-closed : (lines : List GridLine) (z : List Cell) → round lines z ≡ Some z
+    → ((k : ℕ) → k < length z → HasNoRefutedColour lines z k) →
     trial_round lines z ≡ Some z
-tried-closed lines z e h = search (rules, same_at_most, tried_cells-above, all_below, zero-add, repeat-fixed)
+tried-closed lines z e h = search (rules, same_at_most, cells_after_trials-above, all_below, zero-add, repeat-fixed)
 
-both_open : (a b : Bool) → OptionBelow (left_over a b) Unknown → (a ≡ false) × (b ≡ false)
-both_open a b h = search rules
+neither_refuted : (a b : Bool) → OptionBelow (left_over a b) Unknown → (a ≡ false) × (b ≡ false)
+neither_refuted a b h = search rules
 
 -- in a trial-closed grid no unknown cell has a refuted colour
-pub closed-tried : (lines : List GridLine) (z : List Cell) → trial_round lines z ≡ Some z → (k : ℕ) → k < length z → IsTried lines z k
+pub closed-tried : (lines : List GridLine) (z : List Cell) → trial_round lines z ≡ Some z → (k : ℕ) → k < length z
+    → HasNoRefutedColour lines z k
 closed-tried lines z e k l unknown =
     let here = tried_at_end lines z z k e (Extends-refl z) l in
-    both_open (is_refuted lines z k Filled) (is_refuted lines z k Blank) (rw unknown at here)
+    neither_refuted (is_refuted lines z k Filled) (is_refuted lines z k Blank) (rw unknown at here)
 
 -- trials leave a line-closed grid unchanged if no unknown cell has a refuted colour
-pub tried_ends : (lines : List GridLine) (z : List Cell) → round lines z ≡ Some z → ((k : ℕ) → k < length z → IsTried lines z k) →
+pub tried_ends : (lines : List GridLine) (z : List Cell) → round lines z ≡ Some z
+    → ((k : ℕ) → k < length z → HasNoRefutedColour lines z k) →
     trials lines z ≡ Some z
 tried_ends lines z e h = repeat-fixed (trial_round lines) (length z + 1) z (tried-closed lines z e h)
 
 -- the colour of a cell in a line-closed grid isn't refuted in a grid that it extends
-pub met_open : (lines : List GridLine) (g z : List Cell) (k : ℕ) (d : Cell) → round lines z ≡ Some z → Extends g z →
+pub met_consistent : (lines : List GridLine) (g z : List Cell) (k : ℕ) (d : Cell) → round lines z ≡ Some z → Extends g z →
     get_or z k Unknown ≡ d → is_refuted lines g k d ≡ false
-met_open lines g z k d closed h at = search (rules, set_within, closure-IsLeastClosed)
+met_consistent lines g z k d closed h at = search (rules, set_within, closure-IsLeastClosed)
 
 -- the closure after an unknown cell is assigned extends the grid
 pub settled-extends : (lines : List GridLine) (g z : List Cell) (k : ℕ) (c : Cell) → get_or g k Unknown ≡ Unknown →
@@ -81,10 +85,10 @@ settled-extends lines g z k c unknown e =
     Extends-trans g (set g k c) z (set_extends g k c unknown) above
 
 -- assigning a cell as trials do is a step towards the grid after trials
-pub settle-changed : (lines : List GridLine) (g new : List Cell) (k : ℕ) (c : Cell) → k < length g → get_or g k Unknown ≡ Unknown →
+pub assign-changed : (lines : List GridLine) (g new : List Cell) (k : ℕ) (c : Cell) → k < length g → get_or g k Unknown ≡ Unknown →
     is_known c ≡ true → AtMost (Some (set g k c)) (trials lines g) → closure lines (set g k c) ≡ Some new
-    → Progresses (trials lines) Changed g new
-settle-changed lines g new k c l unknown n below e =
+    → StepsTowards (trials lines) Changed g new
+assign-changed lines g new k c l unknown n below e =
     let z = set g k c in
     let above : Extends z new = rw e at ((closure-IsLeastClosed lines z).above) in
     let fewer = count-settled g k c l unknown n in (
@@ -93,6 +97,6 @@ settle-changed lines g new k c l unknown n below e =
     )
 
 -- if assigning a cell as trials do leads to a dead closure, the trials end dead
-pub settle-dead : (lines : List GridLine) (g : List Cell) (k : ℕ) (c : Cell) → get_or g k Unknown ≡ Unknown →
+pub assign-dead : (lines : List GridLine) (g : List Cell) (k : ℕ) (c : Cell) → get_or g k Unknown ≡ Unknown →
     AtMost (Some (set g k c)) (trials lines g) → closure lines (set g k c) ≡ None → trials lines g ≡ None
-settle-dead lines g k c unknown below e = search (rules, trials_between, set_extends, closure_below)
+assign-dead lines g k c unknown below e = search (rules, trials_between, set_extends, closure_below)

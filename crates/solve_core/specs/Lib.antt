@@ -6,7 +6,7 @@ pub mod Sizes
 pub mod Search
 pub mod Report
 pub mod Verdicts
-pub mod Fittings
+pub mod Workspaces
 pub mod Picks
 pub mod MostKnown
 pub mod steps

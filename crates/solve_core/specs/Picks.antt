@@ -8,36 +8,38 @@ use Rattle.solve_core.specs.declared.picks.Pick.TheVariants.{First, Most}
 use Rattle.solve_core.specs.Search.{first_unknown}
 
 -- whether a neighbour is outside the grid or known
-abbrev pub is_sure : Bool → Cell → Bool
-is_sure outside cell = outside || is_known cell
+abbrev pub is_known_or_outside : Bool → Cell → Bool
+is_known_or_outside outside cell = outside || is_known cell
 
 -- whether the left neighbour of cell `k`, in a grid of `width` columns, is known or outside the
 -- grid
-abbrev pub is_left_sure : ℕ → List Cell → ℕ → Bool
-is_left_sure width cells k =
-    is_sure (nat_eq (k % width) 0) (slice_index_or cells (k - 1) Unknown)
+abbrev pub is_left_known : ℕ → List Cell → ℕ → Bool
+is_left_known width cells k =
+    is_known_or_outside (nat_eq (k % width) 0) (slice_index_or cells (k - 1) Unknown)
 
 -- whether the right neighbour of cell `k` is known or outside the grid
-abbrev pub is_right_sure : ℕ → List Cell → ℕ → Bool
-is_right_sure width cells k =
-    is_sure (nat_eq (k % width + 1) width) (slice_index_or cells (k + 1) Unknown)
+abbrev pub is_right_known : ℕ → List Cell → ℕ → Bool
+is_right_known width cells k =
+    is_known_or_outside (nat_eq (k % width + 1) width) (slice_index_or cells (k + 1) Unknown)
 
 -- whether the neighbour above cell `k` is known or outside the grid
-abbrev pub is_above_sure : ℕ → List Cell → ℕ → Bool
-is_above_sure width cells k = is_sure (nat_lt k width) (slice_index_or cells (k - width) Unknown)
+abbrev pub is_above_known : ℕ → List Cell → ℕ → Bool
+is_above_known width cells k =
+    is_known_or_outside (nat_lt k width) (slice_index_or cells (k - width) Unknown)
 
 -- whether the neighbour below cell `k` is known or outside the grid
-abbrev pub is_below_sure : ℕ → List Cell → ℕ → Bool
-is_below_sure width cells k =
-    is_sure (nat_le (length cells) (k + width)) (slice_index_or cells (k + width) Unknown)
+abbrev pub is_below_known : ℕ → List Cell → ℕ → Bool
+is_below_known width cells k =
+    is_known_or_outside (nat_le (length cells) (k + width))
+    (slice_index_or cells (k + width) Unknown)
 
 -- how many of the four neighbours of cell `k` are known or outside the grid
-abbrev pub sure_neighbours : ℕ → List Cell → ℕ → ℕ
-sure_neighbours width cells k =
-    cond (is_left_sure width cells k) 1 0
-    + cond (is_right_sure width cells k) 1 0
-    + cond (is_above_sure width cells k) 1 0
-    + cond (is_below_sure width cells k) 1 0
+abbrev pub known_neighbours : ℕ → List Cell → ℕ → ℕ
+known_neighbours width cells k =
+    cond (is_left_known width cells k) 1 0
+    + cond (is_right_known width cells k) 1 0
+    + cond (is_above_known width cells k) 1 0
+    + cond (is_below_known width cells k) 1 0
 
 -- the better of two indices: the later one, `k`, if its score is higher, and otherwise the earlier
 -- one
@@ -56,7 +58,7 @@ first_most score passes (suc n) =
 abbrev pub most_known : ℕ → List Cell → Option ℕ
 most_known width cells =
     first_most
-    (sure_neighbours width cells)
+    (known_neighbours width cells)
     (λ k. is_unknown (slice_index_or cells k Unknown))
     (length cells)
 

@@ -1,19 +1,19 @@
 -- The definitions that only the contracts of private functions use.
 pub mod Boards
 pub mod Branches
-pub mod Closers
+pub mod Propagation
 pub mod ColourMasks
 pub mod Counts
-pub mod Deductions
+pub mod DeductionCache
 pub mod Endings
 pub mod FoundGrids
 pub mod GridLines
 pub mod Guesses
-pub mod Learning
-pub mod LineMarks
-pub mod Marks
-pub mod Openings
+pub mod CrossingWrites
+pub mod LineMasks
+pub mod Worklist
+pub mod ConsistentColours
 pub mod Trails
-pub mod Tried
+pub mod TrialState
 pub mod Widths
-pub mod LinePairs
+pub mod LookaheadTables

@@ -2,40 +2,40 @@
 ghost use Rattle.std.specs.Prelude.{◌≡◌, ℕ, ◌+◌, ◌-◌, ◌*◌, ◌<◌, ◌≤◌, [], length, map, take, slice_index_or, slice_set, true, IfOk, IsTrue};
 ghost use Rattle.grid_core.specs.Cells.{is_known};
 ghost use Rattle.grid_core.specs.Nonogram.{lines_of};
-ghost use Rattle.place_sets.specs.Masks.{Has};
+ghost use Rattle.bit_sets.specs.Masks.{Has};
 ghost use Rattle.solve_core.specs.Closure.{closure, if_alive};
 ghost use Rattle.grid_core.specs.PartialGrid.{IsSize};
 ghost use Rattle.grid_core.specs.declared.cells.Cell.TheVariants.{Unknown};
-ghost use Rattle.solve_core.specs.steps.Boards.{fresh_board, grid_of_board, unknown_board, HasBoardRoom, IsBoardOf};
+ghost use Rattle.solve_core.specs.steps.Boards.{board_without_trail, grid_of_board, unknown_board, HasCapacityFor, IsBoardOf};
 ghost use Rattle.solve_core.specs.steps.Branches.{cells_before};
-ghost use Rattle.solve_core.specs.steps.Closers.{IsIdle, IsMemoryOf};
-ghost use Rattle.solve_core.specs.steps.Marks.{IsAtRest};
+ghost use Rattle.solve_core.specs.steps.Propagation.{HasNoDirtyLine, HasCorrectCache};
+ghost use Rattle.solve_core.specs.steps.Worklist.{IsAtFixpoint};
 ghost use Rattle.solve_core.specs.steps.Trails.{IsTrailed, unknown_count};
 
-use crate::closures::Closer;
+use crate::buffers::cleared_with_capacity;
 use crate::grid_lines::GridLines;
 use crate::learners::Learner;
-use crate::rooms::emptied;
-use crate::trails::Step;
-use grid_core::{Cell, Grid, NoMemory, Puzzle, Side};
-use line_core::{LineOf, LineSet};
-use place_sets::PlaceSet;
+use crate::propagation::Propagator;
+use crate::trails::TrailEntry;
+use bit_sets::BitSet;
+use grid_core::{Axis, Cell, Grid, NoMemory, Puzzle};
+use line_core::{BitLine, LineBits};
 use std::alloc::Global;
 use std::marker::Model;
 
 /// The buffers of a board: its rows, its columns and its trail. Only their capacities matter.
 #[derive(Drop)]
-pub struct BoardRoom<W: LineSet> {
-    rows: Vec<LineOf<W>>,
-    columns: Vec<LineOf<W>>,
-    trail: Vec<Step<W>>,
+pub struct BoardBuffers<W: LineBits> {
+    rows: Vec<BitLine<W>>,
+    columns: Vec<BitLine<W>>,
+    trail: Vec<TrailEntry<W>>,
 }
 
-impl<W: LineSet> Model for BoardRoom<W> {
+impl<W: LineBits> Model for BoardBuffers<W> {
     ghost use Rattle.std.specs.Prelude.{vec_capacity};
-    ghost use Rattle.solve_core.specs.steps.Boards.{BoardSpace};
+    ghost use Rattle.solve_core.specs.steps.Boards.{BufferCapacities};
 
-    ghost Value = { BoardSpace };
+    ghost Value = { BufferCapacities };
 
     ghost view = { λ r. record {
       rows = vec_capacity r.rows;
@@ -44,21 +44,21 @@ impl<W: LineSet> Model for BoardRoom<W> {
     } };
 }
 
-impl<W: LineSet> BoardRoom<W> {
+impl<W: LineBits> BoardBuffers<W> {
     /// Allocates the buffers of a board of `width` columns and `height` rows, reusing those of
     /// `other` if given. Fails with `NoMemory` if an allocation fails.
     pub fn new(
         alloc: Global,
-        other: Option<BoardRoom<W>>,
+        previous: Option<BoardBuffers<W>>,
         width: u16,
         height: u16,
-    ) -> Result<BoardRoom<W>, NoMemory>
+    ) -> Result<BoardBuffers<W>, NoMemory>
         requires { IsSize width height }
-        ensures { IfOk result (HasBoardRoom width height) }
+        ensures { IfOk result (HasCapacityFor width height) }
     {
-        let (rows, columns, trail) = match other {
+        let (rows, columns, trail) = match previous {
             Some(
-                BoardRoom {
+                BoardBuffers {
                     rows,
                     columns,
                     trail,
@@ -67,30 +67,30 @@ impl<W: LineSet> BoardRoom<W> {
             None => (Vec::new(alloc), Vec::new(alloc), Vec::new(alloc)),
         };
         let cells = usize::from(width) * usize::from(height);
-        Ok(BoardRoom {
-            rows: emptied(alloc, rows, usize::from(height))?,
-            columns: emptied(alloc, columns, usize::from(width))?,
-            trail: emptied(alloc, trail, cells)?,
+        Ok(BoardBuffers {
+            rows: cleared_with_capacity(alloc, rows, usize::from(height))?,
+            columns: cleared_with_capacity(alloc, columns, usize::from(width))?,
+            trail: cleared_with_capacity(alloc, trail, cells)?,
         })
     }
 }
 
 /// A grid as rows and columns, with a trail by which assignments are undone in reverse order.
 /// `read` and `close` clear the trail. Its buffer is allocated once.
-pub struct Board<W: LineSet> {
+pub struct Board<W: LineBits> {
     lines: GridLines<W>,
-    trail: Vec<Step<W>>,
+    trail: Vec<TrailEntry<W>>,
 }
 
 /// Written by hand so that callers' proofs see one call: a derived drop is expanded at each exit of
 /// each caller.
-impl<W: LineSet> Drop for Board<W> {
+impl<W: LineBits> Drop for Board<W> {
     fn drop(self) {
         let Board { lines: _, trail: _ } = self;
     }
 }
 
-impl<W: LineSet> Model for Board<W> {
+impl<W: LineBits> Model for Board<W> {
     ghost use Rattle.std.specs.Prelude.{vec_capacity};
     ghost use Rattle.solve_core.specs.steps.Boards.{board_of, IsBoard};
     ghost use Rattle.solve_core.specs.steps.Trails.{TrailedGrid};
@@ -102,21 +102,20 @@ impl<W: LineSet> Model for Board<W> {
     ghost invariant = { λ b. IsBoard W.WIDTH b.lines b.trail.items (vec_capacity b.trail) };
 }
 
-impl<W: LineSet> Board<W> {
-    /// Returns a board whose cells are all unknown and whose trail is empty, in the buffers of
-    /// `room`.
-    pub fn unknown(room: BoardRoom<W>, width: u16, height: u16) -> Board<W>
+impl<W: LineBits> Board<W> {
+    /// Returns a board whose cells are all unknown and whose trail is empty, in `buffers`.
+    pub fn unknown(buffers: BoardBuffers<W>, width: u16, height: u16) -> Board<W>
         requires size { IsSize width height }
         requires fits { (width ≤ W.WIDTH) × (height ≤ W.WIDTH) }
-        requires room { HasBoardRoom width height room }
+        requires buffers { HasCapacityFor width height buffers }
         ensures board { result ≡ unknown_board width height }
         ensures count { length result.cells ≡ width * height }
     {
-        let BoardRoom {
+        let BoardBuffers {
             rows,
             columns,
             mut trail,
-        } = room;
+        } = buffers;
         trail.clear();
         Board {
             lines: GridLines::unknown(rows, columns, width, height),
@@ -125,10 +124,10 @@ impl<W: LineSet> Board<W> {
     }
 
     /// Returns the board's buffers, for another board.
-    pub fn into_room(self) -> BoardRoom<W> {
+    pub fn into_buffers(self) -> BoardBuffers<W> {
         let Board { lines, trail } = self;
         let (rows, columns) = lines.into_lists();
-        BoardRoom {
+        BoardBuffers {
             rows,
             columns,
             trail,
@@ -145,9 +144,9 @@ impl<W: LineSet> Board<W> {
     }
 
     /// Returns the entries of the trail, oldest first.
-    pub fn trail(&self) -> &[Step<W>]
+    pub fn trail(&self) -> &[TrailEntry<W>]
         ensures len { length result.now ≡ length self.now.trail }
-        ensures room { length self.now.trail + unknown_count self.now.cells
+        ensures trail { length self.now.trail + unknown_count self.now.cells
             ≤ length self.now.cells }
         ensures few { length self.now.cells ≤ 65536 }
     {
@@ -156,7 +155,7 @@ impl<W: LineSet> Board<W> {
 
     /// Assigns the colour `cell` to the unknown cell in column `x` and row `y`, and appends an
     /// entry to the trail.
-    pub fn settle(&mut self, x: u16, y: u16, cell: Cell)
+    pub fn assign_cell(&mut self, x: u16, y: u16, cell: Cell)
         requires column { x < self.old.width }
         requires row { y < self.old.height }
         requires unknown { slice_index_or self.old.cells (y * self.old.width + x) Unknown
@@ -165,97 +164,97 @@ impl<W: LineSet> Board<W> {
         ensures cells { self.new.cells ≡ slice_set self.old.cells (y * self.old.width + x) cell }
         ensures trail { IsTrailed self.old self.new }
     {
-        let mut row = self.lines.line(Side::Rows, y).copy();
-        row.settle(x, cell);
-        self.learn(Side::Rows, y, &row, W::empty().marked(x, true));
+        let mut row = self.lines.line(Axis::Rows, y).copy();
+        row.assign(x, cell);
+        self.assign_line(Axis::Rows, y, &row, W::empty().with_bit(x, true));
     }
 
     /// Undoes the last entry of the trail and removes it.
-    fn undo(&mut self)
+    fn undo_last(&mut self)
         requires { 0 < length self.old.trail }
         ensures { self.new ≡ record self.old {
           cells = cells_before self.old.cells self.old.trail (length self.old.trail - 1);
           trail = take (length self.old.trail - 1) self.old.trail;
         } }
     {
-        let Some(step) = self.trail.pop() else {
+        let Some(entry) = self.trail.pop() else {
             return;
         };
-        self.lines.unlearn(step.side, step.line, step.changes);
+        self.lines.unassign(entry.axis, entry.line, entry.changes);
     }
 
-    /// Undoes all assignments since the trail had `mark` entries, the last one first. Does nothing
-    /// if the trail isn't longer than that.
-    pub fn go_back(&mut self, mark: usize)
+    /// Undoes all assignments since the trail had `checkpoint` entries, the last one first. Does
+    /// nothing if the trail isn't longer than that.
+    pub fn undo_to(&mut self, checkpoint: usize)
         ensures { self.new ≡ record self.old {
-          cells = cells_before self.old.cells self.old.trail mark;
-          trail = take mark self.old.trail;
+          cells = cells_before self.old.cells self.old.trail checkpoint;
+          trail = take checkpoint self.old.trail;
         } }
     {
-        while self.trail().len() > mark {
-            self.undo();
+        while self.trail().len() > checkpoint {
+            self.undo_last();
         }
     }
 
-    /// Returns the rows in which a cell was assigned since the trail had `mark` entries.
-    pub fn rows_since(&self, mark: usize) -> W
-        requires { mark ≤ length self.now.trail }
-        ensures { (y : ℕ) → Has (W.number result) y → y < self.now.height }
+    /// Returns the rows in which a cell was assigned since the trail had `checkpoint` entries.
+    pub fn rows_touched_since(&self, checkpoint: usize) -> W
+        requires { checkpoint ≤ length self.now.trail }
+        ensures { (y : ℕ) → Has (W.bits result) y → y < self.now.height }
     {
         let mut rows = W::empty();
-        for step in &self.trail[mark..] {
-            rows = rows.union(step.rows());
+        for entry in &self.trail[checkpoint..] {
+            rows = rows.union(entry.rows());
         }
         rows
     }
 
     /// Propagates all lines until the board reaches its closure. Returns whether it is alive.
     /// Clears the trail, so that this can't be undone.
-    pub fn close(&mut self, closer: &mut Closer<W>, puzzle: &Puzzle) -> bool
-        requires memory { IsMemoryOf puzzle.now closer.old }
+    pub fn close(&mut self, propagator: &mut Propagator<W>, puzzle: &Puzzle) -> bool
+        requires cache { HasCorrectCache puzzle.now propagator.old }
         requires size { IsBoardOf puzzle.now self.old }
         ensures closed { if_alive result self.new.cells
             ≡ closure (lines_of puzzle.now) self.old.cells }
-        ensures rest { IsTrue result → IsAtRest puzzle.now closer.new self.new.cells }
+        ensures fixpoint { IsTrue result → IsAtFixpoint puzzle.now propagator.new self.new.cells }
         ensures size { IsBoardOf puzzle.now self.new }
-        ensures idle { IsIdle puzzle.now closer.new }
+        ensures clean { HasNoDirtyLine puzzle.now propagator.new }
     {
         // The lines are changed directly: what can't be undone needs no trail, and to record one
         // takes more time on large puzzles.
         self.trail.clear();
-        closer.propagate_all(puzzle, &mut self.lines)
+        propagator.propagate_all(puzzle, &mut self.lines)
     }
 
     /// Loads the cells of `grid`, which has the board's size, and clears the trail.
-    pub fn read(&mut self, grid: &Grid)
+    pub fn load(&mut self, grid: &Grid)
         requires width { grid.now.width ≡ self.old.width }
         requires height { grid.now.height ≡ self.old.height }
-        ensures board { self.new ≡ fresh_board grid.now }
+        ensures board { self.new ≡ board_without_trail grid.now }
         ensures count { length grid.now.cells ≡ grid.now.width * grid.now.height }
     {
-        self.lines.read(grid);
+        self.lines.load(grid);
         self.trail.clear();
     }
 }
 
 /// Appends an entry to the trail for each line that is assigned to.
-impl<W: LineSet> Learner<W> for Board<W> {
+impl<W: LineBits> Learner<W> for Board<W> {
     ghost board = { λ b. b };
 
     ghost KEEPS = { true };
 
     const KEEPS: bool = true;
 
-    fn line(&self, side: Side, i: u16) -> &LineOf<W> {
-        self.lines.line(side, i)
+    fn line(&self, axis: Axis, i: u16) -> &BitLine<W> {
+        self.lines.line(axis, i)
     }
 
-    fn learn(&mut self, side: Side, i: u16, new: &LineOf<W>, changes: W) {
-        self.lines.learn(side, i, new, changes);
+    fn assign_line(&mut self, axis: Axis, i: u16, new: &BitLine<W>, changes: W) {
+        self.lines.assign_line(axis, i, new, changes);
         // The capacity suffices: it is one entry for each cell, and each entry assigned at least
         // one unknown cell.
-        self.trail.push_reserved(Step {
-            side,
+        self.trail.push_reserved(TrailEntry {
+            axis,
             line: i,
             changes,
         });

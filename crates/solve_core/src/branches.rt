@@ -4,11 +4,11 @@ ghost use Rattle.grid_core.specs.declared.cells.Cell.{Cell as CellValue};
 ghost use Rattle.grid_core.specs.Cells.{is_known};
 ghost use Rattle.grid_core.specs.Nonogram.{GridLine};
 ghost use Rattle.grid_core.specs.declared.cells.Cell.TheVariants.{Unknown};
-ghost use Rattle.solve_core.specs.steps.Branches.{IsWork, AreOlder, IsOpen, IsReady, pending, open_events, ready_events};
+ghost use Rattle.solve_core.specs.steps.Branches.{AreBranchesOf, AreOlder, IsNextCell, IsNextGuess, pending, events_from_cell, events_from_guess};
 
 use crate::boards::Board;
 use grid_core::Cell;
-use line_core::LineSet;
+use line_core::LineBits;
 
 /// A filled guess whose cell is still to be guessed blank.
 #[derive(Clone, Copy, Debug)]
@@ -16,14 +16,14 @@ pub struct Branch {
     /// The index of the guessed cell in row order.
     pub place: usize,
     /// How many entries the trail had before the guess.
-    pub mark: usize,
+    pub checkpoint: usize,
 }
 
 /// Returns the cell index and the colour of the next guess, and prepares the board for it. If
 /// `next` is a cell, it is to be guessed filled, and a branch is pushed. Otherwise the last branch
 /// is popped, the board is undone to where it was, and its cell is to be guessed blank. `None` if
 /// no branch is left.
-pub(crate) fn take_guess<W: LineSet>(
+pub(crate) fn take_guess<W: LineBits>(
     board: &mut Board<W>,
     branches: &mut Vec<Branch>,
     next: Option<usize>,
@@ -32,20 +32,21 @@ pub(crate) fn take_guess<W: LineSet>(
         (place < length board.old.cells)
         × (slice_index_or board.old.cells place Unknown ≡ Unknown)) }
     requires older { next ≢ None → length branches.old.items ≤ length board.old.trail }
-    requires room { length board.old.cells ≤ vec_capacity branches.old }
+    requires capacity { length board.old.cells ≤ vec_capacity branches.old }
     ensures events { (pick : List CellValue → Option ℕ) (lines : List GridLine) →
-        IsWork pick lines board.old.cells board.old.trail branches.old.items →
-        open_events pick lines board.old.cells next
+        AreBranchesOf pick lines board.old.cells board.old.trail branches.old.items →
+        events_from_cell pick lines board.old.cells next
         (pending pick lines board.old.cells board.old.trail branches.old.items)
-        ≡ ready_events pick lines board.new.cells result
+        ≡ events_from_guess pick lines board.new.cells result
         (pending pick lines board.new.cells board.new.trail branches.new.items) }
     ensures work { (pick : List CellValue → Option ℕ) (lines : List GridLine) →
-        IsWork pick lines board.old.cells board.old.trail branches.old.items →
-        AreOlder board.old.trail branches.old.items next → IsOpen pick lines board.old.cells next →
-        IsWork pick lines board.new.cells board.new.trail branches.new.items }
+        AreBranchesOf pick lines board.old.cells board.old.trail branches.old.items →
+        AreOlder board.old.trail branches.old.items next
+        → IsNextCell pick lines board.old.cells next →
+        AreBranchesOf pick lines board.new.cells board.new.trail branches.new.items }
     ensures ready { (pick : List CellValue → Option ℕ) (lines : List GridLine) →
-        IsWork pick lines board.old.cells board.old.trail branches.old.items →
-        IsOpen pick lines board.old.cells next → IsReady pick lines board.new.cells result }
+        AreBranchesOf pick lines board.old.cells board.old.trail branches.old.items →
+        IsNextCell pick lines board.old.cells next → IsNextGuess pick lines board.new.cells result }
     ensures colour { IfSome result (λ guess. is_known guess.1 ≡ true) }
     ensures width { board.new.width ≡ board.old.width }
     ensures height { board.new.height ≡ board.old.height }
@@ -56,15 +57,15 @@ pub(crate) fn take_guess<W: LineSet>(
         Some(place) => {
             // The capacity suffices: there are no more branches than trail entries, and fewer
             // entries than cells, since the cell to guess is unknown.
-            let mark = board.trail().len();
-            branches.push_reserved(Branch { place, mark });
+            let checkpoint = board.trail().len();
+            branches.push_reserved(Branch { place, checkpoint });
             Some((place, Cell::Filled))
         }
         None => {
             let Some(branch) = branches.pop() else {
                 return None;
             };
-            board.go_back(branch.mark);
+            board.undo_to(branch.checkpoint);
             Some((branch.place, Cell::Blank))
         }
     }

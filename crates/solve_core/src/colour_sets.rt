@@ -3,32 +3,32 @@
 ghost use Rattle.std.specs.Prelude.{◌≡◌, ◌<◌, ◌≤◌, ◌⊎◌, Bool, ℕ, length, replicate, slice_index_or, vec_capacity, IfOk};
 ghost use Rattle.grid_core.specs.declared.cells.Cell.{Cell as CellValue};
 ghost use Rattle.grid_core.specs.declared.cells.Cell.TheVariants.{Unknown};
-ghost use Rattle.place_sets.specs.Masks.{Has, has, IsMarked, IsMaskOf};
+ghost use Rattle.bit_sets.specs.Masks.{Has, has, IsWithBit, IsMaskOf};
 ghost use Rattle.solve_core.specs.steps.ColourMasks.{mask_if, mask_of, no_colours};
 
-use crate::rooms::emptied;
+use crate::buffers::cleared_with_capacity;
+use bit_sets::BitSet;
 use grid_core::{Cell, NoMemory};
-use line_core::LineOf;
-use place_sets::PlaceSet;
+use line_core::BitLine;
 use std::alloc::Global;
 use std::marker::Model;
 
 /// A set of indices for filled, and one for blank.
 #[derive(Drop)]
-pub struct ColourSets<W: PlaceSet> {
+pub struct ColourSets<W: BitSet> {
     pub filled: W,
     pub blank: W,
 }
 
-impl<W: PlaceSet> Model for ColourSets<W> {
+impl<W: BitSet> Model for ColourSets<W> {
     ghost use Rattle.solve_core.specs.steps.ColourMasks.{ColourMasks};
 
     ghost Value = { ColourMasks };
 
-    ghost view = { λ s. record { filled = W.number s.filled; blank = W.number s.blank } };
+    ghost view = { λ s. record { filled = W.bits s.filled; blank = W.bits s.blank } };
 }
 
-impl<W: PlaceSet> ColourSets<W> {
+impl<W: BitSet> ColourSets<W> {
     /// Returns two empty sets.
     pub fn none() -> ColourSets<W>
         ensures { result ≡ no_colours }
@@ -40,20 +40,20 @@ impl<W: PlaceSet> ColourSets<W> {
     }
 
     /// Reports whether the set of `colour` has the index `place`; false if `colour` is unknown.
-    pub fn contains(&self, place: u16, colour: Cell) -> bool
-        requires { place < W.WIDTH }
-        ensures { result ≡ has (mask_of colour self.now) place }
+    pub fn contains(&self, index: u16, colour: Cell) -> bool
+        requires { index < W.WIDTH }
+        ensures { result ≡ has (mask_of colour self.now) index }
     {
         match colour {
             Cell::Unknown => false,
-            Cell::Filled => self.filled.contains(place),
-            Cell::Blank => self.blank.contains(place),
+            Cell::Filled => self.filled.contains(index),
+            Cell::Blank => self.blank.contains(index),
         }
     }
 
     /// Returns the indices that are in both sets.
     pub fn in_both(&self) -> W
-        ensures { IsMaskOf (λ i. Has self.now.filled i × Has self.now.blank i) (W.number result) }
+        ensures { IsMaskOf (λ i. Has self.now.filled i × Has self.now.blank i) (W.bits result) }
     {
         self.filled.intersection(self.blank)
     }
@@ -61,8 +61,8 @@ impl<W: PlaceSet> ColourSets<W> {
     /// Returns the indices that are in the set of their own colour, which is filled for those in
     /// `filled`, and blank for all others.
     pub fn coloured(&self, filled: W) -> W
-        ensures { IsMaskOf (λ k. Has (mask_if (has (W.number filled) k) self.now) k)
-            (W.number result) }
+        ensures { IsMaskOf (λ k. Has (mask_if (has (W.bits filled) k) self.now) k)
+            (W.bits result) }
     {
         self.filled
             .intersection(filled)
@@ -71,13 +71,13 @@ impl<W: PlaceSet> ColourSets<W> {
 
     /// Adds the index `place` to the filled set if `filled`, and otherwise removes it from there;
     /// and the same for the blank set and `blank`.
-    pub fn mark(&mut self, place: u16, filled: bool, blank: bool)
-        requires { place < W.WIDTH }
-        ensures filled { IsMaskOf (IsMarked (Has self.old.filled) place filled) self.new.filled }
-        ensures blank { IsMaskOf (IsMarked (Has self.old.blank) place blank) self.new.blank }
+    pub fn mark(&mut self, index: u16, filled: bool, blank: bool)
+        requires { index < W.WIDTH }
+        ensures filled { IsMaskOf (IsWithBit (Has self.old.filled) index filled) self.new.filled }
+        ensures blank { IsMaskOf (IsWithBit (Has self.old.blank) index blank) self.new.blank }
     {
-        self.filled = self.filled.marked(place, filled);
-        self.blank = self.blank.marked(place, blank);
+        self.filled = self.filled.with_bit(index, filled);
+        self.blank = self.blank.with_bit(index, blank);
     }
 
     /// Adds the indices of `others`, colour by colour.
@@ -90,7 +90,7 @@ impl<W: PlaceSet> ColourSets<W> {
     }
 
     /// Adds the known cells of `line`, each to the set of its colour.
-    pub fn add_line(&mut self, line: &LineOf<W>)
+    pub fn add_line(&mut self, line: &BitLine<W>)
         ensures only { (c : CellValue) (i : ℕ) → i < length line.now → Has (mask_of c self.new) i →
             Has (mask_of c self.old) i ⊎ (slice_index_or line.now i Unknown ≡ c) }
     {
@@ -99,9 +99,9 @@ impl<W: PlaceSet> ColourSets<W> {
     }
 }
 
-/// Replaces the contents of `sets` by `count` pairs of empty sets. Allocates nothing: the capacity
-/// has to be at least `count`.
-pub fn fill_with_none<W: PlaceSet>(sets: &mut Vec<ColourSets<W>>, count: usize)
+/// Replaces the contents of `sets` by `count` pairs of empty sets. Allocates nothing: the
+/// capacity has to be at least `count`.
+pub fn fill_with_none<W: BitSet>(sets: &mut Vec<ColourSets<W>>, count: usize)
     requires { count ≤ vec_capacity sets.old }
     ensures { sets.new.items ≡ replicate count no_colours }
 {
@@ -113,14 +113,14 @@ pub fn fill_with_none<W: PlaceSet>(sets: &mut Vec<ColourSets<W>>, count: usize)
 
 /// Returns a list of `count` pairs of empty sets, reusing the buffer of `sets` if its capacity
 /// suffices. Fails with `NoMemory` if an allocation fails.
-pub fn with_sets<W: PlaceSet>(
+pub fn with_sets<W: BitSet>(
     alloc: Global,
     sets: Vec<ColourSets<W>>,
     count: usize,
 ) -> Result<Vec<ColourSets<W>>, NoMemory>
     ensures { IfOk result (λ sets. sets.items ≡ replicate count no_colours) }
 {
-    let mut sets = emptied(alloc, sets, count)?;
+    let mut sets = cleared_with_capacity(alloc, sets, count)?;
     fill_with_none(&mut sets, count);
     Ok(sets)
 }

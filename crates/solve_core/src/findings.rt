@@ -10,8 +10,8 @@ pub enum Verdict {
     Nothing,
     /// This grid meets the clues, and no other does.
     One(Grid),
-    /// Two different grids that meet the clues, in the order in which they were found. There may be
-    /// more.
+    /// Two different grids that meet the clues, in the order in which they were found. There
+    /// may be more.
     Several(Grid, Grid),
     /// The limit on guesses cut the search short. The grid, if any, is the one solution found until
     /// then.

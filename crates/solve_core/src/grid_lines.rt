@@ -1,41 +1,41 @@
 //! A grid as rows and columns.
 ghost use Rattle.std.specs.Prelude.{◌≡◌, ◌+◌, ◌-◌, ◌*◌, ◌<◌, ◌≤◌, ℕ, nat_eq, [], count_by, false, length, replicate, slice_index_or, slice_set, true, vec_capacity, IfOk, IfSome};
 ghost use Rattle.grid_core.specs.Cells.{Extends, is_known};
-ghost use Rattle.grid_core.specs.Nonogram.{cells_at, crossing, places_on};
-ghost use Rattle.grid_core.specs.steps.Sides.{count_on};
+ghost use Rattle.grid_core.specs.Nonogram.{cells_at, crossing, line_indices};
+ghost use Rattle.grid_core.specs.steps.Axes.{line_count};
 ghost use Rattle.grid_core.specs.PartialGrid.{IsSize};
 ghost use Rattle.grid_core.specs.Rows.{cells_of_rows, row_of};
 ghost use Rattle.grid_core.specs.declared.cells.Cell.TheVariants.{Unknown};
-ghost use Rattle.grid_core.specs.declared.sides.Side.TheVariants.{Rows, Columns};
+ghost use Rattle.grid_core.specs.declared.axes.Axis.TheVariants.{Rows, Columns};
 ghost use Rattle.grid_core.specs.Lines.{IsChanged, IsUnknownCell, IsUnknownFrom};
-ghost use Rattle.grid_core.specs.declared.limits.TheConstants.{LONGEST_SIDE};
+ghost use Rattle.grid_core.specs.declared.limits.TheConstants.{MAX_SIDE};
 ghost use Rattle.solve_core.specs.steps.GridLines.{AreLinesOf};
-ghost use Rattle.place_sets.specs.Masks.{Has, has, IsMaskOf};
+ghost use Rattle.bit_sets.specs.Masks.{Has, has, IsMaskOf};
 ghost use Rattle.solve_core.specs.Closure.{with_cells};
-ghost use Rattle.solve_core.specs.steps.Boards.{fresh_board};
-ghost use Rattle.solve_core.specs.steps.Trails.{IsTrailed, TrailedGrid, step_on, without};
-ghost use Rattle.solve_core.specs.Picks.{is_sure};
+ghost use Rattle.solve_core.specs.steps.Boards.{board_without_trail};
+ghost use Rattle.solve_core.specs.steps.Trails.{IsTrailed, TrailedGrid, entry_on, undo_entry};
+ghost use Rattle.solve_core.specs.Picks.{is_known_or_outside};
 ghost use Rattle.solve_core.specs.Picks.{most_known};
 
+use crate::crossing_writes::{assign_across, write_each};
 use crate::learners::Learner;
-use crate::learning::{settle_across, write_each};
-use crate::marks::Marks;
+use crate::line_mask::LineMask;
 use crate::picks::{known_cells, most_in_row, near_known};
-use grid_core::{Cell, Grid, Side};
-use line_core::{LineOf, LineSet};
-use place_sets::{PlaceSet, first_from, first_places};
+use bit_sets::{BitSet, next_index, prefix};
+use grid_core::{Axis, Cell, Grid};
+use line_core::{BitLine, LineBits};
 use std::marker::Model;
 
 /// A grid that stores each row and each column as a line, so that no line has to be gathered cell
 /// by cell. Each cell stands in its row and in its column.
-pub struct GridLines<W: LineSet> {
-    rows: Vec<LineOf<W>>,
-    columns: Vec<LineOf<W>>,
+pub struct GridLines<W: LineBits> {
+    rows: Vec<BitLine<W>>,
+    columns: Vec<BitLine<W>>,
 }
 
 /// Written by hand so that callers' proofs see one call: a derived drop is expanded at each exit of
 /// each caller.
-impl<W: LineSet> Drop for GridLines<W> {
+impl<W: LineBits> Drop for GridLines<W> {
     fn drop(self) {
         let GridLines {
             rows: _,
@@ -44,7 +44,7 @@ impl<W: LineSet> Drop for GridLines<W> {
     }
 }
 
-impl<W: LineSet> Model for GridLines<W> {
+impl<W: LineBits> Model for GridLines<W> {
     ghost use Rattle.std.specs.Prelude.{length};
     ghost use Rattle.grid_core.specs.PartialGrid.{PartialGrid};
     ghost use Rattle.solve_core.specs.steps.GridLines.{AreLinesOf};
@@ -63,21 +63,21 @@ impl<W: LineSet> Model for GridLines<W> {
 
 /// Returns `count` unknown lines of `len` cells each, in the buffer of `list`. Allocates nothing:
 /// its capacity has to be at least `count`.
-fn unknown_lines<W: LineSet>(list: Vec<LineOf<W>>, len: u16, count: u16) -> Vec<LineOf<W>>
+fn unknown_lines<W: LineBits>(list: Vec<BitLine<W>>, len: u16, count: u16) -> Vec<BitLine<W>>
     requires len { (1 ≤ len) × (len ≤ W.WIDTH) }
-    requires room { count ≤ vec_capacity list }
+    requires capacity { count ≤ vec_capacity list }
     ensures { result.items ≡ replicate count (replicate len Unknown) }
 {
     let mut lines = list;
     lines.clear();
     for _ in 0..count {
-        lines.push_reserved(LineOf::unknown(len));
+        lines.push_reserved(BitLine::unknown(len));
     }
     lines
 }
 
 /// Loads the rows of `grid`, a whole row at a time.
-fn read_rows<W: LineSet>(rows: &mut [LineOf<W>], grid: &Grid)
+fn load_rows<W: LineBits>(rows: &mut [BitLine<W>], grid: &Grid)
     requires few { length rows.old ≤ 256 }
     requires count { length rows.old ≡ grid.now.height }
     requires lengths { (y : ℕ) → y < length rows.old
@@ -88,12 +88,12 @@ fn read_rows<W: LineSet>(rows: &mut [LineOf<W>], grid: &Grid)
     ensures count { 0 < length rows.old → length grid.now.cells ≡ grid.now.width * grid.now.height }
 {
     for y in 0..rows.len() {
-        grid.read_row(y as u16, &mut rows[y]);
+        grid.load_row(y as u16, &mut rows[y]);
     }
 }
 
 /// Writes the cells of `row`, which is row `y`, into the columns.
-fn write_across<W: LineSet>(columns: &mut [LineOf<W>], y: usize, row: &LineOf<W>)
+fn write_across<W: LineBits>(columns: &mut [BitLine<W>], y: usize, row: &BitLine<W>)
     requires few { (length columns.old ≤ 256) × (y < 256) }
     requires count { length columns.old ≡ length row.now }
     requires lengths { (x : ℕ) → x < length columns.old
@@ -108,7 +108,7 @@ fn write_across<W: LineSet>(columns: &mut [LineOf<W>], y: usize, row: &LineOf<W>
 }
 
 /// Writes the cells of all `rows` into the columns.
-fn read_columns<W: LineSet>(columns: &mut [LineOf<W>], rows: &[LineOf<W>])
+fn load_columns<W: LineBits>(columns: &mut [BitLine<W>], rows: &[BitLine<W>])
     requires few { (length columns.old ≤ 256) × (length rows.now ≤ 256) }
     requires rows { (y : ℕ) → y < length rows.now
         → length (slice_index_or rows.now y []) ≡ length columns.old }
@@ -127,7 +127,7 @@ fn read_columns<W: LineSet>(columns: &mut [LineOf<W>], rows: &[LineOf<W>])
 }
 
 /// Loads the cells of `grid` into `rows` and `columns`.
-fn read_lines<W: LineSet>(rows: &mut [LineOf<W>], columns: &mut [LineOf<W>], grid: &Grid)
+fn load_lines<W: LineBits>(rows: &mut [BitLine<W>], columns: &mut [BitLine<W>], grid: &Grid)
     requires lines { AreLinesOf (cells_of_rows rows.old) rows.old columns.old }
     requires width { grid.now.width ≡ length columns.old }
     requires height { grid.now.height ≡ length rows.old }
@@ -135,20 +135,21 @@ fn read_lines<W: LineSet>(rows: &mut [LineOf<W>], columns: &mut [LineOf<W>], gri
     ensures rows { length rows.new ≡ length rows.old }
     ensures columns { length columns.new ≡ length columns.old }
 {
-    read_rows(rows, grid);
-    read_columns(columns, rows);
+    load_rows(rows, grid);
+    load_columns(columns, rows);
 }
 
 /// Returns the columns in which the cell above row `y` is known; all columns if there is no row
 /// above.
-fn sure_above<W: LineSet>(rows: &[LineOf<W>], y: usize) -> W
+fn known_above<W: LineBits>(rows: &[BitLine<W>], y: usize) -> W
     requires { y < length rows.now }
     ensures { (x : ℕ) → x < length (slice_index_or rows.now y []) →
-        has (W.number result) x
-        ≡ is_sure (nat_eq y 0) (slice_index_or (slice_index_or rows.now (y - 1) []) x Unknown) }
+        has (W.bits result) x
+        ≡ is_known_or_outside (nat_eq y 0)
+        (slice_index_or (slice_index_or rows.now (y - 1) []) x Unknown) }
 {
     if y == 0 {
-        first_places(rows[y].len())
+        prefix(rows[y].len())
     } else {
         known_cells(&rows[y - 1])
     }
@@ -156,22 +157,22 @@ fn sure_above<W: LineSet>(rows: &[LineOf<W>], y: usize) -> W
 
 /// Returns the columns in which the cell below row `y` is known; all columns if there is no row
 /// below.
-fn sure_below<W: LineSet>(rows: &[LineOf<W>], y: usize) -> W
+fn known_below<W: LineBits>(rows: &[BitLine<W>], y: usize) -> W
     requires { y < length rows.now }
     ensures { (x : ℕ) → x < length (slice_index_or rows.now y []) →
-        has (W.number result) x
-        ≡ is_sure (nat_eq (y + 1) (length rows.now))
+        has (W.bits result) x
+        ≡ is_known_or_outside (nat_eq (y + 1) (length rows.now))
         (slice_index_or (slice_index_or rows.now (y + 1) []) x Unknown) }
 {
     if y + 1 == rows.len() {
-        first_places(rows[y].len())
+        prefix(rows[y].len())
     } else {
         known_cells(&rows[y + 1])
     }
 }
 
 /// Returns how many cells of `line` are known.
-fn known_in<W: LineSet>(line: &LineOf<W>) -> u32
+fn known_in<W: LineBits>(line: &BitLine<W>) -> u32
     ensures { result ≡ count_by is_known line.now }
 {
     let count = line.len();
@@ -184,9 +185,9 @@ fn known_in<W: LineSet>(line: &LineOf<W>) -> u32
     u32::from(count - unknown)
 }
 
-impl<W: LineSet> GridLines<W> {
+impl<W: LineBits> GridLines<W> {
     /// Returns the rows and the columns.
-    pub fn into_lists(self) -> (Vec<LineOf<W>>, Vec<LineOf<W>>) {
+    pub fn into_lists(self) -> (Vec<BitLine<W>>, Vec<BitLine<W>>) {
         let GridLines { rows, columns } = self;
         (rows, columns)
     }
@@ -194,8 +195,8 @@ impl<W: LineSet> GridLines<W> {
     /// Returns an unknown grid of `width` columns and `height` rows, in the buffers of `rows` and
     /// `columns`. Allocates nothing: their capacities have to be at least `height` and `width`.
     pub fn unknown(
-        rows: Vec<LineOf<W>>,
-        columns: Vec<LineOf<W>>,
+        rows: Vec<BitLine<W>>,
+        columns: Vec<BitLine<W>>,
         width: u16,
         height: u16,
     ) -> GridLines<W>
@@ -250,13 +251,13 @@ impl<W: LineSet> GridLines<W> {
 
     /// Returns the unknown cells of row `y` that have at least `least`, 0 to 4, neighbours that are
     /// known or outside the grid.
-    pub fn near_cells(&self, y: usize, least: usize) -> W
+    pub fn cells_by_known_neighbours(&self, y: usize, least: usize) -> W
         requires row { y < self.now.height }
         requires least { least ≤ 4 }
-        ensures unknown { (x : ℕ) → Has (W.number result) x
+        ensures unknown { (x : ℕ) → Has (W.bits result) x
             → (x < self.now.width) × IsUnknownCell self.now.cells (y * self.now.width + x) }
         ensures each { least ≡ 0 → (x : ℕ) → x < self.now.width →
-            IsUnknownCell self.now.cells (y * self.now.width + x) → Has (W.number result) x }
+            IsUnknownCell self.now.cells (y * self.now.width + x) → Has (W.bits result) x }
         ensures fits { self.now.width ≤ W.WIDTH }
     {
         let row = &self.rows[y];
@@ -265,8 +266,8 @@ impl<W: LineSet> GridLines<W> {
         }
         near_known(
             row,
-            sure_above(&self.rows, y),
-            sure_below(&self.rows, y),
+            known_above(&self.rows, y),
+            known_below(&self.rows, y),
             least,
         )
     }
@@ -280,7 +281,7 @@ impl<W: LineSet> GridLines<W> {
         let width = self.width();
         let mut column = from % width;
         for y in from / width..self.height() {
-            if let Some(x) = first_from(self.near_cells(y, 0), column as u16) {
+            if let Some(x) = next_index(self.cells_by_known_neighbours(y, 0), column as u16) {
                 return Some(y * width + usize::from(x));
             }
             column = 0;
@@ -297,8 +298,8 @@ impl<W: LineSet> GridLines<W> {
         let mut best = None;
         let mut least = 0;
         for y in 0..self.rows.len() {
-            let above = sure_above(&self.rows, y);
-            let below = sure_below(&self.rows, y);
+            let above = known_above(&self.rows, y);
+            let below = known_below(&self.rows, y);
             if let Some((count, x)) = most_in_row(&self.rows[y], above, below, least) {
                 best = Some(y * width + usize::from(x));
                 // Later cells need a greater count, so that of equal ones the first stays.
@@ -309,24 +310,24 @@ impl<W: LineSet> GridLines<W> {
     }
 
     /// Makes the cells in `changes` of line `i` of an axis unknown.
-    pub fn unlearn(&mut self, side: Side, i: u16, changes: W)
-        requires i { i < count_on side self.old.width self.old.height }
-        requires within { (k : ℕ) → Has (W.number changes) k
-            → k < count_on (crossing side) self.old.width self.old.height }
+    pub fn unassign(&mut self, axis: Axis, i: u16, changes: W)
+        requires i { i < line_count axis self.old.width self.old.height }
+        requires within { (k : ℕ) → Has (W.bits changes) k
+            → k < line_count (crossing axis) self.old.width self.old.height }
         ensures { self.new ≡ record self.old {
-          cells = without self.old.cells
-              (step_on self.old.width self.old.height
-              (record { side = side; line = i; changes = W.number changes }));
+          cells = undo_entry self.old.cells
+              (entry_on self.old.width self.old.height
+              (record { axis = axis; line = i; changes = W.bits changes }));
         } }
     {
         let place = usize::from(i);
-        let new = self.line(side, i).without(changes);
-        match side {
-            Side::Rows => {
+        let new = self.line(axis, i).with_unknown(changes);
+        match axis {
+            Axis::Rows => {
                 self.rows[place].copy_from(&new);
                 write_each(&mut self.columns, i, changes, Cell::Unknown);
             }
-            Side::Columns => {
+            Axis::Columns => {
                 self.columns[place].copy_from(&new);
                 write_each(&mut self.rows, i, changes, Cell::Unknown);
             }
@@ -335,13 +336,13 @@ impl<W: LineSet> GridLines<W> {
 
     /// Loads the cells of `grid`, which has the same size.
     #[tactic(auto, using(crate::proofs::GridLineSteps::lines_cells, crate::proofs::Names::with_items_is))]
-    pub fn read(&mut self, grid: &Grid)
+    pub fn load(&mut self, grid: &Grid)
         requires width { grid.now.width ≡ self.old.width }
         requires height { grid.now.height ≡ self.old.height }
         ensures lines { self.new ≡ grid.now }
         ensures count { length grid.now.cells ≡ grid.now.width * grid.now.height }
     {
-        read_lines(&mut self.rows, &mut self.columns, grid);
+        load_lines(&mut self.rows, &mut self.columns, grid);
     }
 
     /// Writes the cells into `grid`, which has the same size.
@@ -355,33 +356,33 @@ impl<W: LineSet> GridLines<W> {
 }
 
 /// Keeps no trail: assignments can't be undone.
-impl<W: LineSet> Learner<W> for GridLines<W> {
-    ghost board = { fresh_board };
+impl<W: LineBits> Learner<W> for GridLines<W> {
+    ghost board = { board_without_trail };
 
     ghost KEEPS = { false };
 
     const KEEPS: bool = false;
 
-    fn line(&self, side: Side, i: u16) -> &LineOf<W> {
-        match side {
-            Side::Rows => &self.rows[usize::from(i)],
-            Side::Columns => &self.columns[usize::from(i)],
+    fn line(&self, axis: Axis, i: u16) -> &BitLine<W> {
+        match axis {
+            Axis::Rows => &self.rows[usize::from(i)],
+            Axis::Columns => &self.columns[usize::from(i)],
         }
     }
 
     // Inlined, since a call would pass the new line in memory, and the processor would wait for its
     // fields.
     #[inline(always)]
-    fn learn(&mut self, side: Side, i: u16, new: &LineOf<W>, changes: W) {
+    fn assign_line(&mut self, axis: Axis, i: u16, new: &BitLine<W>, changes: W) {
         let place = usize::from(i);
-        match side {
-            Side::Rows => {
+        match axis {
+            Axis::Rows => {
                 self.rows[place].copy_from(new);
-                settle_across(&mut self.columns, i, new, changes);
+                assign_across(&mut self.columns, i, new, changes);
             }
-            Side::Columns => {
+            Axis::Columns => {
                 self.columns[place].copy_from(new);
-                settle_across(&mut self.rows, i, new, changes);
+                assign_across(&mut self.rows, i, new, changes);
             }
         }
     }

@@ -2,35 +2,35 @@
 
 ghost use Rattle.std.specs.Prelude.{◌≡◌, ◌<◌, ◌%◌, ◌/◌, false, length, option_map, slice_index_or};
 ghost use Rattle.grid_core.specs.declared.cells.Cell.TheVariants.{Unknown};
-ghost use Rattle.solve_core.specs.Picks.{is_sure};
-ghost use Rattle.solve_core.specs.Picks.{most_known, picked, sure_neighbours};
+ghost use Rattle.solve_core.specs.Picks.{is_known_or_outside};
+ghost use Rattle.solve_core.specs.Picks.{most_known, picked, known_neighbours};
 
 use crate::picks::Pick;
 use grid_core::Grid;
 
 /// Reports whether a neighbour is known or outside the grid. Its index is `place`, if it isn't
 /// `outside`.
-fn is_sure(grid: &Grid, outside: bool, place: usize) -> bool
+fn is_known_or_outside(grid: &Grid, outside: bool, place: usize) -> bool
     requires { outside ≡ false → place < length grid.now.cells }
-    ensures { result ≡ is_sure outside (slice_index_or grid.now.cells place Unknown) }
+    ensures { result ≡ is_known_or_outside outside (slice_index_or grid.now.cells place Unknown) }
 {
-    outside || grid.at(place).is_known()
+    outside || grid.get_index(place).is_known()
 }
 
 /// Returns how many neighbours of the cell with index `place` are known or outside the grid.
-fn sure_neighbours(grid: &Grid, place: usize) -> usize
+fn known_neighbours(grid: &Grid, place: usize) -> usize
     requires { place < length grid.now.cells }
-    ensures { result ≡ sure_neighbours grid.now.width grid.now.cells place }
+    ensures { result ≡ known_neighbours grid.now.width grid.now.cells place }
 {
     let width = usize::from(grid.width());
     let count = width * usize::from(grid.height());
     let column = place % width;
     // The index of a neighbour outside the grid isn't used: saturating only keeps the subtraction
     // from underflowing.
-    let left = is_sure(grid, column == 0, place.saturating_sub(1));
-    let right = is_sure(grid, column + 1 == width, place + 1);
-    let above = is_sure(grid, place < width, place.saturating_sub(width));
-    let below = is_sure(grid, count <= place + width, place + width);
+    let left = is_known_or_outside(grid, column == 0, place.saturating_sub(1));
+    let right = is_known_or_outside(grid, column + 1 == width, place + 1);
+    let above = is_known_or_outside(grid, place < width, place.saturating_sub(width));
+    let below = is_known_or_outside(grid, count <= place + width, place + width);
     usize::from(left) + usize::from(right) + usize::from(above) + usize::from(below)
 }
 
@@ -43,11 +43,11 @@ fn most_known(grid: &Grid) -> Option<usize>
     let mut best = None;
     let mut least = 0;
     for place in 0..count {
-        if grid.at(place).is_unknown() {
-            let sure = sure_neighbours(grid, place);
-            if sure >= least {
+        if grid.get_index(place).is_unknown() {
+            let known = known_neighbours(grid, place);
+            if known >= least {
                 best = Some(place);
-                least = sure + 1;
+                least = known + 1;
             }
         }
     }

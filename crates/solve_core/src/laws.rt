@@ -10,7 +10,7 @@ ghost use Rattle.solve_core.specs.MostKnown.{IsMostKnown};
 ghost use Rattle.solve_core.specs.Picks.{most_known};
 ghost use Rattle.solve_core.specs.Report.{verdict_of, guesses_of, report_of};
 ghost use Rattle.solve_core.specs.Search.{IsPick, first_unknown, search_from, events};
-ghost use Rattle.solve_core.specs.Trials.{trial_round, trials, IsTried};
+ghost use Rattle.solve_core.specs.Trials.{trial_round, trials, HasNoRefutedColour};
 ghost use Rattle.solve_core.specs.Verdicts.{Holds, IsFinal};
 
 /// The closure is the least line-closed grid that knows what the grid knows, so it doesn't depend
@@ -30,7 +30,8 @@ pub fn trials_are_least()
 /// A grid is trial-closed exactly if it is line-closed and no unknown cell has a refuted colour.
 pub fn trial_closed_means()
     ensures { (lines : List GridLine) (grid : List Cell) → (trial_round lines grid ≡ Some grid)
-        ↔ ((round lines grid ≡ Some grid) × ((k : ℕ) → k < length grid → IsTried lines grid k)) }
+        ↔ ((round lines grid ≡ Some grid)
+        × ((k : ℕ) → k < length grid → HasNoRefutedColour lines grid k)) }
 {}
 
 /// After each guess the search continues as a search of the resulting grid.

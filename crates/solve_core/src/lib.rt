@@ -2,28 +2,28 @@
 //! solutions, and the report on a puzzle.
 #![tactic(auto)]
 
+mod axis_tables;
 mod boards;
 mod branches;
-mod closures;
+mod buffers;
 mod colour_sets;
-mod dead_ends;
-mod deductions;
+mod conflict_hints;
+mod consistent;
+mod crossing_writes;
+mod deduction_cache;
 mod findings;
 mod grid_lines;
 mod guessing;
 pub mod laws;
 mod learners;
-mod learning;
+mod line_clues;
 mod line_grids;
-mod line_pairs;
-mod marks;
-mod openings;
+mod line_mask;
+mod lookahead_tables;
 mod picks;
-mod places;
+mod propagation;
 mod reports;
-mod rooms;
 mod search;
-mod side_tables;
 mod solutions;
 mod solver;
 mod trails;

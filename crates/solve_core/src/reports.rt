@@ -5,32 +5,32 @@ ghost use Rattle.grid_core.specs.Cells.{is_known};
 ghost use Rattle.solve_core.specs.Picks.{picked};
 ghost use Rattle.grid_core.specs.Nonogram.{lines_of};
 ghost use Rattle.solve_core.specs.steps.Boards.{IsBoardOf};
-ghost use Rattle.solve_core.specs.steps.Closers.{IsMemoryOf};
-ghost use Rattle.solve_core.specs.steps.Marks.{IsAtRest};
+ghost use Rattle.solve_core.specs.steps.Propagation.{HasCorrectCache};
+ghost use Rattle.solve_core.specs.steps.Worklist.{IsAtFixpoint};
 ghost use Rattle.solve_core.specs.Closure.{if_alive};
 ghost use Rattle.solve_core.specs.Trials.{trials as trials_of};
 ghost use Rattle.solve_core.specs.Sizes.{IsSizeOf};
 ghost use Rattle.solve_core.specs.Report.{report_of, grade_by, unknown_grid};
-ghost use Rattle.solve_core.specs.steps.Tried.{HasRoomFor};
+ghost use Rattle.solve_core.specs.steps.TrialState.{HasRoomFor};
 ghost use Rattle.solve_core.specs.Verdicts.{Holds};
 ghost use Rattle.solve_core.specs.steps.Widths.{FitsIn};
 
-use crate::boards::{Board, BoardRoom};
+use crate::boards::{Board, BoardBuffers};
 use crate::branches::Branch;
+use crate::buffers::cleared_with_capacity;
 use crate::picks::Pick;
-use crate::rooms::emptied;
 use crate::search::search;
 use crate::solutions::Solutions;
 use crate::trials::Trials;
 use crate::widths::width_for;
 use crate::{Findings, Grade, Verdict};
+use bit_sets::Bits256;
 use grid_core::{NoMemory, Puzzle};
-use line_core::{LineSet, Width};
-use place_sets::Wide;
+use line_core::{LineBits, SetWidth};
 use std::alloc::Global;
 
 /// Reports whether the board is full, given that `known` of its cells are known.
-fn are_known<W: LineSet>(board: &Board<W>, known: u32) -> bool
+fn are_known<W: LineBits>(board: &Board<W>, known: u32) -> bool
     requires { known ≡ count_by is_known board.now.cells }
     ensures { result ≡ list_all is_known board.now.cells }
 {
@@ -39,23 +39,24 @@ fn are_known<W: LineSet>(board: &Board<W>, known: u32) -> bool
 
 /// Closes a board at its fixpoint under trials, which has no effect if it is `full`. Returns
 /// whether it is alive.
-fn try_unless_full<W: LineSet>(
+fn try_unless_full<W: LineBits>(
     trials: &mut Trials<W>,
     puzzle: &Puzzle,
     board: &mut Board<W>,
     full: bool,
 ) -> bool
-    requires rest { IsAtRest puzzle.now trials.old.closer board.old.cells }
+    requires fixpoint { IsAtFixpoint puzzle.now trials.old.propagator board.old.cells }
     requires room { HasRoomFor puzzle.now trials.old }
     requires size { IsBoardOf puzzle.now board.old }
     requires full { full ≡ list_all is_known board.old.cells }
     ensures tried { if_alive result board.new.cells
         ≡ trials_of (lines_of puzzle.now) board.old.cells }
-    ensures rest { IsTrue result → IsAtRest puzzle.now trials.new.closer board.new.cells }
+    ensures fixpoint { IsTrue result
+        → IsAtFixpoint puzzle.now trials.new.propagator board.new.cells }
     ensures size { IsBoardOf puzzle.now board.new }
     ensures same { IsTrue full → board.new.cells ≡ board.old.cells }
 {
-    full || trials.try_at_rest(puzzle, board)
+    full || trials.close_from_fixpoint(puzzle, board)
 }
 
 /// Returns the grade of a puzzle, by whether line deduction sufficed, and whether trials did.
@@ -73,7 +74,7 @@ fn grade(by_lines: bool, by_trials: bool) -> Grade
 
 /// Returns the report on `puzzle`, by a `board` whose cells are all unknown. Allocates nothing: the
 /// capacity of `branches`, which is empty, has to be at least the number of cells.
-fn findings<W: LineSet>(
+fn findings<W: LineBits>(
     trials: &mut Trials<W>,
     puzzle: &Puzzle,
     board: &mut Board<W>,
@@ -88,10 +89,10 @@ fn findings<W: LineSet>(
     requires solutions { IsSizeOf puzzle.now solutions.width solutions.height }
     requires branches { branches.old.items ≡ [] }
     requires found { solutions.grids ≡ [] }
-    requires room { length board.old.cells ≤ vec_capacity branches.old }
+    requires capacity { length board.old.cells ≤ vec_capacity branches.old }
     ensures { result ≡ report_of (picked pick puzzle.now.width) puzzle.now guesses }
 {
-    if !board.close(&mut trials.closer, puzzle) {
+    if !board.close(&mut trials.propagator, puzzle) {
         return Findings {
             verdict: Verdict::Nothing,
             grade: Grade::Lines,
@@ -120,7 +121,7 @@ fn findings<W: LineSet>(
     let grade = grade(by_lines, are_known(board, trial_known));
     let mut solutions = solutions;
     let end = search(
-        &mut trials.closer,
+        &mut trials.propagator,
         puzzle,
         board,
         branches,
@@ -139,17 +140,17 @@ fn findings<W: LineSet>(
 
 /// The buffers of a report, in sets of one width.
 #[derive(Drop)]
-struct Room<W: LineSet> {
+struct ReportBuffers<W: LineBits> {
     trials: Trials<W>,
-    board: BoardRoom<W>,
+    board: BoardBuffers<W>,
     branches: Vec<Branch>,
 }
 
 /// Returns the report on `puzzle`, in sets whose width fits its lines and the numbers of its clues.
 /// Reuses the buffers in `kept`, if any, and leaves its own there for the next puzzle. Fails with
 /// `NoMemory` if an allocation fails; then `kept` is `None`.
-fn report_within<W: LineSet>(
-    kept: &mut Option<Room<W>>,
+fn report_within<W: LineBits>(
+    buffers: &mut Option<ReportBuffers<W>>,
     alloc: Global,
     puzzle: &Puzzle,
     guesses: u32,
@@ -162,9 +163,9 @@ fn report_within<W: LineSet>(
         Holds (picked pick puzzle.now.width) puzzle.now guesses findings.verdict) }
     ensures spent { IfOk result (λ findings. findings.spent ≤ guesses) }
 {
-    let (trials, board, branches) = match kept.take() {
+    let (trials, board, branches) = match buffers.take() {
         Some(
-            Room {
+            ReportBuffers {
                 trials,
                 board,
                 branches,
@@ -174,9 +175,9 @@ fn report_within<W: LineSet>(
     };
     let (width, height) = (puzzle.width(), puzzle.height());
     let mut trials = Trials::<W>::new(alloc, trials, puzzle)?;
-    let board = BoardRoom::<W>::new(alloc, board, width, height)?;
+    let board = BoardBuffers::<W>::new(alloc, board, width, height)?;
     let mut board = Board::unknown(board, width, height);
-    let mut branches = emptied(alloc, branches, board.lines().count())?;
+    let mut branches = cleared_with_capacity(alloc, branches, board.lines().count())?;
     let solutions = Solutions::new(alloc, width, height)?;
     let findings = findings(
         &mut trials,
@@ -187,9 +188,9 @@ fn report_within<W: LineSet>(
         guesses,
         pick,
     );
-    *kept = Some(Room {
+    *buffers = Some(ReportBuffers {
         trials,
-        board: board.into_room(),
+        board: board.into_buffers(),
         branches,
     });
     Ok(findings)
@@ -199,9 +200,9 @@ fn report_within<W: LineSet>(
 /// set width.
 #[derive(Drop)]
 pub struct Reporter {
-    narrow: Option<Room<u64>>,
-    middle: Option<Room<u128>>,
-    wide: Option<Room<Wide>>,
+    narrow: Option<ReportBuffers<u64>>,
+    middle: Option<ReportBuffers<u128>>,
+    wide: Option<ReportBuffers<Bits256>>,
 }
 
 impl Reporter {
@@ -230,9 +231,9 @@ impl Reporter {
         ensures spent { IfOk result (λ findings. findings.spent ≤ guesses) }
     {
         match width_for(puzzle) {
-            Width::Narrow => report_within(&mut self.narrow, alloc, puzzle, guesses, pick),
-            Width::Middle => report_within(&mut self.middle, alloc, puzzle, guesses, pick),
-            Width::Wide => report_within(&mut self.wide, alloc, puzzle, guesses, pick),
+            SetWidth::Narrow => report_within(&mut self.narrow, alloc, puzzle, guesses, pick),
+            SetWidth::Middle => report_within(&mut self.middle, alloc, puzzle, guesses, pick),
+            SetWidth::Wide => report_within(&mut self.wide, alloc, puzzle, guesses, pick),
         }
     }
 }

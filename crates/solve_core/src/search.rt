@@ -7,20 +7,20 @@ ghost use Rattle.solve_core.specs.Search.{Event, guess_at, events};
 ghost use Rattle.solve_core.specs.Picks.{picked};
 ghost use Rattle.solve_core.specs.declared.picks.Pick.TheVariants.{First};
 ghost use Rattle.solve_core.specs.Sizes.{IsSizeOf};
-ghost use Rattle.solve_core.specs.steps.Marks.{IsAtRest};
-ghost use Rattle.solve_core.specs.steps.Closers.{IsIdle};
+ghost use Rattle.solve_core.specs.steps.Worklist.{IsAtFixpoint};
+ghost use Rattle.solve_core.specs.steps.Propagation.{HasNoDirtyLine};
 ghost use Rattle.solve_core.specs.steps.Guesses.{GoesOn};
 ghost use Rattle.solve_core.specs.steps.Endings.{ending};
 ghost use Rattle.solve_core.specs.steps.Boards.{IsBoardOf};
-ghost use Rattle.solve_core.specs.steps.Branches.{AreKnownBefore, IsClosed, IsNext, IsOpen, IsWork, AreOlder, pending, open_events};
+ghost use Rattle.solve_core.specs.steps.Branches.{AreKnownBefore, IsClosed, IsNext, IsNextCell, AreBranchesOf, AreOlder, pending, events_from_cell};
 
 use crate::boards::Board;
 use crate::branches::{Branch, take_guess};
-use crate::closures::Closer;
 use crate::picks::Pick;
+use crate::propagation::Propagator;
 use crate::solutions::Solutions;
 use grid_core::{Cell, Puzzle};
-use line_core::LineSet;
+use line_core::LineBits;
 
 /// How a search ended: whether the limit on guesses cut it short, and how many guesses it spent.
 #[derive(Clone, Copy, Debug)]
@@ -32,7 +32,7 @@ pub struct SearchEnd {
 /// Returns the index of the cell to guess next by the rule `pick`; `None` if the board is full.
 /// With `Pick::First` no cell before `start` may be unknown.
 #[tactic(auto, using(crate::proofs::SearchSteps::first_from))]
-fn next_place<W: LineSet>(board: &Board<W>, start: usize, pick: Pick) -> Option<usize>
+fn next_place<W: LineBits>(board: &Board<W>, start: usize, pick: Pick) -> Option<usize>
     requires start { start ≤ length board.now.cells }
     requires known { pick ≡ First → AreKnownBefore start board.now.cells }
     ensures { result ≡ picked pick board.now.width board.now.cells }
@@ -45,7 +45,7 @@ fn next_place<W: LineSet>(board: &Board<W>, start: usize, pick: Pick) -> Option<
 
 /// Returns the index of the cell to guess next on a closed board. If there is none, the board is a
 /// solution, and is added to `solutions`. With `Pick::First` no cell before `start` may be unknown.
-fn look_at<W: LineSet>(
+fn next_guess_or_solution<W: LineBits>(
     board: &Board<W>,
     start: usize,
     pick: Pick,
@@ -55,20 +55,21 @@ fn look_at<W: LineSet>(
     requires known { pick ≡ First → AreKnownBefore start board.now.cells }
     requires width { board.now.width ≡ solutions.old.width }
     requires height { board.now.height ≡ solutions.old.height }
-    requires room { length solutions.old.grids < 2 }
+    requires few { length solutions.old.grids < 2 }
     ensures ending { (p : Nonogram) → IsSizeOf p solutions.old.width solutions.old.height →
         (spent left : ℕ) (rest : List Event) →
         ending p solutions.new.grids spent left
-        (open_events (picked pick board.now.width) (lines_of p) board.now.cells result rest)
+        (events_from_cell (picked pick board.now.width) (lines_of p) board.now.cells result rest)
         ≡ ending p solutions.old.grids spent left
         (guess_at (events (picked pick board.now.width) (lines_of p)) board.now.cells
         (picked pick board.now.width board.now.cells) ++ rest) }
     ensures fewer { (p : Nonogram) (rest : List Event) →
-        length (open_events (picked pick board.now.width) (lines_of p) board.now.cells result rest)
+        length
+        (events_from_cell (picked pick board.now.width) (lines_of p) board.now.cells result rest)
         ≤ length (guess_at (events (picked pick board.now.width) (lines_of p)) board.now.cells
         (picked pick board.now.width board.now.cells) ++ rest) }
     ensures next { (p : Nonogram) → IsClosed (lines_of p) board.now.cells →
-        IsOpen (picked pick board.now.width) (lines_of p) board.now.cells result }
+        IsNextCell (picked pick board.now.width) (lines_of p) board.now.cells result }
     ensures found { length solutions.new.grids ≤ 2 }
     ensures width { solutions.new.width ≡ solutions.old.width }
     ensures height { solutions.new.height ≡ solutions.old.height }
@@ -84,8 +85,8 @@ fn look_at<W: LineSet>(
 
 /// Guesses `colour` at the cell with index `place`, and propagates. Returns the index of the cell
 /// to guess next; `None` if the board is dead, or a solution, which is added to `solutions`.
-fn explore<W: LineSet>(
-    closer: &mut Closer<W>,
+fn guess_and_propagate<W: LineBits>(
+    propagator: &mut Propagator<W>,
     puzzle: &Puzzle,
     board: &mut Board<W>,
     place: usize,
@@ -95,37 +96,37 @@ fn explore<W: LineSet>(
 ) -> Option<usize>
     requires size { IsSizeOf puzzle.now solutions.old.width solutions.old.height }
     requires board { IsBoardOf puzzle.now board.old }
-    requires rest { IsAtRest puzzle.now closer.old board.old.cells }
+    requires fixpoint { IsAtFixpoint puzzle.now propagator.old board.old.cells }
     requires next { IsNext (picked pick puzzle.now.width) (lines_of puzzle.now)
         board.old.cells place }
     requires colour { is_known colour ≡ true }
     requires found { length solutions.old.grids < 2 }
     ensures goes_on { (branches : List BranchValue) →
-        IsWork (picked pick puzzle.now.width) (lines_of puzzle.now)
+        AreBranchesOf (picked pick puzzle.now.width) (lines_of puzzle.now)
         board.old.cells board.old.trail branches →
         GoesOn (picked pick puzzle.now.width) puzzle.now
         (events (picked pick puzzle.now.width) (lines_of puzzle.now)
         (slice_set board.old.cells place colour))
         branches board.old solutions.old.grids board.new solutions.new.grids result }
-    ensures idle { IsIdle puzzle.now closer.new }
+    ensures clean { HasNoDirtyLine puzzle.now propagator.new }
     ensures board { IsBoardOf puzzle.now board.new }
     ensures found { length solutions.new.grids ≤ 2 }
     ensures size { IsSizeOf puzzle.now solutions.new.width solutions.new.height }
 {
     // The board may have been undone since, so no lookahead table is known to be valid.
-    closer.forget_fresh();
-    if !closer.guess(puzzle, board, place, colour) {
+    propagator.forget_fresh();
+    if !propagator.guess(puzzle, board, place, colour) {
         return None;
     }
     // With `Pick::First` all cells before the guessed one are known.
-    look_at(board, place, pick, solutions)
+    next_guess_or_solution(board, place, pick, solutions)
 }
 
 /// Searches for solutions from a board at its fixpoint, until two are found, no guess is left, or a
 /// guess is left but `guesses` of them are spent. Works on the board itself, which is undone by its
 /// trail; each filled guess stays on `branches` until its cell is guessed blank.
-pub fn search<W: LineSet>(
-    closer: &mut Closer<W>,
+pub fn search<W: LineBits>(
+    propagator: &mut Propagator<W>,
     puzzle: &Puzzle,
     board: &mut Board<W>,
     branches: &mut Vec<Branch>,
@@ -135,16 +136,16 @@ pub fn search<W: LineSet>(
 ) -> SearchEnd
     requires size { IsSizeOf puzzle.now solutions.old.width solutions.old.height }
     requires board { IsBoardOf puzzle.now board.old }
-    requires rest { IsAtRest puzzle.now closer.old board.old.cells }
+    requires fixpoint { IsAtFixpoint puzzle.now propagator.old board.old.cells }
     requires branches { branches.old.items ≡ [] }
     requires found { solutions.old.grids ≡ [] }
-    requires room { length board.old.cells ≤ vec_capacity branches.old }
+    requires capacity { length board.old.cells ≤ vec_capacity branches.old }
     ensures { record { found = solutions.new.grids; cut = result.cut; spent = result.spent }
         ≡ ending puzzle.now [] 0 guesses
         (events (picked pick puzzle.now.width) (lines_of puzzle.now) board.old.cells) }
 {
     let mut spent: u32 = 0;
-    let mut next = look_at(board, 0, pick, solutions);
+    let mut next = next_guess_or_solution(board, 0, pick, solutions);
     while solutions.len() < 2 {
         // The limit is checked after this, since it cuts the search short only if a guess is left.
         let Some((place, colour)) = take_guess(board, branches, next) else {
@@ -154,7 +155,7 @@ pub fn search<W: LineSet>(
             return SearchEnd { cut: true, spent };
         }
         spent += 1;
-        next = explore(closer, puzzle, board, place, colour, pick, solutions);
+        next = guess_and_propagate(propagator, puzzle, board, place, colour, pick, solutions);
     }
     SearchEnd { cut: false, spent }
 }

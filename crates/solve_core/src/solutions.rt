@@ -7,7 +7,7 @@ ghost use Rattle.solve_core.specs.Report.{verdict_by};
 use crate::Verdict;
 use crate::grid_lines::GridLines;
 use grid_core::{Grid, NoMemory};
-use line_core::LineSet;
+use line_core::LineBits;
 use std::alloc::Global;
 use std::marker::Model;
 
@@ -61,8 +61,8 @@ impl Solutions {
     }
 
     /// Appends the grid `lines`. There have to be fewer than two solutions.
-    pub fn keep<W: LineSet>(&mut self, lines: &GridLines<W>)
-        requires room { length self.old.grids < 2 }
+    pub fn keep<W: LineBits>(&mut self, lines: &GridLines<W>)
+        requires few { length self.old.grids < 2 }
         requires width { lines.now.width ≡ self.old.width }
         requires height { lines.now.height ≡ self.old.height }
         ensures { self.new ≡ record self.old {

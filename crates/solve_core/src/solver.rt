@@ -8,23 +8,23 @@ ghost use Rattle.solve_core.specs.Closure.{if_alive};
 
 use crate::widths::width_for;
 use crate::workspaces::Workspace;
+use bit_sets::Bits256;
 use grid_core::{Grid, NoMemory, Puzzle};
-use line_core::Width;
-use place_sets::Wide;
+use line_core::SetWidth;
 use std::alloc::Global;
 use std::marker::Model;
 
 /// A workspace in the narrowest sets that fit its puzzle.
 #[derive(Drop)]
-pub enum Fitting<'p> {
+pub enum AnyWorkspace<'p> {
     Narrow(Workspace<'p, u64>),
     Middle(Workspace<'p, u128>),
-    Wide(Workspace<'p, Wide>),
+    Wide(Workspace<'p, Bits256>),
 }
 
 /// A puzzle with the buffers for closing its grids under line deduction or trials.
 pub struct Solver<'p> {
-    workspace: Fitting<'p>,
+    workspace: AnyWorkspace<'p>,
 }
 
 /// Written by hand so that callers' proofs see one call: a derived drop is expanded at each exit of
@@ -37,11 +37,11 @@ impl Drop for Solver<'_> {
 
 impl<'p> Model for Solver<'p> {
     ghost use Rattle.grid_core.specs.Nonogram.{Nonogram};
-    ghost use Rattle.solve_core.specs.Fittings.{fitted_puzzle};
+    ghost use Rattle.solve_core.specs.Workspaces.{puzzle_of_workspace};
 
     ghost Value = { Nonogram };
 
-    ghost view = { λ s. fitted_puzzle s.workspace };
+    ghost view = { λ s. puzzle_of_workspace s.workspace };
 }
 
 impl<'p> Solver<'p> {
@@ -50,9 +50,9 @@ impl<'p> Solver<'p> {
         ensures { IfOk result (λ solver. solver ≡ puzzle.now) }
     {
         let workspace = match width_for(puzzle) {
-            Width::Narrow => Fitting::Narrow(Workspace::new(alloc, puzzle)?),
-            Width::Middle => Fitting::Middle(Workspace::new(alloc, puzzle)?),
-            Width::Wide => Fitting::Wide(Workspace::new(alloc, puzzle)?),
+            SetWidth::Narrow => AnyWorkspace::Narrow(Workspace::new(alloc, puzzle)?),
+            SetWidth::Middle => AnyWorkspace::Middle(Workspace::new(alloc, puzzle)?),
+            SetWidth::Wide => AnyWorkspace::Wide(Workspace::new(alloc, puzzle)?),
         };
         Ok(Solver { workspace })
     }
@@ -68,9 +68,9 @@ impl<'p> Solver<'p> {
         ensures puzzle { self.new ≡ self.old }
     {
         match &mut self.workspace {
-            Fitting::Narrow(workspace) => workspace.close_lines(grid),
-            Fitting::Middle(workspace) => workspace.close_lines(grid),
-            Fitting::Wide(workspace) => workspace.close_lines(grid),
+            AnyWorkspace::Narrow(workspace) => workspace.close_lines(grid),
+            AnyWorkspace::Middle(workspace) => workspace.close_lines(grid),
+            AnyWorkspace::Wide(workspace) => workspace.close_lines(grid),
         }
     }
 
@@ -84,9 +84,9 @@ impl<'p> Solver<'p> {
         ensures puzzle { self.new ≡ self.old }
     {
         match &mut self.workspace {
-            Fitting::Narrow(workspace) => workspace.close_trials(grid),
-            Fitting::Middle(workspace) => workspace.close_trials(grid),
-            Fitting::Wide(workspace) => workspace.close_trials(grid),
+            AnyWorkspace::Narrow(workspace) => workspace.close_trials(grid),
+            AnyWorkspace::Middle(workspace) => workspace.close_trials(grid),
+            AnyWorkspace::Wide(workspace) => workspace.close_trials(grid),
         }
     }
 }

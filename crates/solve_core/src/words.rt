@@ -1,18 +1,18 @@
 //! The words of a bit set, of 64 indices each.
 ghost use Rattle.std.specs.Prelude.{◌≡◌, ℕ, ◌+◌, ◌<◌, false};
-ghost use Rattle.place_sets.specs.Masks.{Has, IsMarked, IsMaskOf};
+ghost use Rattle.bit_sets.specs.Masks.{Has, IsWithBit, IsMaskOf};
 
-use line_core::LineSet;
-use place_sets::PlaceSet;
+use bit_sets::BitSet;
+use line_core::LineBits;
 
 /// How many indices a word has.
 pub const WORD: u16 = 64;
 
 /// Returns those of the 64 indices from `from` on that are in `set`, as a word in which they count
 /// from 0.
-pub fn word_from<W: LineSet>(set: W, from: u16) -> u64
+pub fn word_from<W: LineBits>(set: W, from: u16) -> u64
     requires { from < W.WIDTH }
-    ensures { IsMaskOf (λ i. (i < 64) × Has (W.number set) (i + from)) result }
+    ensures { IsMaskOf (λ i. (i < 64) × Has (W.bits set) (i + from)) result }
 {
     u64::narrowed(set.shifted_down(from).widened())
 }
@@ -22,7 +22,7 @@ pub fn without_first(word: u64) -> u64
     requires { 0 < word }
     ensures less { result < word }
     ensures rest { (k : ℕ) → Has word k → ((i : ℕ) → i < k → Has word i → ⊥)
-        → IsMaskOf (IsMarked (Has word) k false) result }
+        → IsMaskOf (IsWithBit (Has word) k false) result }
 {
     // Clears the lowest bit in one step, without looking for it.
     word & (word - 1)

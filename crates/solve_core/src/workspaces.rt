@@ -7,26 +7,26 @@ ghost use Rattle.solve_core.specs.Trials.{trials};
 ghost use Rattle.solve_core.specs.Closure.{if_alive};
 ghost use Rattle.solve_core.specs.steps.Widths.{FitsIn};
 
-use crate::boards::{Board, BoardRoom};
+use crate::boards::{Board, BoardBuffers};
 use crate::trials::Trials;
 use grid_core::{Grid, NoMemory, Puzzle};
-use line_core::LineSet;
+use line_core::LineBits;
 use std::alloc::Global;
 use std::marker::Model;
 
 /// A puzzle with the buffers for closing its grids, in sets that fit its lines and the numbers of
 /// its clues.
 #[derive(Drop)]
-pub struct Workspace<'p, W: LineSet> {
+pub struct Workspace<'p, W: LineBits> {
     puzzle: &'p Puzzle,
     trials: Trials<W>,
     board: Board<W>,
 }
 
-impl<'p, W: LineSet> Model for Workspace<'p, W> {
+impl<'p, W: LineBits> Model for Workspace<'p, W> {
     ghost use Rattle.grid_core.specs.Nonogram.{Nonogram};
     ghost use Rattle.solve_core.specs.steps.Boards.{IsBoardOf};
-    ghost use Rattle.solve_core.specs.steps.Tried.{HasRoomFor};
+    ghost use Rattle.solve_core.specs.steps.TrialState.{HasRoomFor};
 
     ghost Value = { Nonogram };
 
@@ -35,7 +35,7 @@ impl<'p, W: LineSet> Model for Workspace<'p, W> {
     ghost invariant = { λ s. HasRoomFor s.puzzle.now s.trials × IsBoardOf s.puzzle.now s.board };
 }
 
-impl<'p, W: LineSet> Workspace<'p, W> {
+impl<'p, W: LineBits> Workspace<'p, W> {
     /// Allocates all buffers that closing takes. Fails with `NoMemory` if an allocation fails.
     pub fn new(alloc: Global, puzzle: &'p Puzzle) -> Result<Workspace<'p, W>, NoMemory>
         requires { FitsIn W.WIDTH puzzle.now }
@@ -43,7 +43,7 @@ impl<'p, W: LineSet> Workspace<'p, W> {
     {
         let (width, height) = (puzzle.width(), puzzle.height());
         let trials = Trials::new(alloc, None, puzzle)?;
-        let board = BoardRoom::new(alloc, None, width, height)?;
+        let board = BoardBuffers::new(alloc, None, width, height)?;
         Ok(Workspace {
             puzzle,
             trials,
@@ -60,9 +60,9 @@ impl<'p, W: LineSet> Workspace<'p, W> {
         ensures size { HasSizeOf self.old grid.new }
         ensures puzzle { self.new ≡ self.old }
     {
-        self.board.read(grid);
+        self.board.load(grid);
         let trials = &mut self.trials;
-        let alive = self.board.close(&mut trials.closer, self.puzzle);
+        let alive = self.board.close(&mut trials.propagator, self.puzzle);
         self.board.lines().write(grid);
         alive
     }
@@ -75,8 +75,8 @@ impl<'p, W: LineSet> Workspace<'p, W> {
         ensures size { HasSizeOf self.old grid.new }
         ensures puzzle { self.new ≡ self.old }
     {
-        self.board.read(grid);
-        let alive = self.trials.try_board(self.puzzle, &mut self.board);
+        self.board.load(grid);
+        let alive = self.trials.close_trials(self.puzzle, &mut self.board);
         self.board.lines().write(grid);
         alive
     }

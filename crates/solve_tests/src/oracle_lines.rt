@@ -47,7 +47,7 @@ pub fn full_lines(alloc: Global, len: u16, clue: &[u16]) -> Result<Vec<u64>, All
 fn agrees(full: u64, line: &[Cell]) -> bool {
     let mut rest = full;
     for cell in line {
-        if cell.is_known() && *cell != Cell::of_colour(rest % 2 == 1) {
+        if cell.is_known() && *cell != Cell::from_filled(rest % 2 == 1) {
             return false;
         }
         rest /= 2;

@@ -4,7 +4,7 @@ ghost use Rattle.std.specs.Prelude.{◌≡◌, ◌<◌, IfOk};
 ghost use Rattle.grid_core.specs.PartialGrid.{IsSize};
 
 use crate::oracle_lines::{Cells, runs};
-use grid_core::{Cell, Clue, Grid, LONGEST_SIDE, NoMemory, Puzzle, Texts};
+use grid_core::{Cell, Clue, Grid, MAX_SIDE, NoMemory, Puzzle, Texts};
 use std::alloc::{AllocError, Global};
 use std::test::Fail;
 
@@ -52,8 +52,8 @@ pub fn push_partly_known(
     for _ in 0..len {
         let filled = rest % 2 == 1;
         cells.push(match draws.draw() % 64 {
-            0 => Cell::of_colour(!filled),
-            draw if draw < known => Cell::of_colour(filled),
+            0 => Cell::from_filled(!filled),
+            draw if draw < known => Cell::from_filled(filled),
             _ => Cell::Unknown,
         })?;
         rest /= 2;
@@ -201,7 +201,7 @@ fn clues_of(alloc: Global, lists: &[&[u16]]) -> Option<Vec<Clue>> {
 /// Returns the puzzle with these clues of its rows and of its columns. `None` if there is no such
 /// puzzle, or if an allocation fails.
 pub fn puzzle_with(alloc: Global, rows: &[&[u16]], columns: &[&[u16]]) -> Option<Puzzle> {
-    let longest = usize::from(LONGEST_SIDE);
+    let longest = usize::from(MAX_SIDE);
     if rows.len() > longest || columns.len() > longest {
         return None;
     }

@@ -7,7 +7,7 @@ use crate::oracle_closing::{PlainLine, closure, plain_lines, trials};
 use crate::oracle_lines::Cells;
 use crate::oracle_picks::picked;
 use crate::test_puzzles::*;
-use grid_core::{Cell, Grid, LONGEST_SIDE, NoMemory, Puzzle, Texts};
+use grid_core::{Cell, Grid, MAX_SIDE, NoMemory, Puzzle, Texts};
 use solve_core::{Pick, Reporter, Solver, line_grid, next_guess};
 use std::alloc::{AllocError, Global};
 use std::test::Fail;
@@ -111,7 +111,7 @@ fn drawn_puzzles_are_closed_alike(rt: HostRuntime) -> Result<(), Fail> {
 
 /// Reports whether `next_guess` picks the cell that the oracle picks, by both rules.
 fn is_guessed_alike(alloc: Global, width: u16, height: u16, cells: &[Cell]) -> Result<bool, Fail> {
-    if width == 0 || width > LONGEST_SIDE || height == 0 || height > LONGEST_SIDE {
+    if width == 0 || width > MAX_SIDE || height == 0 || height > MAX_SIDE {
         return Ok(false);
     }
     let grid = grid_of(alloc, width, height, cells)?;

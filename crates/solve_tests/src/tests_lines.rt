@@ -5,9 +5,9 @@ ghost use Rattle.std.specs.Prelude.{◌≤◌};
 
 use crate::oracle_lines::{Cells, deduced, full_lines, runs};
 use crate::test_puzzles::{Draws, numbered_cells, push_partly_known};
-use grid_core::{Cell, Clue, LONGEST_SIDE};
+use bit_sets::{BitSet, Bits256};
+use grid_core::{Cell, Clue, MAX_SIDE};
 use line_core::*;
-use place_sets::{PlaceSet, Wide};
 use std::alloc::{AllocError, Global};
 use std::test::Fail;
 
@@ -99,7 +99,7 @@ fn push_end(cells: &mut Cells, end: End) -> Result<(), AllocError> {
     let (len, full) = end;
     let mut rest = full;
     for _ in 0..len {
-        cells.push(Cell::of_colour(rest % 2 == 1))?;
+        cells.push(Cell::from_filled(rest % 2 == 1))?;
         rest /= 2;
     }
     Ok(())
@@ -203,7 +203,7 @@ fn cells_drawn(alloc: Global, text: &[u8]) -> Result<Cells, AllocError> {
 /// they should, both while no cell is known and once the outermost cells are filled, whether the
 /// line is then deduced, and whether runs that do not fit have no placing.
 fn ends_start_well(alloc: Global, len: u16, starts: &mut Starts) -> Result<bool, Fail>
-    requires { (10 ≤ len) × (len ≤ LONGEST_SIDE) }
+    requires { (10 ≤ len) × (len ≤ MAX_SIDE) }
 {
     let mut line = Line::unknown(len);
     let pair = Clue::from_numbers(alloc, &[2, 2])?;
@@ -219,7 +219,7 @@ fn ends_start_well(alloc: Global, len: u16, starts: &mut Starts) -> Result<bool,
     };
     for i in 0..answer.len() {
         let is_filled = i < 2 || len - 2 <= i;
-        if answer.get(i) != Cell::of_colour(is_filled) {
+        if answer.get(i) != Cell::from_filled(is_filled) {
             return Ok(false);
         }
     }
@@ -269,11 +269,11 @@ fn starts_come_out(rt: HostRuntime) -> Result<(), Fail> {
 
 /// Returns how many different hashes 1,000 lines have, each of which differs from the one before it
 /// in one cell.
-fn hashes<W: PlaceSet>(alloc: Global, len: u16) -> Result<usize, Fail>
+fn hashes<W: BitSet>(alloc: Global, len: u16) -> Result<usize, Fail>
     requires { (1 ≤ len) × (len ≤ W.WIDTH) }
 {
     let mut draws = Draws(1);
-    let mut line = LineOf::<W>::unknown(len);
+    let mut line = BitLine::<W>::unknown(len);
     let mut hashes = Vec::new(alloc);
     for _ in 0..1000 {
         let i = (draws.draw() % u64::from(line.len())) as u16;
@@ -296,24 +296,24 @@ fn unlike_lines_seldom_share_a_hash(rt: HostRuntime) -> Result<(), Fail> {
     let alloc = rt.alloc();
     assert!(rt; hashes::<u64>(alloc, 64)? >= 900, "64");
     assert!(rt; hashes::<u128>(alloc, 128)? >= 900, "128");
-    assert!(rt; hashes::<Wide>(alloc, 256)? >= 900, "256");
+    assert!(rt; hashes::<Bits256>(alloc, 256)? >= 900, "256");
     Ok(())
 }
 
 /// Reports whether the lookahead table of five unknown cells with the clue 2 1 has the right inert
 /// cells. The placings are `##.#.`, `##..#` and `.##.#`, so only the second cell, filled, deduces
 /// nothing else.
-fn knows_inert_cells<W: LineSet>(alloc: Global) -> Result<bool, Fail>
+fn knows_inert_cells<W: LineBits>(alloc: Global) -> Result<bool, Fail>
     requires { 5 ≤ W.WIDTH }
 {
     let mut tables = Tables::new(alloc, 256)?;
-    let mut room = PairRoom::new(alloc, 2)?;
-    let mut table = PairTable::<W>::new(alloc)?;
+    let mut buffers = LookaheadBuffers::new(alloc, 2)?;
+    let mut table = LookaheadTable::<W>::new(alloc)?;
     let clue = Clue::from_numbers(alloc, &[2, 1])?;
-    table.write(&mut tables, &mut room, &LineOf::unknown(5), &clue);
-    let filled = table.neutral_cells(true);
-    let blank = table.neutral_cells(false);
-    Ok(filled.contains(1) && filled.marked(1, false).is_empty() && blank.is_empty())
+    table.write(&mut tables, &mut buffers, &BitLine::unknown(5), &clue);
+    let filled = table.inert_cells(true);
+    let blank = table.inert_cells(false);
+    Ok(filled.contains(1) && filled.with_bit(1, false).is_empty() && blank.is_empty())
 }
 
 #[test]
@@ -321,6 +321,6 @@ fn tables_know_inert_cells(rt: HostRuntime) -> Result<(), Fail> {
     let alloc = rt.alloc();
     assert!(rt; knows_inert_cells::<u64>(alloc)?, "64");
     assert!(rt; knows_inert_cells::<u128>(alloc)?, "128");
-    assert!(rt; knows_inert_cells::<Wide>(alloc)?, "256");
+    assert!(rt; knows_inert_cells::<Bits256>(alloc)?, "256");
     Ok(())
 }

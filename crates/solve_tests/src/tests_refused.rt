@@ -2,8 +2,8 @@
 //! turn, and calls that allocate nothing are made with every allocation failing.
 
 use crate::test_puzzles::puzzle_with;
+use alloc_failures::{CallResult, SweepFailure, arm, disarm, expected_if, is_active, sweep};
 use grid_core::{Grid, NoMemory, Puzzle};
-use refusals::{Told, Unswept, is_heeded, refuse, sweep, told_if, was_refused};
 use solve_core::*;
 use std::alloc::Global;
 use std::test::Fail;
@@ -24,8 +24,8 @@ fn solvers_are_made_or_refused(rt: HostRuntime) -> Result<(), Fail> {
     let alloc = rt.alloc();
     let puzzle = puzzle_with(alloc, &[&[2]], &[ONE, ONE]).ok_or("puzzle")?;
     sweep(alloc, || match known_by_lines(alloc, &puzzle) {
-        Ok(known) => told_if(known == 2),
-        Err(NoMemory) => Told::NoMemory,
+        Ok(known) => expected_if(known == 2),
+        Err(NoMemory) => CallResult::NoMemory,
     })?;
     Ok(())
 }
@@ -35,9 +35,9 @@ fn line_grids_are_made_or_refused(rt: HostRuntime) -> Result<(), Fail> {
     let alloc = rt.alloc();
     let puzzle = puzzle_with(alloc, &[&[2]], &[ONE, ONE]).ok_or("puzzle")?;
     sweep(alloc, || match line_grid(alloc, &puzzle) {
-        Ok(Some(grid)) => told_if(grid.known() == 2),
-        Ok(None) => Told::Other,
-        Err(NoMemory) => Told::NoMemory,
+        Ok(Some(grid)) => expected_if(grid.known() == 2),
+        Ok(None) => CallResult::Other,
+        Err(NoMemory) => CallResult::NoMemory,
     })?;
     Ok(())
 }
@@ -60,12 +60,12 @@ fn is_found(findings: &Findings, puzzle: &Puzzle, guesses: u32) -> bool {
 
 /// Makes a report of at most `guesses` guesses with each allocation failing in turn. Returns how
 /// many allocations failed.
-fn growths_with(alloc: Global, puzzle: &Puzzle, guesses: u32) -> Result<usize, Unswept> {
+fn growths_with(alloc: Global, puzzle: &Puzzle, guesses: u32) -> Result<usize, SweepFailure> {
     sweep(
         alloc,
         || match report(alloc, puzzle, guesses, Pick::First) {
-            Ok(findings) => told_if(is_found(&findings, puzzle, guesses)),
-            Err(NoMemory) => Told::NoMemory,
+            Ok(findings) => expected_if(is_found(&findings, puzzle, guesses)),
+            Err(NoMemory) => CallResult::NoMemory,
         },
     )
 }
@@ -92,11 +92,11 @@ fn closing_takes_no_memory(rt: HostRuntime) -> Result<(), Fail> {
     let puzzle = puzzle_with(alloc, &[&[2], &[1, 1]], &[ONE, ONE, ONE, ONE]).ok_or("puzzle")?;
     let mut grid = Grid::unknown(alloc, puzzle.width(), puzzle.height())?;
     let mut solver = Solver::new(alloc, &puzzle)?;
-    refuse(alloc, 0);
+    arm(alloc, 0);
     let by_lines = solver.close_lines(&mut grid) && grid.known() == 0;
     let by_trials = solver.close_trials(&mut grid) && puzzle.solved_by(&grid);
-    assert!(rt; !was_refused(alloc), "no growth");
+    assert!(rt; !disarm(alloc), "no growth");
     assert!(rt; by_lines && by_trials);
-    assert!(rt; is_heeded(alloc));
+    assert!(rt; is_active(alloc));
     Ok(())
 }

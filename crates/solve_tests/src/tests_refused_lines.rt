@@ -4,9 +4,9 @@
 ghost use Rattle.std.specs.Prelude.{◌≤◌};
 
 use crate::tests_lines::has_cells;
+use alloc_failures::{CallResult, arm, disarm, expected_if, is_active, sweep};
 use grid_core::{Cell, Clue, NoMemory};
 use line_core::*;
-use refusals::{Told, is_heeded, refuse, sweep, told_if, was_refused};
 use std::alloc::Global;
 use std::test::Fail;
 
@@ -39,8 +39,8 @@ fn tables_are_made_or_refused(rt: HostRuntime) -> Result<(), Fail> {
     let alloc = rt.alloc();
     let clue = Clue::from_numbers(alloc, &[8])?;
     sweep(alloc, || match Tables::new(alloc, 256) {
-        Ok(mut tables) => told_if(is_deduced_well(&mut tables, &clue)),
-        Err(NoMemory) => Told::NoMemory,
+        Ok(mut tables) => expected_if(is_deduced_well(&mut tables, &clue)),
+        Err(NoMemory) => CallResult::NoMemory,
     })?;
     Ok(())
 }
@@ -60,20 +60,20 @@ fn starts_are_made_or_refused(rt: HostRuntime) -> Result<(), Fail> {
     let clue = Clue::from_numbers(alloc, &[8])?;
     sweep(alloc, || match Starts::new(alloc) {
         Ok(mut starts) => {
-            told_if(starts.list().is_empty() && are_starts_well(&mut starts, &clue))
+            expected_if(starts.list().is_empty() && are_starts_well(&mut starts, &clue))
         }
-        Err(NoMemory) => Told::NoMemory,
+        Err(NoMemory) => CallResult::NoMemory,
     })?;
     Ok(())
 }
 
 /// Reports whether a line is set, copied, compared and hashed as expected.
 fn are_lines_well() -> bool {
-    let mut line = LineOf::<u64>::unknown(10);
+    let mut line = BitLine::<u64>::unknown(10);
     line.set(3, Cell::Filled);
     let mut copy = line.copy();
     copy.set(9, Cell::Blank);
-    let changed = line.changes(&copy) == 1 << 9;
+    let changed = line.diff(&copy) == 1 << 9;
     line.copy_from(&copy);
     changed && line.is_same(&copy) && line.hash() == copy.hash()
 }
@@ -84,12 +84,12 @@ fn lines_and_deductions_take_no_memory(rt: HostRuntime) -> Result<(), Fail> {
     let clue = Clue::from_numbers(alloc, &[8])?;
     let mut tables = Tables::new(alloc, 256)?;
     let mut starts = Starts::new(alloc)?;
-    refuse(alloc, 0);
+    arm(alloc, 0);
     let deduced = is_deduced_well(&mut tables, &clue);
     let started = are_starts_well(&mut starts, &clue);
     let well = are_lines_well();
-    assert!(rt; !was_refused(alloc), "no growth");
+    assert!(rt; !disarm(alloc), "no growth");
     assert!(rt; deduced && started && well);
-    assert!(rt; is_heeded(alloc));
+    assert!(rt; is_active(alloc));
     Ok(())
 }

@@ -1,2 +1,2 @@
 -- Lemmas about texts that are sent in several writes.
-pub mod Front
+pub mod Prefix

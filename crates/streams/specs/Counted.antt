@@ -7,9 +7,9 @@ abbrev pub fault_count : {T : Type 0} → Counted T → ℕ
 fault_count counted = counted.faults
 
 -- `count`, or, if the test holds, one more, but at most the greatest `u32`
-abbrev pub one_more_if : Bool → ℕ → ℕ
-one_more_if true count = min (count + 1) (2 ^ 32 - 1)
-one_more_if false count = count
+abbrev pub saturating_inc_if : Bool → ℕ → ℕ
+saturating_inc_if true count = min (count + 1) (2 ^ 32 - 1)
+saturating_inc_if false count = count
 
 -- a write of `bytes` returned an error, or took none of at least one byte
 abbrev pub write_failed : {E : Type 0} → Result ℕ E → List ℕ → Bool

@@ -9,5 +9,5 @@ abbrev pub joined : List (Vec ℕ Global) → List ℕ
 joined texts = flat_map (λ text. text.items) texts
 
 -- the first `sent` bytes of `text` were appended to what a writer held, and nothing else
-abbrev pub SendsFront : List ℕ → ℕ → Option (List ℕ) → Option (List ℕ) → Type 0
-SendsFront text sent old new = (sent ≤ length text) × Appends old new (take sent text)
+abbrev pub WritesPrefix : List ℕ → ℕ → Option (List ℕ) → Option (List ℕ) → Type 0
+WritesPrefix text sent old new = (sent ≤ length text) × Appends old new (take sent text)

@@ -2,7 +2,7 @@
 ghost use Rattle.std.specs.Prelude.{◌≡◌, is_err};
 ghost use Rattle.std.specs.Io.{ReadsAtMost, WritesAtMost};
 ghost use Rattle.std.specs.Io.KnownBytes.{Keeps, ReadConsumes, WriteAppends};
-ghost use Rattle.streams.specs.Counted.{fault_count, one_more_if, write_failed};
+ghost use Rattle.streams.specs.Counted.{fault_count, saturating_inc_if, write_failed};
 
 use std::io;
 use std::io::{Read, Write};
@@ -38,7 +38,8 @@ impl<R: Read> Counted<R> {
         ensures bound { ReadsAtMost result buffer.new }
         ensures bytes { ReadConsumes (R.remaining self.old.inner) (R.remaining self.new.inner)
             result buffer.new }
-        ensures counts { fault_count self.new ≡ one_more_if (is_err result) (fault_count self.old) }
+        ensures counts { fault_count self.new
+            ≡ saturating_inc_if (is_err result) (fault_count self.old) }
     {
         let answer = self.inner.read(buffer);
         if answer.is_err() {
@@ -56,7 +57,7 @@ impl<W: Write> Counted<W> {
         ensures bytes { WriteAppends (W.contents self.old.inner) (W.contents self.new.inner)
             result bytes.now }
         ensures counts { fault_count self.new
-            ≡ one_more_if (write_failed result bytes.now) (fault_count self.old) }
+            ≡ saturating_inc_if (write_failed result bytes.now) (fault_count self.old) }
     {
         let answer = self.inner.write(bytes);
         let failed = match &answer {
@@ -72,7 +73,8 @@ impl<W: Write> Counted<W> {
     /// Flushes `inner`, and counts an error.
     pub fn flush(&mut self) -> io::Result<()>
         ensures bytes { Keeps (W.contents self.old.inner) (W.contents self.new.inner) }
-        ensures counts { fault_count self.new ≡ one_more_if (is_err result) (fault_count self.old) }
+        ensures counts { fault_count self.new
+            ≡ saturating_inc_if (is_err result) (fault_count self.old) }
     {
         let answer = self.inner.flush();
         if answer.is_err() {

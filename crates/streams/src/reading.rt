@@ -39,8 +39,8 @@ pub fn read_within<R: Read>(
     let mut text = Vec::new(alloc);
     let mut buffer = [0u8; 8192];
     while text.len() < limit {
-        let room = buffer.len().min(limit - text.len());
-        let Ok(count) = reader.read(&mut buffer[..room]) else {
+        let allowed = buffer.len().min(limit - text.len());
+        let Ok(count) = reader.read(&mut buffer[..allowed]) else {
             return Err(ReadFault::Read);
         };
         if count == 0 {

@@ -3,7 +3,7 @@
 ghost use Rattle.std.specs.Prelude.{◌≡◌, ◌+◌, ◌++◌, ◌-◌, ◌^◌, ◌<◌, ◌≤◌, ◌↔◌, ℕ, length, take, IfOk, IfErr, IsErr, OnOk};
 ghost use Rattle.std.specs.Io.KnownBytes.{Appends, Keeps};
 ghost use Rattle.streams.specs.Counted.{fault_count};
-ghost use Rattle.streams.specs.Writing.{SendsFront, joined};
+ghost use Rattle.streams.specs.Writing.{WritesPrefix, joined};
 
 use crate::Counted;
 use std::io::Write;
@@ -19,8 +19,8 @@ pub fn write_text<W: Write>(writer: &mut Counted<W>, text: &[u8]) -> Result<(), 
     ensures failed { IsErr result ↔ (fault_count writer.old < fault_count writer.new) }
     ensures sound { OnOk result (fault_count writer.new ≡ fault_count writer.old) }
 {
-    let sent = write_behind(writer, 0, text)?;
-    flush_behind(writer, sent)
+    let sent = write_from(writer, 0, text)?;
+    flush_after(writer, sent)
 }
 
 /// Writes the texts of `front` and then `last`, and flushes once. An `Err` holds the number of
@@ -36,27 +36,27 @@ pub fn write_texts<W: Write>(
         (Appends (W.contents writer.old.inner) (W.contents writer.new.inner)
         (joined front.now ++ last.now)) }
     ensures sent { IfErr result (λ sent.
-        SendsFront (joined front.now ++ last.now) sent (W.contents writer.old.inner)
+        WritesPrefix (joined front.now ++ last.now) sent (W.contents writer.old.inner)
         (W.contents writer.new.inner)) }
     ensures failed { IsErr result ↔ (fault_count writer.old < fault_count writer.new) }
 {
     let mut sent = 0;
     for text in front {
-        sent = write_behind(writer, sent, text)?;
+        sent = write_from(writer, sent, text)?;
     }
-    sent = write_behind(writer, sent, last)?;
-    flush_behind(writer, sent)
+    sent = write_from(writer, sent, last)?;
+    flush_after(writer, sent)
 }
 
 /// Writes `text` after `before` bytes that were sent earlier. Returns the total number of bytes
 /// sent; an `Err` holds the total up to the failure.
-fn write_behind<W: Write>(writer: &mut Counted<W>, before: u64, text: &[u8]) -> Result<u64, u64>
+fn write_from<W: Write>(writer: &mut Counted<W>, before: u64, text: &[u8]) -> Result<u64, u64>
     requires writing { fault_count writer.old < 2 ^ 32 - 1 }
     requires counted { before + length text.now < 2 ^ 64 }
     ensures ok { IfOk result (λ sent. (sent ≡ before + length text.now) ×
         Appends (W.contents writer.old.inner) (W.contents writer.new.inner) text.now) }
     ensures sent { IfErr result (λ sent. (count : ℕ) × (sent ≡ before + count) ×
-        SendsFront text.now count
+        WritesPrefix text.now count
         (W.contents writer.old.inner) (W.contents writer.new.inner)) }
     ensures failed { IsErr result ↔ (fault_count writer.old < fault_count writer.new) }
     ensures sound { OnOk result (fault_count writer.new ≡ fault_count writer.old) }
@@ -73,7 +73,7 @@ fn write_behind<W: Write>(writer: &mut Counted<W>, before: u64, text: &[u8]) -> 
 }
 
 /// Flushes after `sent` bytes were sent. An `Err` holds `sent`.
-fn flush_behind<W: Write>(writer: &mut Counted<W>, sent: u64) -> Result<(), u64>
+fn flush_after<W: Write>(writer: &mut Counted<W>, sent: u64) -> Result<(), u64>
     requires { fault_count writer.old < 2 ^ 32 - 1 }
     ensures bytes { Keeps (W.contents writer.old.inner) (W.contents writer.new.inner) }
     ensures sent { IfErr result (λ count. count ≡ sent) }

@@ -40,10 +40,10 @@ abbrev pub AllLeft : List Job → ℕ → ℕ → List (List Answer) → Type 0
 AllLeft jobs n place xss = (k : ℕ) → k < n → AreAnswersTo (dealt_from place (drop place jobs) n k) (get_or xss k [])
 
 -- the queue whose turn it is has the answer to the next job, and then those to its share of the jobs after it
-gather_turn : {Q : Type 0} (f : Q → List Answer) (qs : List Q) (n place : ℕ) (q : Q) (job : Job) (rest jobs : List Job) → 0 < n
+interleave_turn : {Q : Type 0} (f : Q → List Answer) (qs : List Q) (n place : ℕ) (q : Q) (job : Job) (rest jobs : List Job) → 0 < n
     → length qs ≡ n → q ≡ get_or qs (place % n) q → drop place jobs ≡ job ∷ rest → AllLeft jobs n place (map f qs)
     → AreAnswersTo (job ∷ dealt_from (place + 1) rest n (place % n)) (f q)
-gather_turn f qs n place q job rest jobs some len e next left =
+interleave_turn f qs n place q job rest jobs some len e next left =
     let within : place % n < n = mod-lt place some in
     let at : get_or (map f qs) (place % n) [] ≡ f q = get_or-map f qs (place % n) q [] (omega arith) ∙ ap f (sym e) in
     let later = dealt_from (place + 1) rest n (place % n) in
@@ -51,38 +51,38 @@ gather_turn f qs n place q job rest jobs some len e next left =
     (rw (next, at) at (left (place % n) within))
 
 -- without its first answer, the queue whose turn it was has the answers to its share, and the others are unchanged
-gather_rest : (later : ℕ → List Job) (job : Job) (xss : List (List Answer)) (i k : ℕ) (own : List Answer) (b : Bool) → (i == k) ≡ b
+interleave_rest : (later : ℕ → List Job) (job : Job) (xss : List (List Answer)) (i k : ℕ) (own : List Answer) (b : Bool) → (i == k) ≡ b
     → i < length xss → AreAnswersTo (later i) own → AreAnswersTo (if b then job ∷ later k else later k) (get_or xss k [])
     → AreAnswersTo (later k) (get_or (set xss i own) k [])
-gather_rest later job xss i k own true e h now before =
+interleave_rest later job xss i k own true e h now before =
     let same : k ≡ i = grind (arith, nat_tests) in
     let at : get_or (set xss i own) k [] ≡ own = grind (arith, common_steps) in
     rw (at, same) now
-gather_rest later job xss i k own false e h now before =
+interleave_rest later job xss i k own false e h now before =
     rw (get_or-set_other xss i k own [] (λ same. grind (arith, nat_tests))) before
 
 -- as long as jobs are left, the queue whose turn it is is not empty
-pub gather_some : {Q : Type 0} (f : Q → List Answer) (qs : List Q) (n place : ℕ) (q : Q) (jobs : List Job) →
+pub interleave_some : {Q : Type 0} (f : Q → List Answer) (qs : List Q) (n place : ℕ) (q : Q) (jobs : List Job) →
     0 < n → length qs ≡ n → place < length jobs → q ≡ get_or qs (place % n) q → AllLeft jobs n place (map f qs) → f q ≡ [] → ⊥
-gather_some f qs n place q jobs some len h e left empty =
+interleave_some f qs n place q jobs some len h e left empty =
     let r = next_of jobs place h in
-    rw empty at (gather_turn f qs n place q r.0 (drop (suc place) jobs) jobs some len e r.1 left)
+    rw empty at (interleave_turn f qs n place q r.0 (drop (suc place) jobs) jobs some len e r.1 left)
 
 -- taking the first answer of the queue whose turn it is answers one more job, and leaves the answers to the jobs after it
-pub gather_next : {Q : Type 0} (f : Q → List Answer) (qs : List Q) (n place : ℕ) (q q' : Q) (jobs : List Job) (answer : Answer)
-    (gathered : List Answer) →
+pub interleave_next : {Q : Type 0} (f : Q → List Answer) (qs : List Q) (n place : ℕ) (q q' : Q) (jobs : List Job) (answer : Answer)
+    (interleaved : List Answer) →
     0 < n → length qs ≡ n → place < length jobs → q ≡ get_or qs (place % n) q → f q ≡ answer ∷ f q' →
-    AreAnswersTo (take place jobs) gathered → AllLeft jobs n place (map f qs) →
-    AreAnswersTo (take (place + 1) jobs) (gathered ++ answer ∷ []) × AllLeft jobs n (place + 1) (map f (set qs (place % n) q'))
-gather_next f qs n place q q' jobs answer gathered some len h e front before left =
+    AreAnswersTo (take place jobs) interleaved → AllLeft jobs n place (map f qs) →
+    AreAnswersTo (take (place + 1) jobs) (interleaved ++ answer ∷ []) × AllLeft jobs n (place + 1) (map f (set qs (place % n) q'))
+interleave_next f qs n place q q' jobs answer interleaved some len h e front before left =
     let r = next_of jobs place h in
     let next : place + 1 ≡ suc place = omega arith in
     let within : place % n < n = mod-lt place some in
-    let turn = rw front at (gather_turn f qs n place q r.0 (drop (suc place) jobs) jobs some len e r.1 left) in (
-      rw (next, r.2) (AreAnswersTo-push (take place jobs) gathered r.0 answer before turn.0),
+    let turn = rw front at (interleave_turn f qs n place q r.0 (drop (suc place) jobs) jobs some len e r.1 left) in (
+      rw (next, r.2) (AreAnswersTo-push (take place jobs) interleaved r.0 answer before turn.0),
       λ k b. rw (map-set f qs (place % n) q')
           (subst (λ (m : ℕ).
           AreAnswersTo (dealt_from (place + 1) (drop m jobs) n k) (get_or (set (map f qs) (place % n) (f q')) k [])) (sym next)
-          (gather_rest (dealt_from (place + 1) (drop (suc place) jobs) n) r.0 (map f qs) (place % n) k (f q') (place % n == k) refl
+          (interleave_rest (dealt_from (place + 1) (drop (suc place) jobs) n) r.0 (map f qs) (place % n) k (f q') (place % n == k) refl
           (omega (arith, length-map qs f)) turn.1 (rw r.1 at (left k b)))),
     )

@@ -1,6 +1,6 @@
 -- The modules of lemmas on surveys: entries read and graded, jobs dealt and answered, lane by lane, and progress.
 pub mod ProgressLemmas
-pub mod ReadingLemmas
+pub mod ParsingLemmas
 pub mod ListingLemmas
 pub mod DealtLemmas
 pub mod CollectedLemmas

@@ -10,28 +10,29 @@ use Rattle.lane_core.specs.Outcome.{IsOutcome}
 use Rattle.lane_core.specs.declared.answers.Answer.{Answer}
 use Rattle.survey_text.specs.Entries.{GradedEntry}
 use Rattle.survey_text.specs.Listings.{answered, if_graded, refused}
-use Rattle.survey_text.specs.Survey.{Guessing, graded, reported}
+use Rattle.survey_text.specs.Survey.{GuessSettings, graded, reported}
 use Rattle.survey_core.specs.steps.Graded.{AreGraded}
-use Rattle.survey_core.specs.steps.Readings.{fault_of, reading, readings}
+use Rattle.survey_core.specs.steps.ParsedEntries.{fault_of, parsed, parsed_all}
 
 -- an entry that was listed with an answer is the graded entry
-graded_is : (guesses : Guessing) (name : List ℕ) (p q : Nonogram) (outcome : Result Findings NoMemory) (entry : GradedEntry) → q ≡ p
+graded_is : (guesses : GuessSettings) (name : List ℕ) (p q : Nonogram) (outcome : Result Findings NoMemory) (entry : GradedEntry) → q ≡ p
     → IsOutcome p guesses.limit guesses.pick outcome → if_graded name q outcome ≡ Some entry
     → entry ≡ record { name = name; result = reported guesses (Ok p) }
 graded_is guesses name p q (Err refused) entry same is_outcome listed = cc
 graded_is guesses name p q (Ok findings) entry same is_outcome listed = cc
 
 -- if no entry is missing from what was listed, the graded entries were, even if further faults and answers follow
-pub listed_graded : (guesses : Guessing) (entries : List Entry) (read others : List (Result Nonogram EntryFault)) (answers : List Answer)
-    (all : List GradedEntry) → read ≡ readings entries ++ others → AreGraded guesses read answers
+pub listed_graded : (guesses : GuessSettings) (entries : List Entry) (read others : List (Result Nonogram EntryFault))
+    (answers : List Answer)
+    (all : List GradedEntry) → read ≡ parsed_all entries ++ others → AreGraded guesses read answers
     → answered entries (map fault_of read) answers ≡ map Some all → all ≡ map (graded guesses) (map shown_entry entries)
 listed_graded guesses [] read others answers [] same graded_so listed = refl
 listed_graded guesses (entry ∷ entries) (Err fault ∷ read) others answers (next ∷ all) same graded_so listed =
-    let here : Err fault ≡ reading entry = cc in
+    let here : Err fault ≡ parsed entry = cc in
     let rest = listed_graded guesses entries read others answers all (cc) graded_so (cc) in
     rw (← here) (cc)
 listed_graded guesses (entry ∷ entries) (Ok p ∷ read) others (answer ∷ answers) (next ∷ all) same graded_so listed =
-    let here : Ok p ≡ reading entry = cc in
+    let here : Ok p ≡ parsed entry = cc in
     let head = graded_is guesses entry.name.now p answer.puzzle answer.outcome next graded_so.0 graded_so.1 (cc) in
     let rest = listed_graded guesses entries read others answers all (cc) graded_so.2 (cc) in
     rw (← here) (cc)

@@ -3,35 +3,39 @@ use Rattle.std.proofs.Common.{◌≡◌, ℕ, ◌<◌, ◌≤◌, max, true, fal
 use Rattle.std.specs.Prelude.{nat_lt}
 use Rattle.std.proofs.lemmas.Bool.Decides.{nat_tests}
 use Rattle.std.proofs.lemmas.Grind.{flat_map-append}
-use Rattle.survey_core.specs.Progress.{greatest, if_risen, progress_line, risen, told_text}
+use Rattle.survey_core.specs.Progress.{greatest, if_increased, progress_line, increases, printed_text}
 
 -- with one more sample at the end, the greatest is that one or the greatest before it
-pub greatest-push : (told : ℕ) (looks : List ℕ) (look : ℕ) → greatest told (looks ++ look ∷ []) ≡ max (greatest told looks) look
-greatest-push told [] look = refl
-greatest-push told (first ∷ looks) look = greatest-push (max told first) looks look
+pub greatest-push : (last_printed : ℕ) (samples : List ℕ) (sample : ℕ)
+    → greatest last_printed (samples ++ sample ∷ []) ≡ max (greatest last_printed samples) sample
+greatest-push last_printed [] sample = refl
+greatest-push last_printed (first ∷ samples) sample = greatest-push (max last_printed first) samples sample
 
 -- one more sample is an increase if it is greater than all before it
-risen-push : (told : ℕ) (looks : List ℕ) (look : ℕ)
-    → risen told (looks ++ look ∷ []) ≡ risen told looks ++ if_risen (greatest told looks) look
-risen-push told [] look = append-nil (if_risen told look)
-risen-push told (first ∷ looks) look = rw (risen-push (max told first) looks look, append_assoc)
+increases-push : (last_printed : ℕ) (samples : List ℕ) (sample : ℕ)
+    → increases last_printed (samples ++ sample ∷ [])
+    ≡ increases last_printed samples ++ if_increased (greatest last_printed samples) sample
+increases-push last_printed [] sample = append-nil (if_increased last_printed sample)
+increases-push last_printed (first ∷ samples) sample = rw (increases-push (max last_printed first) samples sample, append_assoc)
 
 -- a sample that is no greater than all before it appends nothing
-pub told_text-same : (files : Option ℕ) (looks : List ℕ) (look told : ℕ) → told ≡ greatest 0 looks → look ≤ told
-    → told_text files (looks ++ look ∷ []) ≡ told_text files looks
-told_text-same files looks look told last few =
-    let test : nat_lt told look ≡ false = grind (arith, nat_tests) in
-    rw (risen-push 0 looks look, ← last, test, append-nil (risen 0 looks))
+pub printed_text-same : (files : Option ℕ) (samples : List ℕ) (sample last_printed : ℕ) → last_printed ≡ greatest 0 samples
+    → sample ≤ last_printed
+    → printed_text files (samples ++ sample ∷ []) ≡ printed_text files samples
+printed_text-same files samples sample last_printed last few =
+    let test : nat_lt last_printed sample ≡ false = grind (arith, nat_tests) in
+    rw (increases-push 0 samples sample, ← last, test, append-nil (increases 0 samples))
 
 -- a sample that is greater than all before it appends its line
-pub told_text-more : (files : Option ℕ) (looks : List ℕ) (look told : ℕ) → told ≡ greatest 0 looks → told < look
-    → told_text files (looks ++ look ∷ []) ≡ told_text files looks ++ progress_line look files
-told_text-more files looks look told last more =
-    let test : nat_lt told look ≡ true = grind (arith, nat_tests) in
+pub printed_text-more : (files : Option ℕ) (samples : List ℕ) (sample last_printed : ℕ) → last_printed ≡ greatest 0 samples
+    → last_printed < sample
+    → printed_text files (samples ++ sample ∷ []) ≡ printed_text files samples ++ progress_line sample files
+printed_text-more files samples sample last_printed last more =
+    let test : nat_lt last_printed sample ≡ true = grind (arith, nat_tests) in
     rw (
-      risen-push 0 looks look,
+      increases-push 0 samples sample,
       ← last,
       test,
-      flat_map-append (λ (begun : ℕ). progress_line begun files) (risen 0 looks) (look ∷ []),
-      append-nil (progress_line look files),
+      flat_map-append (λ (begun : ℕ). progress_line begun files) (increases 0 samples) (sample ∷ []),
+      append-nil (progress_line sample files),
     )

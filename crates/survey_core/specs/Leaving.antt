@@ -11,9 +11,9 @@ abbrev pub WritesSurvey :
 WritesSurvey survey old new = (text : List ℕ) × (survey ≡ Ok text) × Appends old new text
 
 -- the first `sent` bytes of the text of `survey` were appended, and nothing else
-abbrev pub WritesFront :
+abbrev pub WritesSurveyPrefix :
     Result (List ℕ) CollectionFault → ℕ → Option (List ℕ) → Option (List ℕ) → Type 0
-WritesFront survey sent old new = (text : List ℕ) × (survey ≡ Ok text)
+WritesSurveyPrefix survey sent old new = (text : List ℕ) × (survey ≡ Ok text)
     × (sent ≤ length text) × Appends old new (take sent text)
 
 -- from `old` to `new` the writer's contents changed as the fault allows: `Collection` is returned
@@ -25,7 +25,7 @@ LeavesAt survey Read old new = Keeps old new
 LeavesAt survey (Collection fault) old new = (survey ≡ Err fault) × Keeps old new
 LeavesAt survey Thread old new = IsOk survey × Keeps old new
 LeavesAt survey NoMemory old new = Keeps old new
-LeavesAt survey (Write sent) old new = WritesFront survey sent old new
+LeavesAt survey (Write sent) old new = WritesSurveyPrefix survey sent old new
 
 -- the whole text of `survey` was appended if the call returned `Ok`, and otherwise what its fault
 -- allows

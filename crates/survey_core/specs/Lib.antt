@@ -1,5 +1,5 @@
 -- The definitions that public contracts use, and in `steps` those that only private ones use.
-pub mod Guessing
+pub mod GuessSettings
 pub mod Leaving
 pub mod Faults
 pub mod Progress

@@ -14,32 +14,34 @@ files_text (Some files) = codes " of " ++ decimal files ++ codes " files"
 abbrev pub progress_line : ℕ → Option ℕ → List ℕ
 progress_line begun files = codes "\rentries begun " ++ decimal begun ++ files_text files
 
--- the greatest of `told` and all samples
+-- the greatest of `last_printed` and all samples
 abbrev pub greatest : ℕ → List ℕ → ℕ
-greatest told [] = told
-greatest told (look ∷ looks) = greatest (max told look) looks
+greatest last_printed [] = last_printed
+greatest last_printed (sample ∷ samples) = greatest (max last_printed sample) samples
 
--- `look`, if it is greater than `told`
-abbrev pub if_risen : ℕ → ℕ → List ℕ
-if_risen told look = if nat_lt told look then look ∷ [] else []
+-- `sample`, if it is greater than `last_printed`
+abbrev pub if_increased : ℕ → ℕ → List ℕ
+if_increased last_printed sample = if nat_lt last_printed sample then sample ∷ [] else []
 
--- the samples that are greater than `told` and than all samples before them
-abbrev pub risen : ℕ → List ℕ → List ℕ
-risen told [] = []
-risen told (look ∷ looks) = if_risen told look ++ risen (max told look) looks
+-- the samples that are greater than `last_printed` and than all samples before them
+abbrev pub increases : ℕ → List ℕ → List ℕ
+increases last_printed [] = []
+increases last_printed (sample ∷ samples) =
+    if_increased last_printed sample ++ increases (max last_printed sample) samples
 
--- the text printed for `looks`: the line of each that is greater than all before it
-abbrev pub told_text : Option ℕ → List ℕ → List ℕ
-told_text files looks = flat_map (λ begun. progress_line begun files) (risen 0 looks)
+-- the text printed for `samples`: the line of each that is greater than all before it
+abbrev pub printed_text : Option ℕ → List ℕ → List ℕ
+printed_text files samples = flat_map (λ begun. progress_line begun files) (increases 0 samples)
 
--- the whole text printed for `looks` and the final number `begun`, with LF if any entry was begun
+-- the whole text printed for `samples` and the final number `begun`, with LF if any entry was begun
 abbrev pub progress_text : Option ℕ → List ℕ → ℕ → List ℕ
-progress_text files looks begun =
-    told_text files (looks ++ begun ∷ []) ++ (if begun == 0 then [] else codes "\n")
+progress_text files samples begun =
+    printed_text files (samples ++ begun ∷ []) ++ (if begun == 0 then [] else codes "\n")
 
--- the text for `looks` was appended to what the writer had before, and `progress` has the number
+-- the text for `samples` was appended to what the writer had before, and `progress` has the number
 -- printed last
-pub record HasTold {E : Type 0} (contents : E → Option (List ℕ)) (before : Option (List ℕ))
-    (looks : List ℕ) (progress : Progress E) : Type 0 where
-  pub printed : Appends before (contents progress.writer.inner) (told_text progress.files looks)
-  pub last : progress.told ≡ greatest 0 looks
+pub record HasPrinted {E : Type 0} (contents : E → Option (List ℕ)) (before : Option (List ℕ))
+    (samples : List ℕ) (progress : Progress E) : Type 0 where
+  pub printed : Appends before (contents progress.writer.inner)
+      (printed_text progress.files samples)
+  pub last : progress.last_printed ≡ greatest 0 samples

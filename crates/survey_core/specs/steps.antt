@@ -2,4 +2,4 @@
 pub mod Collected
 pub mod Dealt
 pub mod Graded
-pub mod Readings
+pub mod ParsedEntries

@@ -6,16 +6,16 @@ ghost use Rattle.lane_core.specs.Answers.{AreAnswersTo};
 ghost use Rattle.survey_core.specs.declared.collecting.CollectFault.TheVariants.{NoMemory as collect_memory, Thread as collect_thread};
 ghost use Rattle.survey_core.specs.steps.Collected.{waiting_jobs, dealt_jobs, complete_jobs, EachAnswered};
 
-use crate::bells::{answers_before_ringing, worker_bells};
-use crate::job_order::{deal_out, gather, room_for_answers};
+use crate::job_order::{deal_out, interleave, room_for_answers};
 use crate::lane_context::LaneContext;
 use crate::lane_lists::LaneLists;
 use crate::lanes::{CompleteLane, OpenLane, RunningLane};
-use crate::settings::{LARGEST_RING, MOST_LANES};
-use crate::workers::NoThread;
+use crate::settings::{MAX_LANES, MAX_RING};
+use crate::wakeups::{wake_interval, worker_parkers};
+use crate::workers::SpawnFailed;
 use grid_core::NoMemory;
 use lane_core::{Answer, Gate, Job};
-use puzzle_text::MOST_ENTRIES;
+use puzzle_text::MAX_ENTRIES;
 use std::alloc::Global;
 use std::collections::VecDeque;
 use std::snapshot::Snapshot;
@@ -25,7 +25,7 @@ use std::thread::{Parker, Scope, Threads};
 use thiserror::Error;
 
 /// The greatest number of jobs: that of the entries of a collection.
-pub const MOST_JOBS: usize = MOST_ENTRIES;
+pub const MAX_JOBS: usize = MAX_ENTRIES;
 
 /// Why collecting the answers failed.
 #[derive(Clone, Copy, Debug, PartialEq, Eq, Error)]
@@ -47,10 +47,10 @@ impl From<NoMemory> for CollectFault {
     }
 }
 
-impl From<NoThread> for CollectFault {
+impl From<SpawnFailed> for CollectFault {
     ghost from_gives = { λ _ fault. fault ≡ collect_thread };
 
-    fn from(_refused: NoThread) -> CollectFault {
+    fn from(_refused: SpawnFailed) -> CollectFault {
         CollectFault::Thread
     }
 }
@@ -72,9 +72,9 @@ pub fn collect<R: Threads + Wait + Sync, G: Gate + Sync>(
     ring: u16,
     gate: &G,
 ) -> Result<Vec<Answer>, CollectFault>
-    requires jobs { vec_len jobs ≤ MOST_JOBS }
-    requires lanes { (1 ≤ lanes) × (lanes ≤ MOST_LANES) }
-    requires ring { (1 ≤ ring) × (ring ≤ LARGEST_RING) }
+    requires jobs { vec_len jobs ≤ MAX_JOBS }
+    requires lanes { (1 ≤ lanes) × (lanes ≤ MAX_LANES) }
+    requires ring { (1 ≤ ring) × (ring ≤ MAX_RING) }
     ensures answers { IfOk result (λ answers. AreAnswersTo jobs.items answers.items) }
     ensures no_jobs { jobs.items ≡ [] → IsOk result }
 {
@@ -82,13 +82,13 @@ pub fn collect<R: Threads + Wait + Sync, G: Gate + Sync>(
         return Ok(Vec::new(alloc));
     }
     let ring = usize::from(ring);
-    let bell = Parker::new();
+    let parker = Parker::new();
     let context = LaneContext {
         rt,
         alloc,
         gate,
-        bell: &bell,
-        batch: answers_before_ringing(ring),
+        parker: &parker,
+        wake_interval: wake_interval(ring),
     };
     collect_some(&context, jobs, usize::from(lanes), ring)
 }
@@ -102,25 +102,25 @@ fn collect_some<R: Threads + Wait + Sync, G: Gate + Sync>(
     ring: usize,
 ) -> Result<Vec<Answer>, CollectFault>
     requires lanes { 1 ≤ lanes }
-    requires ring { (1 ≤ ring) × (ring ≤ LARGEST_RING) }
+    requires ring { (1 ≤ ring) × (ring ≤ MAX_RING) }
     ensures { IfOk result (λ answers. AreAnswersTo jobs.items answers.items) }
 {
     // All lists are allocated here: once a thread was started, collecting can't fail for memory.
     let alloc = context.alloc;
     let all = Snapshot::of(&jobs);
     let count = jobs.len();
-    let gathered = room_for_answers(alloc, count)?;
-    let bells = worker_bells(alloc, lanes)?;
-    let lists = LaneLists::new(alloc, deal_out(alloc, jobs, lanes)?, &bells, ring)?;
+    let interleaved = room_for_answers(alloc, count)?;
+    let parkers = worker_parkers(alloc, lanes)?;
+    let lists = LaneLists::new(alloc, deal_out(alloc, jobs, lanes)?, &parkers, ring)?;
     let queues = thread::scope(
         thread::scope_env(),
         context.rt,
-        move |scope| -> Result<Vec<VecDeque<Answer, Global>>, NoThread>
+        move |scope| -> Result<Vec<VecDeque<Answer, Global>>, SpawnFailed>
             ensures { IfOk result (λ queues. EachAnswered
                 (waiting_jobs lists.entry.opened.items) (map (λ q. q.items) queues.items)) }
         { run_lanes(context, scope, lists) },
     )?;
-    Ok(gather(&all, count, lanes, queues, gathered))
+    Ok(interleave(&all, count, lanes, queues, interleaved))
 }
 
 /// Starts the workers of the lanes, takes turns at the lanes until each is complete, settles them,
@@ -129,7 +129,7 @@ fn run_lanes<'s, 'b: 's, E, R: Threads + Wait + Sync, G: Gate + Sync>(
     context: &'s LaneContext<'s, R, G>,
     scope: &Scope<'s, E>,
     lists: LaneLists<'b>,
-) -> Result<Vec<VecDeque<Answer, Global>>, NoThread>
+) -> Result<Vec<VecDeque<Answer, Global>>, SpawnFailed>
     ensures { IfOk result (λ queues. EachAnswered
         (waiting_jobs lists.entry.opened.items) (map (λ q. q.items) queues.items)) }
 {
@@ -144,21 +144,21 @@ fn run_lanes<'s, 'b: 's, E, R: Threads + Wait + Sync, G: Gate + Sync>(
     Ok(settle_all(context.rt, complete, settled))
 }
 
-/// Starts the worker of each lane, and returns the running lanes in the list `room`. If one can't
-/// be started, stops those before it and fails with `NoThread`.
+/// Starts the worker of each lane, and returns the running lanes in the list `buffer`. If one can't
+/// be started, stops those before it and fails with `SpawnFailed`.
 pub fn start_all<'s, 'b: 's, E, R: Threads + Wait + Sync, G: Gate + Sync>(
     context: &'s LaneContext<'s, R, G>,
     scope: &Scope<'s, E>,
     opened: VecDeque<OpenLane<'b>, Global>,
-    room: VecDeque<RunningLane<'b>, Global>,
-) -> Result<VecDeque<RunningLane<'b>, Global>, NoThread>
-    requires { (room.items ≡ []) × (deque_len opened ≤ deque_capacity room) }
+    buffer: VecDeque<RunningLane<'b>, Global>,
+) -> Result<VecDeque<RunningLane<'b>, Global>, SpawnFailed>
+    requires { (buffer.items ≡ []) × (deque_len opened ≤ deque_capacity buffer) }
     ensures jobs { IfOk result (λ running.
         dealt_jobs running.items ≡ waiting_jobs opened.entry.items) }
     ensures len { IfOk result (λ running. deque_len running ≡ deque_len opened.entry) }
 {
     let mut opened = opened;
-    let mut running = room;
+    let mut running = buffer;
     while let Some(lane) = opened.pop_front() {
         match lane.start(context, scope) {
             Ok(started) => running.push_back_reserved(started),
@@ -180,19 +180,19 @@ pub fn stop_all<R: Threads>(rt: &R, running: VecDeque<RunningLane<'_>, Global>) 
 }
 
 /// Takes turns at the lanes until each is complete, and returns the complete lanes in the list
-/// `room`. After a round in which nothing was sent or taken, the collector parks until a worker
+/// `buffer`. After a round in which nothing was sent or taken, the collector parks until a worker
 /// wakes it.
 fn take_turns<'b, R: Wait, G>(
     context: &LaneContext<'_, R, G>,
     running: VecDeque<RunningLane<'b>, Global>,
-    room: VecDeque<CompleteLane, Global>,
+    buffer: VecDeque<CompleteLane, Global>,
 ) -> VecDeque<CompleteLane, Global>
-    requires { (room.items ≡ []) × (deque_len running ≤ deque_capacity room) }
+    requires { (buffer.items ≡ []) × (deque_len running ≤ deque_capacity buffer) }
     ensures jobs { complete_jobs result.items ≡ dealt_jobs running.entry.items }
     ensures len { deque_len result ≡ deque_len running.entry }
 {
     let mut running = running;
-    let mut complete = room;
+    let mut complete = buffer;
     'rounds: for _ in context.rt.forever() {
         let moved = take_round(&mut running);
         take_complete(&mut running, &mut complete);
@@ -200,7 +200,7 @@ fn take_turns<'b, R: Wait, G>(
             return complete;
         }
         if !moved {
-            context.bell.park(context.rt);
+            context.parker.park(context.rt);
         }
     }
     unreachable!()
@@ -242,7 +242,7 @@ fn take_complete(
         ≡ complete_jobs complete.old.items ++ dealt_jobs running.old.items }
     ensures len { deque_len complete.new + deque_len running.new
         ≡ deque_len complete.old + deque_len running.old }
-    ensures room { deque_capacity complete.new ≡ deque_capacity complete.old }
+    ensures capacity { deque_capacity complete.new ≡ deque_capacity complete.old }
 {
     // Stops at the first that is not, so that the lanes keep their order, in which they are
     // settled.
@@ -257,17 +257,17 @@ fn take_complete(
     }
 }
 
-/// Settles the lanes in order, and returns the answers of each in the list `room`.
+/// Settles the lanes in order, and returns the answers of each in the list `buffer`.
 fn settle_all<R: Threads + Wait>(
     rt: &R,
     complete: VecDeque<CompleteLane, Global>,
-    room: Vec<VecDeque<Answer, Global>>,
+    buffer: Vec<VecDeque<Answer, Global>>,
 ) -> Vec<VecDeque<Answer, Global>>
-    requires { (room.items ≡ []) × (deque_len complete ≤ vec_capacity room) }
+    requires { (buffer.items ≡ []) × (deque_len complete ≤ vec_capacity buffer) }
     ensures { EachAnswered (complete_jobs complete.items) (map (λ q. q.items) result.items) }
 {
     let mut complete = complete;
-    let mut settled = room;
+    let mut settled = buffer;
     'settling: while let Some(lane) = complete.pop_front() {
         settled.push_reserved(lane.settle(rt));
     }

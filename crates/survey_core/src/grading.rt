@@ -4,22 +4,22 @@
 ghost use Rattle.std.specs.Prelude.{◌≡◌, ◌≤◌, ◌+◌, ◌++◌, ℕ, List, length, map, IfOk};
 ghost use Rattle.puzzle_text.specs.Shown.{shown_entry};
 ghost use Rattle.puzzle_text.specs.declared.collections.Entry.{Entry};
-ghost use Rattle.survey_text.specs.Parts.{AreParts, text_of};
+ghost use Rattle.survey_text.specs.Chunks.{AreChunks, text_of};
 ghost use Rattle.survey_text.specs.Survey.{survey_of_list};
-ghost use Rattle.survey_core.specs.Guessing.{guessing};
+ghost use Rattle.survey_core.specs.GuessSettings.{guess_settings};
 ghost use Rattle.survey_core.specs.steps.Graded.{AreAnswersAt, graded_of, puzzle_count};
 
 use crate::Settings;
+use crate::chunks::{ChunkTask, chunk_count, run_chunked};
 use crate::collecting::{CollectFault, collect};
-use crate::parts::{Work, in_parts, parts_of};
-use crate::readings::{Readings, read_entries};
+use crate::parsed_entries::{ParsedEntries, read_entries};
 use grid_core::NoMemory;
 use lane_core::{Answer, Gate};
-use puzzle_text::{Entry, EntryFault, MOST_ENTRIES};
+use puzzle_text::{Entry, EntryFault, MAX_ENTRIES};
 use std::alloc::Global;
 use std::sync::Wait;
 use std::thread::Threads;
-use survey_text::{AnswerListing, Parts, SurveyText};
+use survey_text::{AnswerListing, ChunkTexts, SurveyText};
 
 /// The task of printing entries that were read, with the answers to the puzzles among them.
 #[derive(Drop)]
@@ -32,13 +32,13 @@ struct Printing<'s> {
     answers: &'s [Answer],
 }
 
-impl<'s, 'e> Work<Entry<'e>> for Printing<'s> {
-    type Output = Parts;
+impl<'s, 'e> ChunkTask<Entry<'e>> for Printing<'s> {
+    type Output = ChunkTexts;
 
-    ghost gives = { λ printing first entries parts. AreAnswersAt printing first entries
-        → AreParts printing.settings.now.show (first + 1) parts (graded_of printing entries) };
+    ghost gives = { λ printing first entries chunks. AreAnswersAt printing first entries
+        → AreChunks printing.settings.now.show (first + 1) chunks (graded_of printing entries) };
 
-    fn part(&self, first: usize, entries: &[Entry<'e>]) -> Result<Parts, NoMemory> {
+    fn run(&self, first: usize, entries: &[Entry<'e>]) -> Result<ChunkTexts, NoMemory> {
         // The answers for this chunk follow those to the puzzles before it. `min` keeps both splits
         // within their lists, which the contract of `part` doesn't bound.
         let (before, faults) = self.faults.split_at(first.min(self.faults.len()));
@@ -49,18 +49,18 @@ impl<'s, 'e> Work<Entry<'e>> for Printing<'s> {
             faults,
             answers,
         };
-        Parts::of(self.alloc, first as u32 + 1, listing, self.settings.show)
+        ChunkTexts::of(self.alloc, first as u32 + 1, listing, self.settings.show)
     }
 
-    fn both(&self, front: Parts, behind: Parts) -> Result<Parts, NoMemory>
+    fn merge(&self, front: ChunkTexts, behind: ChunkTexts) -> Result<ChunkTexts, NoMemory>
         ensures { (first : ℕ) (xs ys : List Entry)
             → (AreAnswersAt self.now first xs
-            → AreParts self.now.settings.now.show (first + 1) front (graded_of self.now xs))
+            → AreChunks self.now.settings.now.show (first + 1) front (graded_of self.now xs))
             → (AreAnswersAt self.now (first + length xs) ys
-            → AreParts self.now.settings.now.show (first + length xs + 1) behind
+            → AreChunks self.now.settings.now.show (first + length xs + 1) behind
             (graded_of self.now ys))
-            → IfOk result (λ parts. AreAnswersAt self.now first (xs ++ ys)
-            → AreParts self.now.settings.now.show (first + 1) parts
+            → IfOk result (λ chunks. AreAnswersAt self.now first (xs ++ ys)
+            → AreChunks self.now.settings.now.show (first + 1) chunks
             (graded_of self.now (xs ++ ys))) }
     {
         front.followed_by(behind)
@@ -89,12 +89,13 @@ pub(crate) fn survey_text<H: Threads + Wait + Sync, G: Gate + Sync>(
     settings: &Settings,
     gate: &G,
 ) -> Result<SurveyText, CollectFault>
-    requires { length entries.now ≤ MOST_ENTRIES }
+    requires { length entries.now ≤ MAX_ENTRIES }
     ensures { IfOk result (λ survey. text_of survey
-        ≡ survey_of_list (guessing settings.now) settings.now.show (map shown_entry entries.now)) }
+        ≡ survey_of_list (guess_settings settings.now) settings.now.show
+        (map shown_entry entries.now)) }
 {
-    let parts = parts_of(entries.len(), settings.lanes);
-    let Readings { jobs, faults } = read_entries(rt, alloc, entries, settings, parts)?;
+    let chunks = chunk_count(entries.len(), settings.lanes);
+    let ParsedEntries { jobs, faults } = read_entries(rt, alloc, entries, settings, chunks)?;
     let answers = collect(rt, alloc, jobs, settings.lanes, settings.ring, gate)?;
     let printing = Printing {
         alloc,
@@ -102,5 +103,5 @@ pub(crate) fn survey_text<H: Threads + Wait + Sync, G: Gate + Sync>(
         faults: &faults,
         answers: &answers,
     };
-    Ok(in_parts(rt, &printing, entries, parts)?.finish()?)
+    Ok(run_chunked(rt, &printing, entries, chunks)?.finish()?)
 }

@@ -35,15 +35,19 @@ pub fn deal_out(
     Ok(queues)
 }
 
-/// Returns an empty queue for each of `lanes` lanes, with a capacity of `room` jobs.
-fn no_jobs(alloc: Global, lanes: usize, room: usize) -> Result<Vec<VecDeque<Job, Global>>, NoMemory>
+/// Returns an empty queue for each of `lanes` lanes, with a capacity of `capacity` jobs.
+fn no_jobs(
+    alloc: Global,
+    lanes: usize,
+    capacity: usize,
+) -> Result<Vec<VecDeque<Job, Global>>, NoMemory>
     ensures lanes { IfOk result (λ queues. vec_len queues ≡ lanes) }
     ensures empty { IfOk result (λ queues.
         (k : ℕ) → slice_index_or (map (λ q. q.items) queues.items) k [] ≡ []) }
 {
     let mut queues = Vec::with_capacity(alloc, lanes)?;
     for _ in 0..lanes {
-        queues.push(VecDeque::with_capacity(alloc, room)?)?;
+        queues.push(VecDeque::with_capacity(alloc, capacity)?)?;
     }
     Ok(queues)
 }
@@ -51,40 +55,41 @@ fn no_jobs(alloc: Global, lanes: usize, room: usize) -> Result<Vec<VecDeque<Job,
 /// Returns an empty list with a capacity of `count` answers.
 pub fn room_for_answers(alloc: Global, count: usize) -> Result<Vec<Answer>, NoMemory>
     ensures empty { IfOk result (λ answers. answers.items ≡ []) }
-    ensures room { IfOk result (λ answers. vec_capacity answers ≡ count) }
+    ensures capacity { IfOk result (λ answers. vec_capacity answers ≡ count) }
 {
     Ok(Vec::with_capacity(alloc, count)?)
 }
 
 /// Returns the answers of all lanes in job order: takes the next answer of each lane in turn, so
-/// that answer `j` of lane `k` gets the index `k + j * lanes`. `gathered` is an empty list with a
-/// capacity of at least `count`, the number of jobs.
-pub fn gather(
+/// that answer `j` of lane `k` gets the index `k + j * lanes`. `interleaved` is an empty list with
+/// a capacity of at least `count`, the number of jobs.
+pub fn interleave(
     jobs: &Snapshot<Vec<Job>>,
     count: usize,
     lanes: usize,
     queues: Vec<VecDeque<Answer, Global>>,
-    gathered: Vec<Answer>,
+    interleaved: Vec<Answer>,
 ) -> Vec<Answer>
     requires some { 0 < lanes }
     requires lanes { vec_len queues ≡ lanes }
     requires answered { (k : ℕ) → k < lanes →
         AreAnswersTo (dealt jobs.now.value.items lanes k)
         (slice_index_or (map (λ q. q.items) queues.items) k []) }
-    requires empty { gathered.items ≡ [] }
+    requires empty { interleaved.items ≡ [] }
     requires count { count ≡ length jobs.now.value.items }
-    requires room { count ≤ vec_capacity gathered }
+    requires capacity { count ≤ vec_capacity interleaved }
     ensures { AreAnswersTo jobs.now.value.items result.items }
 {
-    // `gathered` comes from the caller, since nothing is to be allocated once threads were started.
+    // `interleaved` comes from the caller, since nothing is to be allocated once threads were
+    // started.
     let mut queues = queues;
-    let mut gathered = gathered;
+    let mut interleaved = interleaved;
     for place in 0..count {
         let queue = &mut queues[place % lanes];
         let Some(answer) = queue.pop_front() else {
             unreachable!()
         };
-        gathered.push_reserved(answer);
+        interleaved.push_reserved(answer);
     }
-    gathered
+    interleaved
 }

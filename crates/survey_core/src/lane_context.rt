@@ -13,7 +13,7 @@ pub struct LaneContext<'s, R, G> {
     /// The gate that each job enters before it is graded.
     pub gate: &'s G,
     /// The parker of the collector.
-    pub bell: &'s Parker,
+    pub parker: &'s Parker,
     /// How many answers a worker puts, at most, before it wakes the collector.
-    pub batch: usize,
+    pub wake_interval: usize,
 }

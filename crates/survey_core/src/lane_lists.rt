@@ -2,7 +2,7 @@
 
 ghost use Rattle.std.specs.Prelude.{◌≡◌, ◌≤◌, [], IfOk, length, map, vec_len, vec_capacity};
 ghost use Rattle.std.specs.VecDeque.{deque_len, deque_capacity};
-ghost use Rattle.lane_core.specs.declared.opening.TheConstants.{LARGEST_RING};
+ghost use Rattle.lane_core.specs.declared.lane_pair.TheConstants.{MAX_RING};
 ghost use Rattle.survey_core.specs.steps.Collected.{waiting_jobs};
 
 use crate::lanes::{CompleteLane, OpenLane, RunningLane};
@@ -31,26 +31,26 @@ pub struct LaneLists<'s> {
 
 impl<'s> LaneLists<'s> {
     ghost use Rattle.std.specs.Prelude.{◌≡◌, ◌≤◌, IfOk, length, map, vec_len};
-    ghost use Rattle.lane_core.specs.declared.opening.TheConstants.{LARGEST_RING};
+    ghost use Rattle.lane_core.specs.declared.lane_pair.TheConstants.{MAX_RING};
     ghost use Rattle.survey_core.specs.steps.Collected.{waiting_jobs};
 
-    /// Opens a lane for each queue of jobs, with the parker at the same index of `bells` for its
+    /// Opens a lane for each queue of jobs, with the parker at the same index of `parkers` for its
     /// worker, and allocates the lists. `ring` is the capacity of the lanes' rings, from 1 to 64.
     /// Fails with `NoMemory` if an allocation does.
     pub fn new(
         alloc: Global,
         queues: Vec<VecDeque<Job, Global>>,
-        bells: &'s [Parker],
+        parkers: &'s [Parker],
         ring: usize,
     ) -> Result<LaneLists<'s>, NoMemory>
-        requires bells { vec_len queues ≤ length bells.now }
+        requires parkers { vec_len queues ≤ length parkers.now }
         requires least { 1 ≤ ring }
-        requires most { ring ≤ LARGEST_RING }
+        requires most { ring ≤ MAX_RING }
         ensures { IfOk result (λ lists.
             waiting_jobs lists.opened.items ≡ map (λ q. q.items) queues.items) }
     {
         let lanes = queues.len();
-        let opened = open_lanes(alloc, queues, bells, ring)?;
+        let opened = open_lanes(alloc, queues, parkers, ring)?;
         let running = VecDeque::with_capacity(alloc, lanes)?;
         let complete = VecDeque::with_capacity(alloc, lanes)?;
         let settled = Vec::with_capacity(alloc, lanes)?;
@@ -63,25 +63,25 @@ impl<'s> LaneLists<'s> {
     }
 }
 
-/// Opens a lane for each queue of jobs, with the parker at the same index of `bells` for its
+/// Opens a lane for each queue of jobs, with the parker at the same index of `parkers` for its
 /// worker.
 fn open_lanes<'s>(
     alloc: Global,
     queues: Vec<VecDeque<Job, Global>>,
-    bells: &'s [Parker],
+    parkers: &'s [Parker],
     ring: usize,
 ) -> Result<VecDeque<OpenLane<'s>, Global>, NoMemory>
-    requires bells { vec_len queues ≤ length bells.now }
+    requires parkers { vec_len queues ≤ length parkers.now }
     requires least { 1 ≤ ring }
-    requires most { ring ≤ LARGEST_RING }
+    requires most { ring ≤ MAX_RING }
     ensures jobs { IfOk result (λ lanes.
         waiting_jobs lanes.items ≡ map (λ q. q.items) queues.items) }
     ensures len { IfOk result (λ lanes. deque_len lanes ≡ vec_len queues) }
 {
     let mut lanes = VecDeque::with_capacity(alloc, queues.len())?;
     for waiting in queues {
-        let bell = &bells[lanes.len()];
-        lanes.push_back(OpenLane::open(alloc, waiting, bell, ring)?)?;
+        let parker = &parkers[lanes.len()];
+        lanes.push_back(OpenLane::open(alloc, waiting, parker, ring)?)?;
     }
     Ok(lanes)
 }

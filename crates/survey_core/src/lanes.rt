@@ -6,7 +6,7 @@ ghost use Rattle.lane_core.specs.Messages.{has_finish, jobs_of};
 ghost use Rattle.lane_core.specs.Ends.{front_lists, AreOneLane};
 
 use crate::lane_context::LaneContext;
-use crate::workers::{FinishedBackOf, NoThread, start_worker};
+use crate::workers::{FinishedBackOf, SpawnFailed, start_worker};
 use grid_core::NoMemory;
 use lane_core::{Answer, Gate, Job, Lane, LaneBack, LaneFront, deal, open_lane, settle};
 use std::alloc::Global;
@@ -21,7 +21,7 @@ use std::thread::{Parker, PromisedHandle, Scope, Threads};
 pub struct OpenLane<'s> {
     front: LaneFront,
     back: LaneBack,
-    bell: &'s Parker,
+    parker: &'s Parker,
     /// The jobs dealt to the lane, in order.
     pub waiting: VecDeque<Job, Global>,
     got: Vec<Answer>,
@@ -32,19 +32,19 @@ pub struct OpenLane<'s> {
 
 impl<'s> OpenLane<'s> {
     ghost use Rattle.std.specs.Prelude.{◌≡◌, ◌≤◌, IfOk};
-    ghost use Rattle.lane_core.specs.declared.opening.TheConstants.{LARGEST_RING};
+    ghost use Rattle.lane_core.specs.declared.lane_pair.TheConstants.{MAX_RING};
 
-    /// Opens a lane for the jobs `waiting`, and allocates a list for all their answers. `bell` is
+    /// Opens a lane for the jobs `waiting`, and allocates a list for all their answers. `parker` is
     /// the parker of its worker, and `ring` the capacity of its rings, from 1 to 64. Fails with
     /// `NoMemory` if an allocation does.
     pub fn open(
         alloc: Global,
         waiting: VecDeque<Job, Global>,
-        bell: &'s Parker,
+        parker: &'s Parker,
         ring: usize,
     ) -> Result<OpenLane<'s>, NoMemory>
         requires least { 1 ≤ ring }
-        requires most { ring ≤ LARGEST_RING }
+        requires most { ring ≤ MAX_RING }
         ensures { IfOk result (λ lane. lane.waiting ≡ waiting) }
     {
         let got = Vec::with_capacity(alloc, waiting.len())?;
@@ -52,19 +52,19 @@ impl<'s> OpenLane<'s> {
         Ok(OpenLane {
             front,
             back,
-            bell,
+            parker,
             waiting,
             got,
         })
     }
 
-    /// Starts the worker of the lane in a thread of `scope`. Fails with `NoThread` if that thread
-    /// can't be started.
+    /// Starts the worker of the lane in a thread of `scope`. Fails with `SpawnFailed` if that
+    /// thread can't be started.
     pub fn start<'t, E, R: Wait + Sync, G: Gate + Sync>(
         self,
         context: &'t LaneContext<'t, R, G>,
         scope: &Scope<'t, E>,
-    ) -> Result<RunningLane<'s>, NoThread>
+    ) -> Result<RunningLane<'s>, SpawnFailed>
     where
         's: 't,
         ensures { IfOk result (λ running. running.dealt.value ≡ self.entry.waiting) }
@@ -72,17 +72,17 @@ impl<'s> OpenLane<'s> {
         let OpenLane {
             front,
             back,
-            bell,
+            parker,
             waiting,
             got,
         } = self;
-        let worker = start_worker(context, scope, back, bell)?;
+        let worker = start_worker(context, scope, back, parker)?;
         let dealt = Snapshot::of(&waiting);
         let total = waiting.len();
         Ok(RunningLane {
             front,
             worker,
-            bell,
+            parker,
             waiting,
             got,
             total,
@@ -97,7 +97,7 @@ impl<'s> OpenLane<'s> {
 pub struct RunningLane<'s> {
     front: LaneFront,
     worker: PromisedHandle<LaneBack, FinishedBackOf>,
-    bell: &'s Parker,
+    parker: &'s Parker,
     waiting: VecDeque<Job, Global>,
     got: Vec<Answer>,
     total: usize,
@@ -119,7 +119,7 @@ impl<'s> RunningLane<'s> {
     {
         let moved = deal(&mut self.front, &mut self.waiting, &mut self.got);
         if moved {
-            self.bell.unpark();
+            self.parker.unpark();
         }
         moved
     }
@@ -136,7 +136,7 @@ impl<'s> RunningLane<'s> {
         let RunningLane {
             front,
             worker,
-            bell: _,
+            parker: _,
             waiting: _,
             got,
             total: _,
@@ -155,7 +155,7 @@ impl<'s> RunningLane<'s> {
         // Called before any job is sent, so the ring of messages is empty and accepts the finish.
         let mut front = self.front;
         let _ = front.finish();
-        self.bell.unpark();
+        self.parker.unpark();
         let _back = self.worker.join(rt);
     }
 }

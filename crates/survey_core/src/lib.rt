@@ -2,33 +2,31 @@
 //! and writing the survey.
 #![tactic(auto)]
 
-mod bells;
+mod chunks;
 mod collecting;
 mod collecting_one;
 mod faults;
 mod grading;
-mod heap_room;
+mod heap_reserve;
 mod job_order;
 mod lane_context;
 mod lane_lists;
 mod lanes;
 pub mod laws;
-mod parts;
+mod parsed_entries;
 mod progress;
 mod progress_gate;
-mod readings;
 mod settings;
 mod surveys;
+mod wakeups;
 mod workers;
 
-pub use collecting::{CollectFault, MOST_JOBS, collect};
+pub use collecting::{CollectFault, MAX_JOBS, collect};
 pub use collecting_one::collect_one;
 pub use faults::RunFault;
 pub use progress::Progress;
 pub use progress_gate::ProgressGate;
-pub use settings::{
-    DEFAULT_GUESSES, DEFAULT_LANES, DEFAULT_RING, LARGEST_RING, MOST_LANES, Settings,
-};
+pub use settings::{DEFAULT_GUESSES, DEFAULT_LANES, DEFAULT_RING, MAX_LANES, MAX_RING, Settings};
 pub use streams::{Counted, write_text};
 pub use survey_text::{Outcome, print_entry, print_graded, print_survey, push_grid};
 pub use surveys::{run_survey, survey_entries};

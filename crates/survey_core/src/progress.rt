@@ -2,7 +2,7 @@
 
 ghost use Rattle.std.specs.Prelude.{◌≡◌, ℕ, List, [], ◌∷◌, ◌++◌, Option, IfOk, OnOk};
 ghost use Rattle.std.specs.Io.KnownBytes.{Appends};
-ghost use Rattle.survey_core.specs.Progress.{HasTold, files_text, progress_line, progress_text};
+ghost use Rattle.survey_core.specs.Progress.{HasPrinted, files_text, progress_line, progress_text};
 
 use crate::Counted;
 use grid_core::NoMemory;
@@ -38,26 +38,26 @@ fn push_files(text: &mut Vec<u8>, files: Option<u32>) -> Result<(), NoMemory>
 
 /// The fault that a text was not sent in full.
 #[derive(Clone, Copy)]
-pub(crate) struct Unprinted;
+pub(crate) struct PrintFailed;
 
-impl From<NoMemory> for Unprinted {
-    fn from(_refused: NoMemory) -> Unprinted {
-        Unprinted
+impl From<NoMemory> for PrintFailed {
+    fn from(_refused: NoMemory) -> PrintFailed {
+        PrintFailed
     }
 }
 
 /// Writes `text` to `writer` and flushes it. Fails if the writer does.
-fn print<E: Write>(writer: &mut Counted<E>, text: &[u8]) -> Result<(), Unprinted>
+fn print<E: Write>(writer: &mut Counted<E>, text: &[u8]) -> Result<(), PrintFailed>
     ensures { OnOk result
         (Appends (E.contents writer.old.inner) (E.contents writer.new.inner) text.now) }
 {
     // A further failure could not be counted, so a writer that failed this often is not called.
     if writer.faults() == u32::MAX {
-        return Err(Unprinted);
+        return Err(PrintFailed);
     }
     match write_text(writer, text) {
         Ok(()) => Ok(()),
-        Err(_) => Err(Unprinted),
+        Err(_) => Err(PrintFailed),
     }
 }
 
@@ -70,7 +70,7 @@ pub struct Progress<E> {
     files: Option<u32>,
     line: Vec<u8>,
     /// The number that was printed last, or 0 if none was.
-    told: u32,
+    last_printed: u32,
 }
 
 impl<E: Write + Drop> Progress<E> {
@@ -79,21 +79,21 @@ impl<E: Write + Drop> Progress<E> {
     /// `NoMemory` if that fails.
     pub fn new(alloc: Global, writer: E, files: Option<u32>) -> Result<Progress<E>, NoMemory>
         ensures files { IfOk result (λ progress. progress.files ≡ files) }
-        ensures nothing { IfOk result (HasTold E.contents (E.contents writer) []) }
+        ensures nothing { IfOk result (HasPrinted E.contents (E.contents writer) []) }
     {
         let line = Vec::with_capacity(alloc, LONGEST_LINE)?;
         Ok(Progress {
             writer: Counted::new(writer),
             files,
             line,
-            told: 0,
+            last_printed: 0,
         })
     }
 
     /// Prints the progress line for `begun` entries.
-    fn print_line(&mut self, begun: u32) -> Result<(), Unprinted>
+    fn print_line(&mut self, begun: u32) -> Result<(), PrintFailed>
         ensures files { self.new.files ≡ self.old.files }
-        ensures told { self.new.told ≡ self.old.told }
+        ensures last_printed { self.new.last_printed ≡ self.old.last_printed }
         ensures printed { OnOk result (Appends
             (E.contents self.old.writer.inner) (E.contents self.new.writer.inner)
             (progress_line begun self.old.files)) }
@@ -105,34 +105,34 @@ impl<E: Write + Drop> Progress<E> {
 
     /// Prints the progress line for `begun` entries, if that is more than was printed last. Fails
     /// if the line was not sent in full; a later number may still be printed.
-    pub(crate) fn tell(&mut self, begun: u32) -> Result<(), Unprinted>
+    pub(crate) fn update(&mut self, begun: u32) -> Result<(), PrintFailed>
         ensures files { self.new.files ≡ self.old.files }
-        ensures told { (before : Option (List ℕ)) (looks : List ℕ)
-            → HasTold E.contents before looks self.old
-            → OnOk result (HasTold E.contents before (looks ++ begun ∷ []) self.new) }
+        ensures printed { (before : Option (List ℕ)) (samples : List ℕ)
+            → HasPrinted E.contents before samples self.old
+            → OnOk result (HasPrinted E.contents before (samples ++ begun ∷ []) self.new) }
     {
-        if begun <= self.told {
+        if begun <= self.last_printed {
             return Ok(());
         }
         self.print_line(begun)?;
-        self.told = begun;
+        self.last_printed = begun;
         Ok(())
     }
 
     /// Prints the final number, if it is more than was printed last, and then LF, even if the
     /// number could not be printed. Prints nothing if no entry was begun. Fails if anything was not
     /// sent in full.
-    pub(crate) fn end(&mut self, begun: u32) -> Result<(), Unprinted>
-        ensures { (before : Option (List ℕ)) (looks : List ℕ)
-            → HasTold E.contents before looks self.old
+    pub(crate) fn close_line(&mut self, begun: u32) -> Result<(), PrintFailed>
+        ensures { (before : Option (List ℕ)) (samples : List ℕ)
+            → HasPrinted E.contents before samples self.old
             → OnOk result (Appends before (E.contents self.new.writer.inner)
-            (progress_text self.old.files looks begun)) }
+            (progress_text self.old.files samples begun)) }
     {
-        let told = self.tell(begun);
+        let updated = self.update(begun);
         if begun == 0 {
-            return told;
+            return updated;
         }
         print(&mut self.writer, b"\n")?;
-        told
+        updated
     }
 }

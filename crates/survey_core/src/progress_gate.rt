@@ -20,7 +20,7 @@ const PAUSE: u64 = 100;
 pub struct ProgressGate {
     begun: AtomicU32,
     has_ended: AtomicBool,
-    bell: Parker,
+    parker: Parker,
 }
 
 impl ProgressGate {
@@ -29,7 +29,7 @@ impl ProgressGate {
         ProgressGate {
             begun: AtomicU32::new(0),
             has_ended: AtomicBool::new(false),
-            bell: Parker::new(),
+            parker: Parker::new(),
         }
     }
 
@@ -37,7 +37,7 @@ impl ProgressGate {
     /// ends.
     fn close(&self) {
         self.has_ended.store(true, Ordering::SeqCst);
-        self.bell.unpark();
+        self.parker.unpark();
     }
 }
 
@@ -48,18 +48,22 @@ impl Gate for ProgressGate {
 }
 
 /// Reports how many jobs have entered `gate` until that is closed, and then the final number.
-fn tell_until_closed<R: Wait, E: Write + Drop>(rt: &R, gate: &ProgressGate, progress: Progress<E>) {
+fn report_until_closed<R: Wait, E: Write + Drop>(
+    rt: &R,
+    gate: &ProgressGate,
+    progress: Progress<E>,
+) {
     let mut progress = progress;
     for _ in rt.forever() {
-        gate.bell.park_timeout(rt, Duration::from_millis(PAUSE));
+        gate.parker.park_timeout(rt, Duration::from_millis(PAUSE));
         // In this order: if the gate is closed, no job enters any more, and `begun` is final.
         let has_ended = gate.has_ended.load(Ordering::SeqCst);
         let begun = gate.begun.load(Ordering::SeqCst);
         if has_ended {
-            let _ = progress.end(begun);
+            let _ = progress.close_line(begun);
             return;
         }
-        let _ = progress.tell(begun);
+        let _ = progress.update(begun);
     }
 }
 
@@ -101,7 +105,7 @@ impl<'a, F: FnMut() -> A, A> Task for Lent<'a, F> {
 
 /// Runs `task` and returns its result, while a thread of `scope` reports how many jobs have entered
 /// `gate`.
-fn run_told<'s, S, R: Wait + Sync, E: Write + Drop + Send + 's, T: Task<Output = A> + Drop, A>(
+fn run_reported<'s, S, R: Wait + Sync, E: Write + Drop + Send + 's, T: Task<Output = A> + Drop, A>(
     scope: &Scope<'s, S>,
     rt: &'s R,
     gate: &'s ProgressGate,
@@ -112,7 +116,7 @@ fn run_told<'s, S, R: Wait + Sync, E: Write + Drop + Send + 's, T: Task<Output =
     ensures { T.run_gives task result }
 {
     // If the thread can't be started, nothing is reported, and the task runs all the same.
-    let _telling = scope.spawn(move || tell_until_closed(rt, gate, progress));
+    let _reporting = scope.spawn(move || report_until_closed(rt, gate, progress));
     let done = task.run();
     gate.close();
     done
@@ -135,7 +139,7 @@ fn run_in_scope<R: Threads + Wait + Sync, E: Write + Drop + Send, T: Task<Output
         move |scope| -> A
             requires { T.can_run task }
             ensures { T.run_gives task result }
-        { run_told(scope, rt, gate, progress, task) },
+        { run_reported(scope, rt, gate, progress, task) },
     )
 }
 
@@ -150,7 +154,7 @@ impl<E: Write + Drop + Send> Progress<E> {
     /// entered `gate`: at most ten numbers in a second, each greater than the one before, and at
     /// the end, if any job entered, the final number and LF. If the thread can't be started,
     /// nothing is reported.
-    pub fn tell_while<R: Threads + Wait + Sync, F: FnMut() -> A, A>(
+    pub fn report_while<R: Threads + Wait + Sync, F: FnMut() -> A, A>(
         self,
         rt: &R,
         gate: &ProgressGate,

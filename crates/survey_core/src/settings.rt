@@ -1,16 +1,16 @@
 //! The settings of a survey, with their limits and defaults.
 
 ghost use Rattle.std.specs.Prelude.{◌≤◌};
-ghost use Rattle.lane_core.specs.declared.jobs.TheConstants.{MOST_GUESSES};
-ghost use Rattle.survey_core.specs.declared.settings.TheConstants.{LARGEST_RING, MOST_LANES};
+ghost use Rattle.lane_core.specs.declared.jobs.TheConstants.{MAX_GUESSES};
+ghost use Rattle.survey_core.specs.declared.settings.TheConstants.{MAX_RING, MAX_LANES};
 
 use solve_core::Pick;
 
 /// The greatest number of lanes.
-pub const MOST_LANES: u16 = 16;
+pub const MAX_LANES: u16 = 16;
 
 /// The greatest capacity of a lane's rings, in messages and in answers.
-pub const LARGEST_RING: u16 = lane_core::LARGEST_RING as u16;
+pub const MAX_RING: u16 = lane_core::MAX_RING as u16;
 
 /// The default number of lanes.
 pub const DEFAULT_LANES: u16 = 4;
@@ -34,7 +34,7 @@ pub struct Settings {
     pub pick: Pick,
     /// Whether the solutions are printed.
     pub show: bool,
-    pub ghost lanes_in_range: { (1 ≤ lanes) × (lanes ≤ MOST_LANES) },
-    pub ghost ring_in_range: { (1 ≤ ring) × (ring ≤ LARGEST_RING) },
-    pub ghost guesses_in_range: { guesses ≤ MOST_GUESSES },
+    pub ghost lanes_in_range: { (1 ≤ lanes) × (lanes ≤ MAX_LANES) },
+    pub ghost ring_in_range: { (1 ≤ ring) × (ring ≤ MAX_RING) },
+    pub ghost guesses_in_range: { guesses ≤ MAX_GUESSES },
 }

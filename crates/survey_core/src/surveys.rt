@@ -3,7 +3,7 @@
 ghost use Rattle.std.specs.Prelude.{◌≡◌, ◌+◌, ◌-◌, ◌^◌, ◌<◌, ◌≤◌, ◌↔◌, ◌⊎◌, length, map, Err, IfErr, IfSome, OnOk, IsErrOf};
 ghost use Rattle.std.specs.Io.KnownBytes.{IsAtEnd, Keeps};
 ghost use Rattle.puzzle_text.specs.Shown.{shown_entry};
-ghost use Rattle.survey_core.specs.Guessing.{guessing};
+ghost use Rattle.survey_core.specs.GuessSettings.{guess_settings};
 ghost use Rattle.streams.specs.Counted.{fault_count};
 ghost use Rattle.streams.specs.Reading.{ReadsWithin};
 ghost use Rattle.survey_text.specs.Survey.{survey_of, survey_of_entries, survey_of_list};
@@ -12,7 +12,7 @@ ghost use Rattle.survey_core.specs.Leaving.{IsErrWrite, IsWrite, Leaves};
 use crate::grading::survey_text;
 use crate::{Counted, RunFault, Settings};
 use lane_core::Gate;
-use puzzle_text::{CollectionFault, Entry, LONGEST_COLLECTION, MOST_ENTRIES, entries};
+use puzzle_text::{CollectionFault, Entry, MAX_COLLECTION_LEN, MAX_ENTRIES, entries};
 use std::alloc::Global;
 use std::io::{Read, Write};
 use std::sync::Wait;
@@ -28,11 +28,11 @@ fn write_survey<H: Threads + Wait + Sync, W: Write, G: Gate + Sync>(
     settings: &Settings,
     gate: &G,
 ) -> Result<(), RunFault>
-    requires few { length entries.now ≤ MOST_ENTRIES }
+    requires few { length entries.now ≤ MAX_ENTRIES }
     requires writing { fault_count writer.old < 2 ^ 32 - 1 }
     ensures answer { Leaves
         (Ok (survey_of_list
-        (guessing settings.now) settings.now.show (map shown_entry entries.now)))
+        (guess_settings settings.now) settings.now.show (map shown_entry entries.now)))
         result
         (W.contents writer.old.inner) (W.contents writer.new.inner) }
     ensures write { IsErrWrite result ↔ (fault_count writer.old < fault_count writer.new) }
@@ -62,11 +62,11 @@ pub fn run_survey<H: Threads + Wait + Sync, R: Read, W: Write, G: Gate + Sync>(
 ) -> Result<(), RunFault>
     requires reading { fault_count reader.old < 2 ^ 32 - 1 }
     requires writing { fault_count writer.old < 2 ^ 32 - 1 }
-    ensures bound { ReadsWithin (LONGEST_COLLECTION + 1)
+    ensures bound { ReadsWithin (MAX_COLLECTION_LEN + 1)
         (R.remaining reader.old.inner) (R.remaining reader.new.inner) }
     ensures ended { OnOk result (IsAtEnd (R.remaining reader.new.inner)) }
     ensures answer { IfSome (R.remaining reader.old.inner) (λ input.
-        Leaves (survey_of (guessing settings.now) settings.now.show input) result
+        Leaves (survey_of (guess_settings settings.now) settings.now.show input) result
         (W.contents writer.old.inner) (W.contents writer.new.inner)) }
 
     // `Read` and `Write` are returned exactly if the reader or the writer failed.
@@ -77,7 +77,7 @@ pub fn run_survey<H: Threads + Wait + Sync, R: Read, W: Write, G: Gate + Sync>(
         ⊎ Keeps (W.contents writer.old.inner) (W.contents writer.new.inner)) }
 {
     // One byte more than the limit, by which `entries` detects a collection that is too long.
-    let collection = match read_within(alloc, reader, LONGEST_COLLECTION + 1) {
+    let collection = match read_within(alloc, reader, MAX_COLLECTION_LEN + 1) {
         Ok(collection) => collection,
         Err(ReadFault::Read) => return Err(RunFault::Read),
         Err(ReadFault::NoMemory) => return Err(RunFault::NoMemory),
@@ -103,16 +103,16 @@ pub fn survey_entries<H: Threads + Wait + Sync, W: Write, G: Gate + Sync>(
     requires { fault_count writer.old < 2 ^ 32 - 1 }
     ensures answer { Leaves
         (survey_of_entries
-        (guessing settings.now) settings.now.show (map shown_entry entries.now))
+        (guess_settings settings.now) settings.now.show (map shown_entry entries.now))
         result
         (W.contents writer.old.inner) (W.contents writer.new.inner) }
     // `NoMemory` is never returned in place of this fault.
-    ensures too_many { MOST_ENTRIES < length entries.now
+    ensures too_many { MAX_ENTRIES < length entries.now
         → result ≡ Err (RunFault.Collection CollectionFault.TooMany) }
     ensures write { IsErrWrite result ↔ (fault_count writer.old < fault_count writer.new) }
     ensures no_read { IsErrOf result RunFault.Read → ⊥ }
 {
-    if entries.len() > MOST_ENTRIES {
+    if entries.len() > MAX_ENTRIES {
         return Err(RunFault::Collection(CollectionFault::TooMany));
     }
     write_survey(rt, alloc, entries, writer, settings, gate)

@@ -4,9 +4,9 @@ ghost use Rattle.std.specs.Prelude.{◌≡◌, IfOk};
 ghost use Rattle.lane_core.specs.Lane.{IsFinished};
 ghost use Rattle.lane_core.specs.Ends.{back_lists, SameBack};
 
-use crate::bells::WorkerBells;
-use crate::heap_room::HeapRoom;
+use crate::heap_reserve::HeapReserve;
 use crate::lane_context::LaneContext;
+use crate::wakeups::WakeBatcher;
 use lane_core::{Gate, LaneBack, Step};
 use std::alloc::Global;
 use std::snapshot::Snapshot;
@@ -30,24 +30,24 @@ pub fn run_worker<R: Wait, G: Gate>(
     alloc: Global,
     gate: &G,
     back: LaneBack,
-    bells: WorkerBells<'_>,
+    batcher: WakeBatcher<'_>,
 ) -> LaneBack
     ensures lane { SameBack back result }
     ensures finished { IsFinished (back_lists result) }
 {
     let mut back = back;
-    let mut bells = bells;
-    let mut room = HeapRoom::new(alloc);
+    let mut batcher = batcher;
+    let mut reserve = HeapReserve::new(alloc);
     for _ in rt.forever() {
         match back.step(alloc, gate) {
             Step::Graded => {
-                bells.tell_later();
+                batcher.answer_put();
                 // Answers stay on this thread's heap until the survey is printed.
-                room.make();
+                reserve.top_up();
             }
-            Step::Idle | Step::Waiting => bells.sleep(rt),
+            Step::Idle | Step::Waiting => batcher.park(rt),
             Step::Done => {
-                bells.tell();
+                batcher.wake_collector();
                 return back;
             }
         }
@@ -57,29 +57,29 @@ pub fn run_worker<R: Wait, G: Gate>(
 
 /// The fault that a thread could not be started.
 #[derive(Clone, Copy, Debug)]
-pub struct NoThread;
+pub struct SpawnFailed;
 
-/// Starts the worker of a lane, whose parker is `bell`, in a thread of `scope`. Returns the handle
-/// of the thread, which promises the lane's back. Fails with `NoThread` if the thread can't be
-/// started.
+/// Starts the worker of a lane, whose parker is `parker`, in a thread of `scope`. Returns the
+/// handle of the thread, which promises the lane's back. Fails with `SpawnFailed` if the thread
+/// can't be started.
 pub fn start_worker<'s, E, R: Wait + Sync, G: Gate + Sync>(
     context: &'s LaneContext<'s, R, G>,
     scope: &Scope<'s, E>,
     back: LaneBack,
-    bell: &'s Parker,
-) -> Result<PromisedHandle<LaneBack, FinishedBackOf>, NoThread>
+    parker: &'s Parker,
+) -> Result<PromisedHandle<LaneBack, FinishedBackOf>, SpawnFailed>
     ensures { IfOk result (λ worker. worker.promise.0.value ≡ back) }
 {
     let promise = FinishedBackOf(Snapshot::of(&back));
     // The closure captures plain references: one that captured `context`, whose type has a
     // lifetime, would ensure nothing of its result.
     let (rt, alloc, gate) = (context.rt, context.alloc, context.gate);
-    let (collector, batch) = (context.bell, context.batch);
+    let (collector, wake_interval) = (context.parker, context.wake_interval);
     match scope.spawn_with(promise, move || {
-        let bells = WorkerBells::new(bell, collector, batch);
-        run_worker(rt, alloc, gate, back, bells)
+        let batcher = WakeBatcher::new(parker, collector, wake_interval);
+        run_worker(rt, alloc, gate, back, batcher)
     }) {
         Ok(worker) => Ok(worker),
-        Err(_) => Err(NoThread),
+        Err(_) => Err(SpawnFailed),
     }
 }

@@ -4,7 +4,7 @@
 use crate::tests_samples::{NOTHING, TEN, TEN_SHOWN, TEN_SURVEY, settings};
 use lane_core::{Gate, Job, OpenGate, grade};
 use puzzle_text::{
-    CollectionFault, Entry, EntryFault, MOST_ENTRIES, TextFault, entries, read_entry,
+    CollectionFault, Entry, EntryFault, MAX_ENTRIES, TextFault, entries, read_entry,
 };
 use reports::ConvertFault;
 use solve_core::Pick;
@@ -129,7 +129,7 @@ pub(crate) fn one_thread_survey(
     show: bool,
 ) -> Result<Vec<u8>, Fail> {
     let outcomes = outcomes_of(alloc, collection)?;
-    if outcomes.len() > MOST_ENTRIES {
+    if outcomes.len() > MAX_ENTRIES {
         return Err("too many".into());
     }
     Ok(print_survey(alloc, &outcomes, show)?)

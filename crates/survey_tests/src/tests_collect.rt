@@ -12,7 +12,7 @@ use std::sync::Wait;
 use std::sync::atomic::{AtomicU32, Ordering};
 use std::test::Fail;
 use std::thread::Threads;
-use survey_core::{LARGEST_RING, MOST_JOBS, MOST_LANES, collect};
+use survey_core::{MAX_JOBS, MAX_LANES, MAX_RING, collect};
 
 /// How often a job at a gate looks for others. Bounded, so that a test fails and does not hang.
 const MOST_TURNS: u32 = 100_000_000;
@@ -36,11 +36,11 @@ pub(crate) fn assert_answered<R: Threads + Wait + Sync + Abort + AllocGlobal, G:
     ring: u16,
     gate: &G,
 ) -> Result<(), Fail>
-    requires lanes { (1 ≤ lanes) × (lanes ≤ MOST_LANES) }
-    requires ring { (1 ≤ ring) × (ring ≤ LARGEST_RING) }
+    requires lanes { (1 ≤ lanes) × (lanes ≤ MAX_LANES) }
+    requires ring { (1 ≤ ring) × (ring ≤ MAX_RING) }
 {
     let jobs = jobs_numbered(rt.alloc(), count)?;
-    assert!(rt; jobs.len() <= MOST_JOBS);
+    assert!(rt; jobs.len() <= MAX_JOBS);
     let answers = collect(rt, rt.alloc(), jobs, lanes, ring, gate)?;
     let numbers = answers.iter().map(|answer| answer.number());
     assert!(rt; numbers.eq(0..count), "{count} jobs, {lanes} lanes");
@@ -69,7 +69,7 @@ impl Gate for Meeting {
 
 #[test]
 fn each_lane_has_a_thread(rt: HostRuntime) -> Result<(), Fail> {
-    for lanes in [2u16, MOST_LANES] {
+    for lanes in [2u16, MAX_LANES] {
         let wanted = u32::from(lanes);
         let gate = Meeting {
             wanted,

@@ -45,7 +45,7 @@ fn counted_script() -> Counted<Scripted> {
 }
 
 /// Returns the result with each error replaced by its kind, which can be compared.
-fn told<T>(answer: io::Result<T>) -> Result<T, ErrorKind> {
+fn kind_of<T>(answer: io::Result<T>) -> Result<T, ErrorKind> {
     match answer {
         Ok(value) => Ok(value),
         Err(error) => Err(error.kind()),
@@ -67,7 +67,7 @@ fn reads_pass_through(rt: HostRuntime) {
     let mut buffer = [b'.'; 3];
     for (answer, faults) in READS {
         reader.inner.answer = answer;
-        assert!(rt; told(reader.read(&mut buffer)) == answer, "{answer:?}");
+        assert!(rt; kind_of(reader.read(&mut buffer)) == answer, "{answer:?}");
         assert!(rt; buffer == *b"xx.");
         assert!(rt; reader.faults() == faults, "{answer:?}");
     }
@@ -89,7 +89,7 @@ fn writes_pass_through(rt: HostRuntime) {
     let mut writer = counted_script();
     for (bytes, answer, faults) in WRITES {
         writer.inner.answer = answer;
-        assert!(rt; told(writer.write(bytes)) == answer, "{answer:?}");
+        assert!(rt; kind_of(writer.write(bytes)) == answer, "{answer:?}");
         assert!(rt; writer.faults() == faults, "{answer:?}");
     }
 }
@@ -107,7 +107,7 @@ fn flushes_pass_through(rt: HostRuntime) {
     let mut writer = counted_script();
     for (answer, flushes, faults) in FLUSHES {
         writer.inner.answer = answer.and(Ok(0));
-        assert!(rt; told(writer.flush()) == answer, "flush {flushes}");
+        assert!(rt; kind_of(writer.flush()) == answer, "flush {flushes}");
         assert!(rt; writer.inner.flushes == flushes);
         assert!(rt; writer.faults() == faults, "flush {flushes}");
     }

@@ -59,7 +59,7 @@ impl Jobs {
 }
 
 /// Returns what is printed while jobs enter.
-fn told<R: Threads + Wait + Clock + Sync + Abort + AllocGlobal>(
+fn progress_of<R: Threads + Wait + Clock + Sync + Abort + AllocGlobal>(
     rt: &R,
     jobs: Jobs,
     files: Option<u32>,
@@ -67,7 +67,7 @@ fn told<R: Threads + Wait + Clock + Sync + Abort + AllocGlobal>(
     let mut text = Vec::new(rt.alloc());
     let gate = ProgressGate::new();
     let progress = Progress::new(rt.alloc(), &mut text, files)?;
-    progress.tell_while(rt, &gate, &mut || jobs.enter(rt, &gate));
+    progress.report_while(rt, &gate, &mut || jobs.enter(rt, &gate));
     Ok(text)
 }
 
@@ -106,7 +106,7 @@ const LAST_LINES: [(u32, Option<u32>, &[u8]); 5] = [
 #[test]
 fn last_number_is_told(rt: HostRuntime) -> Result<(), Fail> {
     for (count, files, last) in LAST_LINES {
-        let text = told(&rt, Jobs::InARow(count), files)?;
+        let text = progress_of(&rt, Jobs::InARow(count), files)?;
         let is_printed = text.ends_with(last) && text.is_empty() == last.is_empty();
         assert!(rt; is_printed, "{count} jobs");
     }
@@ -115,7 +115,7 @@ fn last_number_is_told(rt: HostRuntime) -> Result<(), Fail> {
 
 #[test]
 fn jobs_of_four_threads_are_all_counted(rt: HostRuntime) -> Result<(), Fail> {
-    let text = told(&rt, Jobs::FromFour, None)?;
+    let text = progress_of(&rt, Jobs::FromFour, None)?;
     assert!(rt; text.ends_with(b"\rentries begun 200000\n"));
     Ok(())
 }
@@ -126,7 +126,7 @@ fn told_slowly<R: Threads + Wait + Clock + Sync + Abort + AllocGlobal>(
     rt: &R,
 ) -> Result<(Vec<u32>, u128), Fail> {
     let start = Instant::now(rt)?;
-    let text = told(rt, Jobs::Slowly, None)?;
+    let text = progress_of(rt, Jobs::Slowly, None)?;
     let most = start.elapsed(rt)?.as_millis() / 100 + 1;
     Ok((numbers_of(rt.alloc(), &text)?, most))
 }
@@ -192,7 +192,7 @@ fn jobs_enter_while_the_writer_is_held(rt: HostRuntime) -> Result<(), Fail> {
     };
     let gate = ProgressGate::new();
     let progress = Progress::new(rt.alloc(), errors, None)?;
-    progress.tell_while(
+    progress.report_while(
         &rt,
         &gate,
         &mut || {
@@ -244,7 +244,7 @@ fn assert_survey<R: Threads + Wait + Sync + Abort + AllocGlobal, E: Write + Drop
 ) -> Result<(), Fail> {
     let gate = ProgressGate::new();
     let progress = Progress::new(rt.alloc(), errors, Some(10))?;
-    let is_survey = progress.tell_while(rt, &gate, &mut || is_ten_survey(rt, lanes, &gate));
+    let is_survey = progress.report_while(rt, &gate, &mut || is_ten_survey(rt, lanes, &gate));
     assert!(rt; is_survey, "{lanes} lanes");
     Ok(())
 }

@@ -5,13 +5,13 @@ use crate::tests::{one_thread_survey, repeated};
 use crate::tests_answers::{assert_answers, eight_jobs};
 use crate::tests_progress::enter;
 use crate::tests_samples::{TEN, TEN_SURVEY, settings};
+use alloc_failures::{CallResult, arm, disarm, expected_if, sweep};
 use lane_core::{Gate, OpenGate};
-use refusals::{Told, refuse, sweep, told_if, was_refused};
 use std::sync::Wait;
 use std::sync::atomic::{AtomicU32, Ordering};
 use std::test::Fail;
 use std::thread::Threads;
-use survey_core::{Counted, MOST_JOBS, Progress, ProgressGate, RunFault, collect, run_survey};
+use survey_core::{Counted, MAX_JOBS, Progress, ProgressGate, RunFault, collect, run_survey};
 
 /// More allocations and starts of threads than any call here makes.
 const MOST_GROWTHS: usize = 3000;
@@ -33,13 +33,13 @@ fn answers_are_collected_or_refused(rt: HostRuntime) -> Result<(), Fail> {
     let alloc = rt.alloc();
     for growth in 1..MOST_GROWTHS {
         let jobs = eight_jobs(alloc)?;
-        assert!(rt; jobs.len() <= MOST_JOBS);
+        assert!(rt; jobs.len() <= MAX_JOBS);
         let gate = Entries {
             count: AtomicU32::new(0),
         };
-        refuse(alloc, growth);
+        arm(alloc, growth);
         let answers = collect(&rt, alloc, jobs, 3, 1, &gate);
-        let refused = was_refused(alloc);
+        let refused = disarm(alloc);
         match &answers {
             Ok(answers) => assert_answers(&rt, answers, refused),
             Err(_) => assert!(rt; refused, "growth {growth}"),
@@ -58,13 +58,13 @@ fn answers_are_collected_or_refused(rt: HostRuntime) -> Result<(), Fail> {
 
 /// Surveys a collection into `text`, whose capacity has to suffice, and classifies the result. A
 /// survey that fails has to leave `text` empty.
-fn told_of_survey<R: Threads + Wait + Sync + AllocGlobal>(
+fn result_of_survey<R: Threads + Wait + Sync + AllocGlobal>(
     rt: &R,
     collection: &[u8],
     lanes: u16,
     text: Vec<u8>,
     wanted: &[u8],
-) -> Told {
+) -> CallResult {
     let mut reader = Counted::new(collection);
     let mut output = Counted::new(text);
     let settings = settings(lanes, 1, false);
@@ -76,9 +76,10 @@ fn told_of_survey<R: Threads + Wait + Sync + AllocGlobal>(
         &settings,
         &OpenGate,
     ) {
-        Ok(()) => told_if(output.inner.as_slice() == wanted),
-        Err(RunFault::NoMemory | RunFault::Thread) if output.inner.is_empty() => Told::NoMemory,
-        Err(_) => Told::Other,
+        Ok(()) => expected_if(output.inner.as_slice() == wanted),
+        Err(RunFault::NoMemory | RunFault::Thread) if output.inner.is_empty() =>
+            CallResult::NoMemory,
+        Err(_) => CallResult::Other,
     }
 }
 
@@ -86,8 +87,8 @@ fn told_of_survey<R: Threads + Wait + Sync + AllocGlobal>(
 fn surveys_are_written_or_refused(rt: HostRuntime) -> Result<(), Fail> {
     let alloc = rt.alloc();
     sweep(alloc, || match Vec::with_capacity(alloc, 1000) {
-        Ok(text) => told_of_survey(&rt, TEN.as_bytes(), 3, text, TEN_SURVEY.as_bytes()),
-        Err(_) => Told::NoMemory,
+        Ok(text) => result_of_survey(&rt, TEN.as_bytes(), 3, text, TEN_SURVEY.as_bytes()),
+        Err(_) => CallResult::NoMemory,
     })?;
     Ok(())
 }
@@ -100,8 +101,8 @@ fn surveys_in_parts_are_written_or_refused(rt: HostRuntime) -> Result<(), Fail> 
     collection.extend_from_slice(TEN.as_bytes())?;
     let wanted = one_thread_survey(alloc, &collection, false)?;
     sweep(alloc, || match Vec::with_capacity(alloc, 5000) {
-        Ok(text) => told_of_survey(&rt, &collection, 3, text, &wanted),
-        Err(_) => Told::NoMemory,
+        Ok(text) => result_of_survey(&rt, &collection, 3, text, &wanted),
+        Err(_) => CallResult::NoMemory,
     })?;
     Ok(())
 }
@@ -114,11 +115,11 @@ fn progress_is_told_or_refused(rt: HostRuntime) -> Result<(), Fail> {
     for growth in 1..MOST_GROWTHS {
         let mut text = Vec::with_capacity(alloc, 3000)?;
         let gate = ProgressGate::new();
-        refuse(alloc, growth);
+        arm(alloc, growth);
         if let Ok(progress) = Progress::new(alloc, &mut text, Some(u32::MAX)) {
-            progress.tell_while(&rt, &gate, &mut || enter(&gate, MOST_JOBS as u32));
+            progress.report_while(&rt, &gate, &mut || enter(&gate, MAX_JOBS as u32));
         }
-        if !was_refused(alloc) {
+        if !disarm(alloc) {
             assert!(rt; text.ends_with(b"\rentries begun 10000 of 4294967295 files\n"));
             return Ok(());
         }

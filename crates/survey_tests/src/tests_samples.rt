@@ -1,7 +1,7 @@
 //! Collections and their surveys, worked out by hand.
 
 use solve_core::Pick;
-use survey_core::{LARGEST_RING, MOST_LANES, Settings};
+use survey_core::{MAX_LANES, MAX_RING, Settings};
 
 /// Ten entries. Their puzzles have no, one or several solutions, all grades, and their sizes in
 /// both orders; one entry has a bad number, and one a name without a format.
@@ -65,8 +65,8 @@ pub const DEMO_SURVEY: &str = "1 5x10 one line 50 50 0 meets demo.non\n\
 /// ranges.
 pub fn settings(lanes: u16, ring: u16, show: bool) -> Settings {
     Settings {
-        lanes: lanes.clamp(1, MOST_LANES),
-        ring: ring.clamp(1, LARGEST_RING),
+        lanes: lanes.clamp(1, MAX_LANES),
+        ring: ring.clamp(1, MAX_RING),
         guesses: 1000,
         pick: Pick::First,
         show,

@@ -11,7 +11,7 @@ use std::sync::Wait;
 use std::sync::atomic::{AtomicU32, Ordering};
 use std::test::Fail;
 use std::thread::Threads;
-use survey_core::MOST_LANES;
+use survey_core::MAX_LANES;
 
 /// Entries with tiny puzzles, whose answers differ.
 const TINY: [&[u8]; 3] = [
@@ -50,7 +50,7 @@ fn surveys_of_tiny_puzzles_end_alike(rt: HostRuntime) -> Result<(), Fail> {
     for count in 0..21u32 {
         let collection = tiny_collection(rt.alloc(), count)?;
         let wanted = one_thread_survey(rt.alloc(), &collection, false)?;
-        for lanes in 1..=MOST_LANES {
+        for lanes in 1..=MAX_LANES {
             assert_surveys(&rt, &collection, lanes, &wanted)?;
         }
     }

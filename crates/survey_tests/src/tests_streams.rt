@@ -47,13 +47,13 @@ fn failing_reader(text: &'static str, piece: usize, calls: usize) -> Counted<Fai
     })
 }
 
-/// A writer that takes `room` bytes, at most `piece` in a call, and then fails, or takes nothing if
-/// `takes_nothing`. A flush fails if `flush_fails`.
+/// A writer that takes `limit` bytes, at most `piece` in a call, and then fails, or takes nothing
+/// if `takes_nothing`. A flush fails if `flush_fails`.
 #[derive(Drop)]
 pub(crate) struct FailingWriter {
     pub(crate) taken: Vec<u8>,
     piece: usize,
-    room: usize,
+    limit: usize,
     takes_nothing: bool,
     pub(crate) flushes: u32,
     flush_fails: bool,
@@ -62,12 +62,12 @@ pub(crate) struct FailingWriter {
 
 impl Write for FailingWriter {
     fn write(&mut self, bytes: &[u8]) -> io::Result<usize> {
-        let count = self.piece.min(self.room).min(bytes.len());
+        let count = self.piece.min(self.limit).min(bytes.len());
         if count == 0 && !self.takes_nothing {
             return Err(io::Error::from(self.error));
         }
         self.taken.extend_from_slice(&bytes[..count])?;
-        self.room -= count;
+        self.limit -= count;
         Ok(count)
     }
 
@@ -80,11 +80,11 @@ impl Write for FailingWriter {
     }
 }
 
-/// Returns a writer that takes `room` bytes, at most `piece` in a call, and whose flushes succeed.
+/// Returns a writer that takes `limit` bytes, at most `piece` in a call, and whose flushes succeed.
 pub(crate) fn failing_writer(
     alloc: Global,
     piece: usize,
-    room: usize,
+    limit: usize,
     takes_nothing: bool,
 ) -> Counted<FailingWriter>
     ensures { fault_count result ≡ 0 }
@@ -92,7 +92,7 @@ pub(crate) fn failing_writer(
     Counted::new(FailingWriter {
         taken: Vec::new(alloc),
         piece,
-        room,
+        limit,
         takes_nothing,
         flushes: 0,
         flush_fails: false,
@@ -151,9 +151,9 @@ const WRITERS: [(&str, &str, u16, usize, bool); 4] = [
 fn writer_fails_at_each_call(rt: HostRuntime) {
     assert!(rt; DEMO_SURVEY.len() == 119);
     for (collection, survey, lanes, piece, takes_nothing) in WRITERS {
-        for room in 0..survey.len() {
-            let writer = failing_writer(rt.alloc(), piece, room, takes_nothing);
-            let sent = &survey.as_bytes()[..room];
+        for limit in 0..survey.len() {
+            let writer = failing_writer(rt.alloc(), piece, limit, takes_nothing);
+            let sent = &survey.as_bytes()[..limit];
             assert_write_fails(&rt, collection, lanes, writer, sent);
         }
     }

@@ -44,23 +44,25 @@ meets_decide p full =
     )
 
 -- a word that is not `Absent`, and `Meets` exactly if the values meet the clues, is determined by a test of that
-by_test : (p : Nonogram) (values : List Bool) (test : Bool) (said : GoalWord) → Decides test (Meets p values) → (said ≡ word.Absent → ⊥)
-    → (said ≡ word.Meets) ↔ Meets p values → said ≡ (if test then word.Meets else word.Misses)
-by_test p values true said decides some meets = meets.1 (decides.0 refl)
+by_test : (p : Nonogram) (values : List Bool) (test : Bool) (printed : GoalWord) → Decides test (Meets p values)
+    → (printed ≡ word.Absent → ⊥)
+    → (printed ≡ word.Meets) ↔ Meets p values → printed ≡ (if test then word.Meets else word.Misses)
+by_test p values true printed decides some meets = meets.1 (decides.0 refl)
 by_test p values false word.Absent decides some meets = absurd (some refl)
 by_test p values false word.Meets decides some meets = let bad = decides.1 (meets.0 refl) in cc
 by_test p values false word.Misses decides some meets = refl
 
 -- a word that is not `Absent`, and `Meets` exactly if the values meet the clues, is the word for these values
-pub said_of : (p : Nonogram) (values : List Bool) (said : GoalWord) → (said ≡ word.Absent → ⊥) → (said ≡ word.Meets) ↔ Meets p values
-    → said ≡ word_of_goal p (Some values)
-said_of p values said some meets = by_test p values (meets_clues p values) said (meets_decide p values) some meets
+pub word_is : (p : Nonogram) (values : List Bool) (printed : GoalWord) → (printed ≡ word.Absent → ⊥) → (printed ≡ word.Meets)
+    ↔ Meets p values
+    → printed ≡ word_of_goal p (Some values)
+word_is p values printed some meets = by_test p values (meets_clues p values) printed (meets_decide p values) some meets
 
 -- a word that is `Absent` exactly without a goal, and `Meets` exactly if the goal meets the clues, is the word for the goal
-pub word_of_goal_is : (p : Nonogram) (goal : Option (List Bool)) (said : GoalWord) → (said ≡ word.Absent) ↔ (goal ≡ None)
-    → (said ≡ word.Meets) ↔ GivenMeets p goal → said ≡ word_of_goal p goal
-word_of_goal_is p None said absent meets = absent.1 refl
-word_of_goal_is p (Some values) said absent meets = said_of p values said (λ e. let bad = absent.0 e in cc) meets
+pub word_of_goal_is : (p : Nonogram) (goal : Option (List Bool)) (printed : GoalWord) → (printed ≡ word.Absent) ↔ (goal ≡ None)
+    → (printed ≡ word.Meets) ↔ GivenMeets p goal → printed ≡ word_of_goal p goal
+word_of_goal_is p None printed absent meets = absent.1 refl
+word_of_goal_is p (Some values) printed absent meets = word_is p values printed (λ e. let bad = absent.0 e in cc) meets
 
 -- the slice of `values` for row `y` shows the cells of the row exactly if `values` shows that row
 pub row_shown : (grid : PartialGrid) (values : List Bool) (y first width last : ℕ) (row : List Cell) → row ≡ row_of grid y

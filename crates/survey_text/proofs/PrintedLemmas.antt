@@ -6,8 +6,8 @@ use Rattle.grid_core.specs.PartialGrid.{PartialGrid}
 use Rattle.survey_text.proofs.NumberedLemmas.{numbered-append, numbered-push}
 use Rattle.survey_text.specs.Entries.{GradedEntry, entry_text}
 use Rattle.survey_text.specs.Grids.{row_text, rows_text}
-use Rattle.survey_text.specs.Parts.{AreParts, IsTotals, texts_from}
-use Rattle.survey_text.specs.declared.texts.Parts.{Parts}
+use Rattle.survey_text.specs.Chunks.{AreChunks, IsTotals, texts_from}
+use Rattle.survey_text.specs.declared.texts.ChunkTexts.{ChunkTexts}
 
 -- a range that is longer by one ends with the number `j` that comes next
 range-more : (a n j : ℕ) → a + n ≡ j → range_with_len a (suc n) ≡ range_with_len a n ++ j ∷ []
@@ -33,11 +33,11 @@ texts_from-append show first entries behind =
     numbered-append (λ (numbered : ℕ × GradedEntry). entry_text show numbered.0 numbered.1) first entries behind
 
 -- chunks of `entries`, followed by chunks of the entries that come next, are chunks of all of them
-pub both_parts : (show : Bool) (first : ℕ) (entries behind : List GradedEntry) (these those both : Parts)
-    → AreParts show first these entries → AreParts show (first + length entries) those behind
+pub both_chunks : (show : Bool) (first : ℕ) (entries behind : List GradedEntry) (these those both : ChunkTexts)
+    → AreChunks show first these entries → AreChunks show (first + length entries) those behind
     → both.front.items ≡ (these.front.items ++ these.last ∷ []) ++ those.front.items → both.last ≡ those.last
-    → IsTotals both.totals (entries ++ behind) → AreParts show first both (entries ++ behind)
-both_parts show first entries behind these those both are_these are_those front last totals = record {
+    → IsTotals both.totals (entries ++ behind) → AreChunks show first both (entries ++ behind)
+both_chunks show first entries behind these those both are_these are_those front last totals = record {
   text = rw (front, last, texts_from-append show first entries behind, ← are_these.text, ← are_those.text)
       (simp (flat_map-append, append_assoc, append-nil));
   totals = totals;

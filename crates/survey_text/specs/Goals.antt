@@ -9,7 +9,7 @@ use Rattle.grid_core.specs.declared.puzzles.GoalWord.TheVariants.{Absent, Meets,
 
 -- whether the runs of the full grid `full` along `line` are its clue
 abbrev pub meets_line : List Bool → GridLine → Bool
-meets_line full line = bytes_eq (runs (cells_at false full line.places)) line.clue
+meets_line full line = bytes_eq (runs (cells_at false full line.indices)) line.clue
 
 -- whether the full grid `full` has the size of `p` and meets the clue of each line
 abbrev pub meets_clues : Nonogram → List Bool → Bool

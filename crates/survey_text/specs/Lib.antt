@@ -4,6 +4,6 @@ pub mod Goals
 pub mod Entries
 pub mod Totals
 pub mod Listings
-pub mod Parts
+pub mod Chunks
 pub mod Survey
 pub mod steps

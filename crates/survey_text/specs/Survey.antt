@@ -2,7 +2,7 @@
 use Rattle.std.specs.Prelude.{ℕ, Bool, List, ◌++◌, map, length, nat_lt, if◌then◌else◌, Result, Ok, Err}
 use Rattle.std.specs.List.{enumerate_from, flat_map}
 use Rattle.grid_core.specs.Nonogram.{Nonogram}
-use Rattle.grid_core.specs.declared.limits.TheConstants.{LONGEST_SIDE}
+use Rattle.grid_core.specs.declared.limits.TheConstants.{MAX_SIDE}
 use Rattle.solve_core.specs.Picks.{picked}
 use Rattle.solve_core.specs.Report.{report_of}
 use Rattle.solve_core.specs.declared.findings.Findings.{Findings}
@@ -12,7 +12,7 @@ use Rattle.puzzle_text.specs.Formats.{read_entry}
 use Rattle.puzzle_text.specs.declared.faults.CollectionFault.{CollectionFault}
 use Rattle.puzzle_text.specs.declared.faults.CollectionFault.TheVariants.{TooMany}
 use Rattle.puzzle_text.specs.declared.faults.EntryFault.{EntryFault}
-use Rattle.puzzle_text.specs.declared.limits.TheConstants.{MOST_ENTRIES}
+use Rattle.puzzle_text.specs.declared.limits.TheConstants.{MAX_ENTRIES}
 use Rattle.survey_text.specs.Entries.{GradedEntry, entry_text}
 use Rattle.survey_text.specs.Totals.{totals_line}
 
@@ -27,39 +27,39 @@ survey_text show entries = entries_text show entries ++ totals_line entries
 
 -- how a search guesses: the greatest number of guesses for a puzzle, and the rule for the cell of
 -- the next one
-pub record Guessing : Type 0 where
+pub record GuessSettings : Type 0 where
   pub limit : ℕ
   pub pick : Pick
 
 -- the puzzle with the findings of its report, or the fault
 abbrev pub reported :
-    Guessing → Result Nonogram EntryFault → Result (Nonogram × Findings) EntryFault
+    GuessSettings → Result Nonogram EntryFault → Result (Nonogram × Findings) EntryFault
 reported guesses (Ok p) = Ok (p, report_of (picked guesses.pick p.width) p guesses.limit)
 reported guesses (Err fault) = Err fault
 
 -- `entry` with its puzzle and the findings of the report on that, or with its fault
-abbrev pub graded : Guessing → Entry → GradedEntry
+abbrev pub graded : GuessSettings → Entry → GradedEntry
 graded guesses entry = record {
   name = entry.name;
-  result = reported guesses (read_entry LONGEST_SIDE entry);
+  result = reported guesses (read_entry MAX_SIDE entry);
 }
 
 -- the text of the survey of `entries`
-abbrev pub survey_of_list : Guessing → Bool → List Entry → List ℕ
+abbrev pub survey_of_list : GuessSettings → Bool → List Entry → List ℕ
 survey_of_list guesses show entries = survey_text show (map (graded guesses) entries)
 
 -- the text of the survey of the entries, or the fault
 abbrev pub survey_or_fault :
-    Guessing → Bool → Result (List Entry) CollectionFault → Result (List ℕ) CollectionFault
+    GuessSettings → Bool → Result (List Entry) CollectionFault → Result (List ℕ) CollectionFault
 survey_or_fault guesses show (Ok entries) = Ok (survey_of_list guesses show entries)
 survey_or_fault guesses show (Err fault) = Err fault
 
 -- the text of the survey of the collection `bytes`, or its first fault
-abbrev pub survey_of : Guessing → Bool → List ℕ → Result (List ℕ) CollectionFault
+abbrev pub survey_of : GuessSettings → Bool → List ℕ → Result (List ℕ) CollectionFault
 survey_of guesses show bytes = survey_or_fault guesses show (cut bytes)
 
--- the text of the survey of `entries`, or `TooMany` if they are more than `MOST_ENTRIES`
-abbrev pub survey_of_entries : Guessing → Bool → List Entry → Result (List ℕ) CollectionFault
+-- the text of the survey of `entries`, or `TooMany` if they are more than `MAX_ENTRIES`
+abbrev pub survey_of_entries : GuessSettings → Bool → List Entry → Result (List ℕ) CollectionFault
 survey_of_entries guesses show entries =
-    if nat_lt MOST_ENTRIES (length entries) then Err TooMany
+    if nat_lt MAX_ENTRIES (length entries) then Err TooMany
     else Ok (survey_of_list guesses show entries)

@@ -2,5 +2,5 @@
 pub mod Entries
 pub mod Goals
 pub mod Listings
-pub mod Parts
+pub mod Chunks
 pub mod Tallies

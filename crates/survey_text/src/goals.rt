@@ -1,37 +1,37 @@
 //! Whether a puzzle's goal meets its clues, given the verdict on the puzzle.
 
 ghost use Rattle.std.specs.Prelude.{◌≡◌, ◌*◌, ◌<◌, ◌≤◌, ◌↔◌, ℕ, IsTrue, false, length, slice_index_or, true};
-ghost use Rattle.place_sets.specs.Masks.{IsMaskOf};
+ghost use Rattle.bit_sets.specs.Masks.{IsMaskOf};
 ghost use Rattle.survey_text.specs.Goals.{goal_word};
 ghost use Rattle.survey_text.specs.steps.Goals.{AreColours, IsOnlySolution, IsOnlyWhereOne, IsRowShown};
 
-use grid_core::{GoalWord, Grid, LineOf, Puzzle};
-use place_sets::{PlaceSet, first_places};
+use bit_sets::{BitSet, prefix};
+use grid_core::{BitLine, GoalWord, Grid, Puzzle};
 use solve_core::Verdict;
 
 /// Returns the set of the indices at which `values` is true.
-#[tactic(auto, using(std::proofs::lemmas::Bool::cases_eq, place_sets::proofs::Doubling::one_within))]
-fn set_of<W: PlaceSet>(values: &[bool]) -> W
+#[tactic(auto, using(std::proofs::lemmas::Bool::cases_eq, bit_sets::proofs::Doubling::one_within))]
+fn set_of<W: BitSet>(values: &[bool]) -> W
     requires { length values.now ≤ W.WIDTH }
     ensures { IsMaskOf
         (λ k. (k < length values.now) × (slice_index_or values.now k false ≡ true))
-        (W.number result) }
+        (W.bits result) }
 {
     // From the last value to the first, so that each costs a shift by the constant 1, not by `x`.
     let mut set = W::empty();
     for x in (0..values.len()).rev() {
-        set = set.shifted_up(1).marked(0, values[x]);
+        set = set.shifted_up(1).with_bit(0, values[x]);
     }
     set
 }
 
 /// Reports whether `values` is true exactly at the filled cells of `line`. Compares all of them at
 /// once, as sets.
-fn is_line_shown<W: PlaceSet>(line: &LineOf<W>, values: &[bool]) -> bool
+fn is_line_shown<W: BitSet>(line: &BitLine<W>, values: &[bool]) -> bool
     requires { length values.now ≡ length line.now }
     ensures { IsTrue result ↔ AreColours line.now values.now }
 {
-    let cells = first_places(line.len());
+    let cells = prefix(line.len());
     let differing = line.filled().symmetric_difference(set_of(values));
     differing.intersection(cells).is_empty()
 }

@@ -17,4 +17,4 @@ pub use listings::AnswerListing;
 pub use outcomes::Outcome;
 pub use pictures::push_grid;
 pub use printing::print_survey;
-pub use texts::{Parts, SurveyText};
+pub use texts::{ChunkTexts, SurveyText};

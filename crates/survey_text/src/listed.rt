@@ -18,7 +18,7 @@ pub(crate) struct GradedPuzzle<'a> {
     pub findings: &'a Findings,
     /// Whether the puzzle has a goal, and whether that meets the clues.
     pub goal: GoalWord,
-    pub ghost said: { goal ≡ goal_word puzzle.now },
+    pub ghost goal_is: { goal ≡ goal_word puzzle.now },
 }
 
 /// An entry as a survey prints it: its name, with its graded puzzle or the fault for which it is

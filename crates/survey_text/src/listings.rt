@@ -15,12 +15,12 @@ use puzzle_text::{Entry, EntryFault};
 /// A sequence of entries with their results, in the order in which a survey prints them.
 pub(crate) trait Listing<'a> {
     /// The entries that are left, with `None` for each one whose answer failed with `NoMemory`.
-    ghost to_come: { Self → List (Option GradedEntry) };
+    ghost remaining: { Self → List (Option GradedEntry) };
 
     /// Returns the next entry, or `None` if none is left. Fails with `NoMemory` if its answer did.
     fn next(&mut self) -> Result<Option<ListedEntry<'a>>, NoMemory>
-        ensures { IfOk result (λ next. MatchOption next (to_come self.old ≡ [])
-            (λ entry. to_come self.old ≡ Some (shown_listed entry) ∷ to_come self.new)) };
+        ensures { IfOk result (λ next. MatchOption next (remaining self.old ≡ [])
+            (λ entry. remaining self.old ≡ Some (shown_listed entry) ∷ remaining self.new)) };
 }
 
 /// The entries of a list of outcomes.
@@ -31,7 +31,7 @@ pub(crate) struct OutcomeListing<'a> {
 }
 
 impl<'a> Listing<'a> for OutcomeListing<'a> {
-    ghost to_come = { λ listing. in_hand listing.outcomes.now };
+    ghost remaining = { λ listing. in_hand listing.outcomes.now };
 
     fn next(&mut self) -> Result<Option<ListedEntry<'a>>, NoMemory> {
         let Some((outcome, others)) = self.outcomes.split_first() else {
@@ -54,7 +54,7 @@ pub struct AnswerListing<'a, 'e> {
 }
 
 impl<'a, 'e: 'a> Listing<'a> for AnswerListing<'a, 'e> {
-    ghost to_come = { λ listing.
+    ghost remaining = { λ listing.
         answered listing.entries.now listing.faults.now listing.answers.now };
 
     fn next(&mut self) -> Result<Option<ListedEntry<'a>>, NoMemory> {

@@ -4,15 +4,15 @@ ghost use Rattle.std.specs.Prelude.{◌≡◌, ◌<◌, ◌++◌, map, OnOk};
 ghost use Rattle.std.specs.Int.{bit_at, from_le_bytes, w64};
 ghost use Rattle.std.specs.List.{range_with_len};
 ghost use Rattle.grid_core.specs.Lines.{line_cells};
-ghost use Rattle.place_sets.specs.Masks.{Has, IsMaskOf};
+ghost use Rattle.bit_sets.specs.Masks.{Has, IsMaskOf};
 ghost use Rattle.survey_text.specs.Grids.{cell_byte, grid_text, row_text};
 
-use grid_core::{Grid, LineOf, NoMemory};
-use place_sets::PlaceSet;
+use bit_sets::BitSet;
+use grid_core::{BitLine, Grid, NoMemory};
 
 /// Returns a word whose byte `i`, counted from the lowest, is 1 if index `i` is in `set`, and 0 if
 /// not.
-fn spread(set: u64) -> u64
+fn expand_bits(set: u64) -> u64
     ensures { result ≡ from_le_bytes w64 (map (bit_at set) (range_with_len 0 8)) }
 {
     // Each byte gets all eight bits and keeps its own; adding 127 then sets the byte's top bit
@@ -26,20 +26,20 @@ fn spread(set: u64) -> u64
 fn eight_bytes(filled: u64, blank: u64) -> [u8; 8]
     ensures { result ≡ map cell_byte (line_cells 8 filled blank) }
 {
-    let known = spread(filled | blank);
-    let word = 0x3f3f3f3f3f3f3f3f - 0x11 * known - 0x0b * spread(filled);
+    let known = expand_bits(filled | blank);
+    let word = 0x3f3f3f3f3f3f3f3f - 0x11 * known - 0x0b * expand_bits(filled);
     word.to_le_bytes()
 }
 
 /// Returns the indices below 64 in `set`.
-fn first_word<W: PlaceSet>(set: W) -> u64
-    ensures { IsMaskOf (λ i. (i < 64) × Has (W.number set) i) result }
+fn first_word<W: BitSet>(set: W) -> u64
+    ensures { IsMaskOf (λ i. (i < 64) × Has (W.bits set) i) result }
 {
     u64::narrowed(set.widened())
 }
 
 /// Appends the printed bytes of the cells of `line`.
-fn push_cells<W: PlaceSet>(text: &mut Vec<u8>, line: &LineOf<W>) -> Result<(), NoMemory>
+fn push_cells<W: BitSet>(text: &mut Vec<u8>, line: &BitLine<W>) -> Result<(), NoMemory>
     requires { 8 < W.WIDTH }
     ensures { OnOk result (text.new.items ≡ text.old.items ++ map cell_byte line.now) }
 {

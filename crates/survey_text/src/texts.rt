@@ -4,7 +4,7 @@ ghost use Rattle.std.specs.Prelude.{◌≡◌, ◌++◌, ◌^◌, ◌<◌, lengt
 ghost use Rattle.streams.specs.Writing.{joined};
 
 use crate::listings::AnswerListing;
-use crate::printing::Part;
+use crate::printing::Chunk;
 use crate::totals::Totals;
 use grid_core::NoMemory;
 use std::alloc::Global;
@@ -13,7 +13,7 @@ use streams::{Counted, write_texts};
 
 /// Chunks of a survey: the texts of consecutive entries, in order, and the totals of all of them.
 #[derive(Drop)]
-pub struct Parts {
+pub struct ChunkTexts {
     /// The texts of all chunks but the last.
     front: Vec<Vec<u8>>,
     /// The text of the last chunk.
@@ -25,12 +25,12 @@ pub struct Parts {
     pub ghost counted: { bytes ≡ length (joined front.items ++ last.items) },
 }
 
-impl Parts {
+impl ChunkTexts {
     ghost use Rattle.std.specs.Prelude.{◌≡◌, ◌+◌, ◌++◌, ◌^◌, ◌<◌, ℕ, Bool, List, Some, length, map, IfOk};
     ghost use Rattle.survey_text.specs.Entries.{GradedEntry};
     ghost use Rattle.survey_text.specs.Listings.{answered};
     ghost use Rattle.survey_text.specs.Survey.{survey_text};
-    ghost use Rattle.survey_text.specs.Parts.{AreParts, text_of};
+    ghost use Rattle.survey_text.specs.Chunks.{AreChunks, text_of};
 
     /// Prints the entries of `listing` as one chunk, numbered from `first`, with their solutions if
     /// `show` is set. Fails with `NoMemory` if an answer did, or if an allocation fails.
@@ -39,21 +39,21 @@ impl Parts {
         first: u32,
         listing: AnswerListing<'_, '_>,
         show: bool,
-    ) -> Result<Parts, NoMemory>
+    ) -> Result<ChunkTexts, NoMemory>
         requires numbers { first
             + length (answered listing.entries.now listing.faults.now listing.answers.now)
             < 2 ^ 32 }
         requires few { length (answered listing.entries.now listing.faults.now listing.answers.now)
             < 2 ^ 31 }
-        ensures { IfOk result (λ parts. (entries : List GradedEntry)
+        ensures { IfOk result (λ chunks. (entries : List GradedEntry)
             × (answered
             listing.entry.entries.now listing.entry.faults.now listing.entry.answers.now
             ≡ map Some entries)
-            × AreParts show first parts entries) }
+            × AreChunks show first chunks entries) }
     {
-        let Part { text, totals } = Part::of(alloc, first, listing, show)?;
+        let Chunk { text, totals } = Chunk::of(alloc, first, listing, show)?;
         let bytes = text.len() as u64;
-        Ok(Parts {
+        Ok(ChunkTexts {
             front: Vec::new(alloc),
             last: text,
             bytes,
@@ -64,12 +64,12 @@ impl Parts {
     /// Returns these chunks followed by `others`, whose entries are numbered from the next number
     /// on. Fails with `NoMemory` if an allocation does, or if all texts have more bytes than a
     /// `u64` counts.
-    pub fn followed_by(self, others: Parts) -> Result<Parts, NoMemory>
+    pub fn followed_by(self, others: ChunkTexts) -> Result<ChunkTexts, NoMemory>
         ensures { (show : Bool) (first : ℕ) (entries behind : List GradedEntry)
-            → AreParts show first self entries
-            → AreParts show (first + length entries) others behind
+            → AreChunks show first self entries
+            → AreChunks show (first + length entries) others behind
             → length (entries ++ behind) < 2 ^ 31
-            → IfOk result (λ parts. AreParts show first parts (entries ++ behind)) }
+            → IfOk result (λ chunks. AreChunks show first chunks (entries ++ behind)) }
     {
         let Some(bytes) = self.bytes.checked_add(others.bytes) else {
             return Err(NoMemory);
@@ -80,7 +80,7 @@ impl Parts {
         front.append(&mut behind)?;
         let mut totals = self.totals;
         totals.add(&others.totals);
-        Ok(Parts {
+        Ok(ChunkTexts {
             front,
             last: others.last,
             bytes,
@@ -91,7 +91,7 @@ impl Parts {
     /// Returns the text of the survey that consists of these chunks: their texts, and the line of
     /// totals. Fails with `NoMemory` if an allocation does, or if a `u64` can't count the bytes.
     pub fn finish(self) -> Result<SurveyText, NoMemory>
-        ensures { (show : Bool) (entries : List GradedEntry) → AreParts show 1 self entries
+        ensures { (show : Bool) (entries : List GradedEntry) → AreChunks show 1 self entries
             → IfOk result (λ survey. text_of survey ≡ survey_text show entries) }
     {
         let mut last = self.last;
@@ -122,7 +122,7 @@ impl SurveyText {
     ghost use Rattle.std.specs.Prelude.{◌-◌, ◌^◌, ◌<◌, ◌≤◌, ◌↔◌, length, take, IfErr, IsErr, OnOk};
     ghost use Rattle.std.specs.Io.KnownBytes.{Appends};
     ghost use Rattle.streams.specs.Counted.{fault_count};
-    ghost use Rattle.survey_text.specs.Parts.{text_of};
+    ghost use Rattle.survey_text.specs.Chunks.{text_of};
 
     /// Writes the text to `writer` and flushes it. If the writer fails, the error is the number of
     /// bytes of the text that were sent.

@@ -4,9 +4,9 @@ ghost use Rattle.std.specs.Prelude.{◌≡◌, ◌+◌, ◌++◌, ◌^◌, ◌<�
 ghost use Rattle.std.specs.Str.{bytes_eq};
 ghost use Rattle.survey_text.specs.Entries.{GradedEntry, grade_word, verdict_word};
 ghost use Rattle.survey_text.specs.steps.Entries.{shown_listed};
-ghost use Rattle.survey_text.specs.Parts.{IsTotals};
+ghost use Rattle.survey_text.specs.Chunks.{IsTotals};
 ghost use Rattle.survey_text.specs.Totals.{count_text, has_grade, has_status};
-ghost use Rattle.survey_text.specs.steps.Tallies.{HasGradeRoom, HasRoom, HasVerdictRoom, grades_text, one_more_where, statuses_text, sum_of, totals_text};
+ghost use Rattle.survey_text.specs.steps.Tallies.{CanCountGrades, CanCount, CanCountVerdicts, grades_text, one_more_where, statuses_text, sum_of, totals_text};
 
 use crate::listed::ListedEntry;
 use grid_core::NoMemory;
@@ -25,7 +25,7 @@ pub(crate) struct VerdictTotals {
 impl VerdictTotals {
     /// Counts `verdict` once.
     fn count(&mut self, verdict: &Verdict)
-        requires { HasVerdictRoom self.old }
+        requires { CanCountVerdicts self.old }
         ensures none { self.new.none
             ≡ one_more_where (bytes_eq (verdict_word verdict.now) (codes "none"))
             self.old.none }
@@ -73,7 +73,7 @@ pub(crate) struct GradeTotals {
 impl GradeTotals {
     /// Counts `grade` once.
     fn count(&mut self, grade: Grade)
-        requires { HasGradeRoom self.old }
+        requires { CanCountGrades self.old }
         ensures by_lines { self.new.by_lines
             ≡ one_more_where (bytes_eq (grade_word grade) (codes "line"))
             self.old.by_lines }
@@ -139,7 +139,7 @@ impl Totals {
 
     /// Counts `entry`, and either that it is refused or its verdict and its grade.
     pub fn count(&mut self, entry: &ListedEntry<'_>)
-        requires { HasRoom self.old }
+        requires { CanCount self.old }
         ensures entries { self.new.entries ≡ self.old.entries + 1 }
         ensures refused { self.new.refused
             ≡ one_more_where (has_status (codes "refused") (shown_listed entry.now))

@@ -2,9 +2,9 @@
 //! puzzle and grid can be copied, each fault is displayed as its sentence, and `sweep` reports
 //! wrong results.
 
+use alloc_failures::{CallResult, SweepFailure, expected_if, sweep};
 use grid_core::*;
 use puzzle_text::{CollectionFault, EntryFault, TextFault, WriteFault};
-use refusals::{Told, Unswept, sweep, told_if};
 use std::alloc::{AllocError, Global};
 use std::fmt::Display;
 use std::sync::atomic::{AtomicUsize, Ordering};
@@ -177,28 +177,28 @@ fn faults_of_parts_in_sentences(rt: HostRuntime) {
 /// What the first call of a sweep returns, what its later calls return, and what `sweep` returns
 /// then. The calls allocate nothing, so the results are the same with and without the failure tool
 /// of `tools/sweep.sh`.
-static SWEPT: [(Told, Told, Result<usize, Unswept>); 4] = [
-    (Told::Wanted, Told::Wanted, Ok(0)),
+static SWEPT: [(CallResult, CallResult, Result<usize, SweepFailure>); 4] = [
+    (CallResult::Wanted, CallResult::Wanted, Ok(0)),
     (
-        Told::Other,
-        Told::Wanted,
-        Err(Unswept::Refused(1, Told::Other)),
+        CallResult::Other,
+        CallResult::Wanted,
+        Err(SweepFailure::Refused(1, CallResult::Other)),
     ),
     (
-        Told::NoMemory,
-        Told::Wanted,
-        Err(Unswept::Refused(1, Told::NoMemory)),
+        CallResult::NoMemory,
+        CallResult::Wanted,
+        Err(SweepFailure::Refused(1, CallResult::NoMemory)),
     ),
     (
-        Told::Wanted,
-        Told::Other,
-        Err(Unswept::Afterwards(1, Told::Other)),
+        CallResult::Wanted,
+        CallResult::Other,
+        Err(SweepFailure::Afterwards(1, CallResult::Other)),
     ),
 ];
 
 #[test]
 fn sweeps_report_wrong_answers(rt: HostRuntime) {
-    assert!(rt; told_if(true) == Told::Wanted && told_if(false) == Told::Other);
+    assert!(rt; expected_if(true) == CallResult::Wanted && expected_if(false) == CallResult::Other);
     for (first, afterwards, wanted) in SWEPT {
         let calls = AtomicUsize::new(0);
         let result = sweep(rt.alloc(), || {

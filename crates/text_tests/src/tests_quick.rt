@@ -1,7 +1,7 @@
 //! Tests that the quick readers accept each text that a writer returns, with LF and with CR LF.
 //! Their contracts allow them to accept nothing.
 
-use grid_core::{Clue, Field, LONGEST_SIDE, Puzzle, Texts};
+use grid_core::{Clue, Field, MAX_SIDE, Puzzle, Texts};
 use puzzle_text::*;
 use std::alloc::Global;
 use std::test::Fail;
@@ -19,7 +19,7 @@ impl Draws {
             .wrapping_add(1_442_695_040_888_963_407);
         let below = ((self.0 >> 33) % u64::from(most.max(1))) as u16;
         // The remainder changes nothing for such a `most`; with it the sum is seen not to overflow.
-        1 + below % LONGEST_SIDE
+        1 + below % MAX_SIDE
     }
 }
 
@@ -29,7 +29,7 @@ fn drawn_clues(alloc: Global, draws: &mut Draws, count: u16) -> Result<Vec<Clue>
     for _ in 0..count {
         let mut clue = Clue::empty(alloc);
         for _ in 1..draws.draw(12) {
-            clue.push(draws.draw(LONGEST_SIDE))?;
+            clue.push(draws.draw(MAX_SIDE))?;
         }
         clues.push(clue)?;
     }
@@ -68,7 +68,7 @@ fn drawn_goal(alloc: Global, draws: &mut Draws, count: u32) -> Result<Option<Vec
 /// Returns a pseudorandom puzzle. Its sizes are drawn from 1 to a limit that is itself drawn from 1
 /// to a drawn limit, so most puzzles are small.
 fn drawn_puzzle(alloc: Global, draws: &mut Draws) -> Result<Puzzle, Fail> {
-    let most = draws.draw(LONGEST_SIDE);
+    let most = draws.draw(MAX_SIDE);
     let most = draws.draw(most);
     let width = draws.draw(most);
     let height = draws.draw(most);

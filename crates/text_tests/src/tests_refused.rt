@@ -2,9 +2,9 @@
 //! turn, and calls that allocate nothing are made with every allocation failing.
 
 use crate::tests::{are_same, repeated};
+use alloc_failures::{CallResult, SweepFailure, arm, disarm, expected_if, is_active, sweep};
 use grid_core::{NoMemory, Puzzle};
 use puzzle_text::*;
-use refusals::{Told, Unswept, is_heeded, refuse, sweep, told_if, was_refused};
 use std::alloc::Global;
 use std::process::Abort;
 use std::test::Fail;
@@ -69,76 +69,85 @@ enum Call<'a> {
 }
 
 /// Classifies the result of a reader, given its result with ample memory.
-fn told_of_read(answer: &Result<Puzzle, TextFault>, usual: &Result<Puzzle, TextFault>) -> Told {
+fn result_of_read(
+    answer: &Result<Puzzle, TextFault>,
+    usual: &Result<Puzzle, TextFault>,
+) -> CallResult {
     match (answer, usual) {
-        (Err(TextFault::NoMemory), _) => Told::NoMemory,
-        (Ok(puzzle), Ok(other)) => told_if(are_same(puzzle, other)),
-        (Err(fault), Err(other)) => told_if(fault == other),
-        _ => Told::Other,
+        (Err(TextFault::NoMemory), _) => CallResult::NoMemory,
+        (Ok(puzzle), Ok(other)) => expected_if(are_same(puzzle, other)),
+        (Err(fault), Err(other)) => expected_if(fault == other),
+        _ => CallResult::Other,
     }
 }
 
 /// Classifies the result of `read_entry`, given the reader's result with ample memory.
-fn told_of_entry(answer: Result<Puzzle, EntryFault>, usual: &Result<Puzzle, TextFault>) -> Told {
+fn result_of_entry(
+    answer: Result<Puzzle, EntryFault>,
+    usual: &Result<Puzzle, TextFault>,
+) -> CallResult {
     match answer {
-        Ok(puzzle) => told_of_read(&Ok(puzzle), usual),
-        Err(EntryFault::Text(fault)) => told_of_read(&Err(fault), usual),
-        Err(EntryFault::UnknownFormat) => Told::Other,
+        Ok(puzzle) => result_of_read(&Ok(puzzle), usual),
+        Err(EntryFault::Text(fault)) => result_of_read(&Err(fault), usual),
+        Err(EntryFault::UnknownFormat) => CallResult::Other,
     }
 }
 
 /// Classifies the result of a writer. `wanted` is the text, or `None` if the puzzle is ambiguous.
-fn told_of_written(answer: Result<Vec<u8>, WriteFault>, wanted: Option<&[u8]>) -> Told {
+fn result_of_written(answer: Result<Vec<u8>, WriteFault>, wanted: Option<&[u8]>) -> CallResult {
     match answer {
-        Ok(text) => told_if(wanted == Some(text.as_slice())),
-        Err(WriteFault::NoMemory) => Told::NoMemory,
-        Err(WriteFault::Ambiguous) => told_if(wanted.is_none()),
+        Ok(text) => expected_if(wanted == Some(text.as_slice())),
+        Err(WriteFault::NoMemory) => CallResult::NoMemory,
+        Err(WriteFault::Ambiguous) => expected_if(wanted.is_none()),
     }
 }
 
 /// Classifies the result of `entries` for the collection of `Call::Cut`.
-fn told_of_entries(answer: Result<Vec<Entry<'_>>, CollectionFault>) -> Told {
+fn result_of_entries(answer: Result<Vec<Entry<'_>>, CollectionFault>) -> CallResult {
     match answer {
         Ok(found) => match found.as_slice() {
-            [first, second] => told_if(
+            [first, second] => expected_if(
                 first.name == b"a".as_slice()
                     && first.body == b"1\n".as_slice()
                     && second.name == b"b".as_slice()
                     && second.body.is_empty(),
             ),
-            _ => Told::Other,
+            _ => CallResult::Other,
         },
-        Err(CollectionFault::NoMemory) => Told::NoMemory,
-        Err(_) => Told::Other,
+        Err(CollectionFault::NoMemory) => CallResult::NoMemory,
+        Err(_) => CallResult::Other,
     }
 }
 
 /// Classifies the result of `fault_text`.
-fn told_of_text(answer: Result<Vec<u8>, NoMemory>, wanted: &[u8]) -> Told {
+fn result_of_text(answer: Result<Vec<u8>, NoMemory>, wanted: &[u8]) -> CallResult {
     match answer {
-        Ok(text) => told_if(text.as_slice() == wanted),
-        Err(NoMemory) => Told::NoMemory,
+        Ok(text) => expected_if(text.as_slice() == wanted),
+        Err(NoMemory) => CallResult::NoMemory,
     }
 }
 
 /// Makes the call and classifies its result.
-fn told_of(alloc: Global, call: Call<'_>) -> Told {
+fn result_of(alloc: Global, call: Call<'_>) -> CallResult {
     match call {
-        Call::Read(format, text, usual) => told_of_read(&format.read(alloc, text), usual),
-        Call::ReadEntry(entry, usual) => told_of_entry(read_entry(alloc, &entry), usual),
-        Call::Write(puzzle, format, wanted) => told_of_written(format.write(alloc, puzzle), wanted),
-        Call::Cut => told_of_entries(entries(alloc, b"\n@ a\n1\n@ b\n")),
-        Call::Word(fault, wanted) => told_of_text(fault_text(alloc, &fault), wanted),
+        Call::Read(format, text, usual) => result_of_read(&format.read(alloc, text), usual),
+        Call::ReadEntry(entry, usual) => result_of_entry(read_entry(alloc, &entry), usual),
+        Call::Write(puzzle, format, wanted) => result_of_written(
+            format.write(alloc, puzzle),
+            wanted,
+        ),
+        Call::Cut => result_of_entries(entries(alloc, b"\n@ a\n1\n@ b\n")),
+        Call::Word(fault, wanted) => result_of_text(fault_text(alloc, &fault), wanted),
     }
 }
 
 /// Makes the call with each of its allocations failing in turn. Returns how many failed.
-fn sweep_call(alloc: Global, call: Call<'_>) -> Result<usize, Unswept> {
-    sweep(alloc, || told_of(alloc, call))
+fn sweep_call(alloc: Global, call: Call<'_>) -> Result<usize, SweepFailure> {
+    sweep(alloc, || result_of(alloc, call))
 }
 
 /// Reads the text with each allocation failing in turn. Returns how many failed.
-fn sweep_read(alloc: Global, format: Format, text: &[u8]) -> Result<usize, Unswept> {
+fn sweep_read(alloc: Global, format: Format, text: &[u8]) -> Result<usize, SweepFailure> {
     let usual = format.read(alloc, text);
     sweep_call(alloc, Call::Read(format, text, &usual))
 }
@@ -254,24 +263,24 @@ fn is_entry_too_long(alloc: Global, body: &[u8]) -> bool {
 #[test]
 fn long_texts_are_too_long(rt: HostRuntime) -> Result<(), Fail> {
     let alloc = rt.alloc();
-    let text = repeated(alloc, b"\n", LONGEST_PUZZLE + 1)?;
-    let collection = repeated(alloc, b"\n", LONGEST_COLLECTION + 1)?;
-    refuse(alloc, 0);
+    let text = repeated(alloc, b"\n", MAX_PUZZLE_LEN + 1)?;
+    let collection = repeated(alloc, b"\n", MAX_COLLECTION_LEN + 1)?;
+    arm(alloc, 0);
     let long = are_too_long(alloc, &text);
     let entry = is_entry_too_long(alloc, &text);
     let cut = entries(alloc, &collection).err();
-    assert!(rt; !was_refused(alloc), "no growth");
+    assert!(rt; !disarm(alloc), "no growth");
     assert!(rt; long && entry);
     assert!(rt; cut == Some(CollectionFault::TooLong));
-    assert!(rt; is_heeded(alloc));
+    assert!(rt; is_active(alloc));
     Ok(())
 }
 
 /// Reports whether formats are found by name and by word, and whether formats and faults have the
 /// expected words.
 fn are_well() -> bool {
-    Format::of_name(b"a.Mk") == Some(Format::Mk)
-        && Format::of_word("nin") == Some(Format::Nin)
+    Format::from_name(b"a.Mk") == Some(Format::Mk)
+        && Format::from_word("nin") == Some(Format::Nin)
         && Format::Non.word() == "non"
         && Format::words() == ["non", "mk", "nin"]
         && TextFault::Twice(3).word() == FaultWord::at_line("Twice", 3)
@@ -281,23 +290,23 @@ fn are_well() -> bool {
 
 #[test]
 fn words_take_no_memory(rt: HostRuntime) {
-    refuse(rt.alloc(), 0);
+    arm(rt.alloc(), 0);
     let well = are_well();
-    assert!(rt; !was_refused(rt.alloc()), "no growth");
+    assert!(rt; !disarm(rt.alloc()), "no growth");
     assert!(rt; well);
-    assert!(rt; is_heeded(rt.alloc()));
+    assert!(rt; is_active(rt.alloc()));
 }
 
 #[test]
 fn collections_are_refused_without_memory(rt: HostRuntime) -> Result<(), Fail> {
     let alloc = rt.alloc();
-    let more = repeated(alloc, b"@ a.mk\n", MOST_ENTRIES + 1)?;
-    refuse(alloc, 0);
+    let more = repeated(alloc, b"@ a.mk\n", MAX_ENTRIES + 1)?;
+    arm(alloc, 0);
     let stray = entries(alloc, b"@ a\n1\n@\n").err();
     let many = entries(alloc, &more).err();
     assert!(rt; stray == Some(CollectionFault::Stray(3)));
     assert!(rt; many == Some(CollectionFault::TooMany));
-    assert!(rt; is_heeded(alloc));
+    assert!(rt; is_active(alloc));
     Ok(())
 }
 
@@ -325,9 +334,9 @@ fn assert_grown(
 fn bytes_are_added_or_refused(rt: HostRuntime) -> Result<(), Fail> {
     for growth in 1..3 {
         let mut text = full_text(rt.alloc())?;
-        refuse(rt.alloc(), growth);
+        arm(rt.alloc(), growth);
         let answer = push_bytes(&mut text, b"some");
-        assert_grown(&rt, answer, was_refused(rt.alloc()), &text, b"text some");
+        assert_grown(&rt, answer, disarm(rt.alloc()), &text, b"text some");
     }
     Ok(())
 }
@@ -336,10 +345,10 @@ fn bytes_are_added_or_refused(rt: HostRuntime) -> Result<(), Fail> {
 fn numbers_are_added_or_refused(rt: HostRuntime) -> Result<(), Fail> {
     for growth in 1..3 {
         let mut text = full_text(rt.alloc())?;
-        refuse(rt.alloc(), growth);
+        arm(rt.alloc(), growth);
         let answer = push_number(&mut text, u64::MAX);
         let wanted = b"text 18446744073709551615";
-        assert_grown(&rt, answer, was_refused(rt.alloc()), &text, wanted);
+        assert_grown(&rt, answer, disarm(rt.alloc()), &text, wanted);
     }
     Ok(())
 }
@@ -350,9 +359,9 @@ fn words_are_added_in_part_or_refused(rt: HostRuntime) -> Result<(), Fail> {
     // The word is appended in pieces, so a failure may leave the first ones.
     for growth in 1..5 {
         let mut text = full_text(rt.alloc())?;
-        refuse(rt.alloc(), growth);
+        arm(rt.alloc(), growth);
         let answer = FaultWord::at_line("BadNumber", 4_000_000_000).push(&mut text);
-        let refused = was_refused(rt.alloc());
+        let refused = disarm(rt.alloc());
         match answer {
             Ok(()) => assert!(rt; text.as_slice() == wanted.as_slice()),
             Err(NoMemory) => assert!(rt; refused && wanted.starts_with(&text)),

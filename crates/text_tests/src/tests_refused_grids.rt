@@ -2,9 +2,9 @@
 //! turn, and calls that allocate nothing are made with every allocation failing.
 
 use crate::tests::{are_same, clues};
+use alloc_failures::{CallResult, SweepFailure, arm, disarm, expected_if, is_active, sweep};
 use grid_core::*;
 use puzzle_text::read_non;
-use refusals::{Told, Unswept, is_heeded, refuse, sweep, told_if, was_refused};
 use std::alloc::Global;
 use std::test::Fail;
 
@@ -60,10 +60,10 @@ fn is_wanted(alloc: Global, call: Call<'_>) -> Result<bool, NoMemory> {
 }
 
 /// Makes the call with each of its allocations failing in turn. Returns how many failed.
-fn sweep_call(alloc: Global, call: Call<'_>) -> Result<usize, Unswept> {
+fn sweep_call(alloc: Global, call: Call<'_>) -> Result<usize, SweepFailure> {
     sweep(alloc, || match is_wanted(alloc, call) {
-        Ok(wanted) => told_if(wanted),
-        Err(NoMemory) => Told::NoMemory,
+        Ok(wanted) => expected_if(wanted),
+        Err(NoMemory) => CallResult::NoMemory,
     })
 }
 
@@ -94,9 +94,9 @@ fn texts_are_set_or_refused(rt: HostRuntime) -> Result<(), Fail> {
         let mut texts = Texts::none();
         texts.set(alloc, Field::Title, b"before")?;
         texts.set(alloc, Field::By, b"author")?;
-        refuse(alloc, growth);
+        arm(alloc, growth);
         let answer = texts.set(alloc, Field::Title, b"after");
-        let refused = was_refused(alloc);
+        let refused = disarm(alloc);
         match answer {
             Ok(()) => assert!(rt; !refused && has_title(&texts, b"after")),
             Err(fault) => assert!(rt;
@@ -151,7 +151,7 @@ fn solution(alloc: Global, puzzle: &Puzzle) -> Result<Option<Grid>, NoMemory> {
         if x >= grid.width() || y >= grid.height() {
             return Ok(None);
         }
-        grid.set(x, y, Cell::of_colour(*filled));
+        grid.set(x, y, Cell::from_filled(*filled));
     }
     Ok(Some(grid))
 }
@@ -182,14 +182,14 @@ fn are_cells_well(puzzle: &Puzzle, grid: &mut Grid) -> bool {
     if grid.width() != 5 || grid.height() != 10 {
         return false;
     }
-    grid.set_at(7, Cell::Unknown);
+    grid.set_index(7, Cell::Unknown);
     let first = grid.first_unknown();
     let early = puzzle.solved_by(grid);
     grid.set(2, 1, Cell::Filled);
     first == Some((2, 1))
         && !early
         && grid.get(1, 0) == Cell::Filled
-        && grid.at(0) == Cell::Blank
+        && grid.get_index(0) == Cell::Blank
         && grid.known() == 50
         && puzzle.solved_by(grid)
 }
@@ -219,14 +219,14 @@ fn looks_take_no_memory(rt: HostRuntime) -> Result<(), Fail> {
     let rows = clues(alloc, &TWELVE, 1)?;
     let columns = clues(alloc, &TWELVE, 1)?;
     let goal = vec![in alloc; true; 1]?;
-    refuse(alloc, 0);
+    arm(alloc, 0);
     let is_made = Puzzle::new(1, 1, rows, columns, Texts::none(), Some(goal)).is_ok();
     let is_none = Texts::none().get(Field::Title).is_none();
     let well = is_demonstration(&puzzle)
         && are_cells_well(&puzzle, &mut grid)
         && are_rows_well(&puzzle, &mut grid);
-    assert!(rt; !was_refused(alloc), "no growth");
+    assert!(rt; !disarm(alloc), "no growth");
     assert!(rt; well && is_made && is_none);
-    assert!(rt; is_heeded(alloc));
+    assert!(rt; is_active(alloc));
     Ok(())
 }

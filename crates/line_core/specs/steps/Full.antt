@@ -2,7 +2,7 @@
 use Rattle.std.specs.Prelude.{◌≡◌, ◌≤◌, ℕ, Bool, true, false, List, ◌++◌, length, reverse, slice_index_or, take, Option, Some, None}
 use Rattle.grid_core.specs.declared.cells.Cell.{Cell}
 use Rattle.grid_core.specs.Runs.{runs}
-use Rattle.line_core.specs.steps.Reach.{MayBe}
+use Rattle.line_core.specs.steps.Feasibility.{MayBe}
 
 -- each cell of the line is known: none can still take both colours
 abbrev pub IsFull : List Cell → Type 0
@@ -13,12 +13,12 @@ abbrev pub IsFilled : List Bool → ℕ → Type 0
 IsFilled cells i = slice_index_or cells i false ≡ true
 
 -- the list, reversed if the first argument is true
-abbrev pub turned : {A : Type 0} → Bool → List A → List A
-turned true xs = reverse xs
-turned false xs = xs
+abbrev pub mirrored_if : {A : Type 0} → Bool → List A → List A
+mirrored_if true xs = reverse xs
+mirrored_if false xs = xs
 
 -- the runs of `cells` are the first `count` numbers of `clue`; for `None`, they are not its
 -- beginning
-abbrev pub ArePassed : List Bool → List ℕ → Option ℕ → Type 0
-ArePassed cells clue (Some count) = (count ≤ length clue) × (runs cells ≡ take count clue)
-ArePassed cells clue None = (others : List ℕ) → runs cells ++ others ≡ clue → ⊥
+abbrev pub IsCluePrefix : List Bool → List ℕ → Option ℕ → Type 0
+IsCluePrefix cells clue (Some count) = (count ≤ length clue) × (runs cells ≡ take count clue)
+IsCluePrefix cells clue None = (others : List ℕ) → runs cells ++ others ≡ clue → ⊥

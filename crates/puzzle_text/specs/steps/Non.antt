@@ -2,7 +2,7 @@
 use Rattle.std.specs.Prelude.{ℕ, List, [], ◌∷◌, Option, Some, None}
 use Rattle.grid_core.specs.Description.{Description, with_text}
 use Rattle.grid_core.specs.declared.fields.Field.{Field}
-use Rattle.puzzle_text.specs.Lines.{Line}
+use Rattle.puzzle_text.specs.Lines.{TextLine}
 use Rattle.puzzle_text.specs.Keywords.{field_word}
 use Rattle.puzzle_text.specs.Non.{field_text}
 
@@ -13,7 +13,7 @@ with_found d field (Some text) = with_text d field text
 
 -- `d` with the texts of these fields set one after the other, each to that of the field's first
 -- line
-abbrev pub with_all_found : List Line → Description → List Field → Description
+abbrev pub with_all_found : List TextLine → Description → List Field → Description
 with_all_found lines d [] = d
 with_all_found lines d (field ∷ fields) =
     with_all_found lines (with_found d field (field_text (field_word field) lines)) fields

@@ -3,9 +3,9 @@ use Rattle.std.specs.Prelude.{◌≡◌, ℕ, ◌+◌, ◌-◌, ◌<◌, ◌≤�
 use Rattle.grid_core.specs.declared.cells.Cell.{Cell}
 use Rattle.grid_core.specs.declared.cells.Cell.TheVariants.{Unknown}
 use Rattle.grid_core.specs.Cells.{is_known}
-use Rattle.place_sets.specs.Masks.{has, IsMaskOf}
+use Rattle.bit_sets.specs.Masks.{has, IsMaskOf}
 use Rattle.grid_core.specs.Lines.{IsUnknownCell}
-use Rattle.solve_core.specs.Picks.{is_sure}
+use Rattle.solve_core.specs.Picks.{is_known_or_outside}
 
 -- how many of two flags are true
 abbrev pub two_of : Bool → Bool → ℕ
@@ -19,8 +19,8 @@ pub record AreCounts (count : ℕ → ℕ) (either both : ℕ) : Type 0 where
   pub both_is : IsMaskOf (λ i. 2 ≤ count i) both
 
 -- how many of the two sets contain index `i`
-abbrev pub told_by : ℕ → ℕ → ℕ → ℕ
-told_by either both i = two_of (has either i) (has both i)
+abbrev pub set_count : ℕ → ℕ → ℕ → ℕ
+set_count either both i = two_of (has either i) (has both i)
 
 -- `i` is the index of a known cell
 abbrev pub IsKnownCell : List Cell → ℕ → Type 0
@@ -30,8 +30,8 @@ IsKnownCell cells i = (i < length cells) × (is_known (slice_index_or cells i Un
 abbrev pub beside_score : List Cell → ℕ → ℕ
 beside_score row x =
     two_of
-    (is_sure (nat_eq x 0) (slice_index_or row (x - 1) Unknown))
-    (is_sure (nat_eq (x + 1) (length row)) (slice_index_or row (x + 1) Unknown))
+    (is_known_or_outside (nat_eq x 0) (slice_index_or row (x - 1) Unknown))
+    (is_known_or_outside (nat_eq (x + 1) (length row)) (slice_index_or row (x + 1) Unknown))
 
 -- how many neighbours of cell `x` of a row are known or outside the grid; `above` and `below` are
 -- true of the cells whose neighbour there is

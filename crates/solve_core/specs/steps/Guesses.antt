@@ -7,7 +7,7 @@ use Rattle.solve_core.specs.declared.branches.Branch.{Branch}
 use Rattle.solve_core.specs.Search.{Event}
 use Rattle.solve_core.specs.steps.Trails.{TrailedGrid}
 use Rattle.solve_core.specs.steps.Endings.{ending}
-use Rattle.solve_core.specs.steps.Branches.{IsOpen, IsWork, AreOlder, pending, open_events}
+use Rattle.solve_core.specs.steps.Branches.{IsNextCell, AreBranchesOf, AreOlder, pending, events_from_cell}
 
 -- the events that the branches owe on the board `g`
 abbrev pub owed_by :
@@ -19,16 +19,16 @@ owed_by pick p branches g = pending pick (lines_of p) g.cells g.trail branches
 abbrev pub owed :
     (List Cell → Option ℕ) → Nonogram → List Branch → TrailedGrid → Option ℕ → List Event
 owed pick p branches g next =
-    open_events pick (lines_of p) g.cells next (owed_by pick p branches g)
+    events_from_cell pick (lines_of p) g.cells next (owed_by pick p branches g)
 
 -- the search can continue: its branches are valid, and the cell to guess, if there is one, is the
 -- next one on the board `g`
 pub record IsUnderWay
     (pick : List Cell → Option ℕ) (p : Nonogram) (branches : List Branch) (g : TrailedGrid)
     (next : Option ℕ) : Type 0 where
-  pub work : IsWork pick (lines_of p) g.cells g.trail branches
+  pub work : AreBranchesOf pick (lines_of p) g.cells g.trail branches
   pub older : AreOlder g.trail branches next
-  pub next_open : IsOpen pick (lines_of p) g.cells next
+  pub next_cell : IsNextCell pick (lines_of p) g.cells next
 
 -- A guess was made from which the events `es` follow: the board `old` became `new`, and the
 -- solutions found, `before`, became `after`. The search can continue, it ends as it would with `es`

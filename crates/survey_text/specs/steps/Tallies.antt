@@ -15,24 +15,24 @@ abbrev pub sum_of : ℕ → ℕ → ℕ
 sum_of total other = min (total + other) (2 ^ 64 - 1)
 
 -- each count in `verdicts` can grow by 1
-pub record HasVerdictRoom (verdicts : VerdictTotals) : Type 0 where
+pub record CanCountVerdicts (verdicts : VerdictTotals) : Type 0 where
   pub none : verdicts.none < 2 ^ 63
   pub one : verdicts.one < 2 ^ 63
   pub several : verdicts.several < 2 ^ 63
   pub unsettled : verdicts.unsettled < 2 ^ 63
 
 -- each count in `grades` can grow by 1
-pub record HasGradeRoom (grades : GradeTotals) : Type 0 where
+pub record CanCountGrades (grades : GradeTotals) : Type 0 where
   pub by_lines : grades.by_lines < 2 ^ 63
   pub by_trials : grades.by_trials < 2 ^ 63
   pub by_search : grades.by_search < 2 ^ 63
 
 -- each of `totals` can grow by 1, and the number of entries fits into a `u32` then
-pub record HasRoom (totals : Totals) : Type 0 where
+pub record CanCount (totals : Totals) : Type 0 where
   pub all : totals.entries < 2 ^ 31
   pub refused : totals.refused < 2 ^ 63
-  pub verdicts : HasVerdictRoom totals.verdicts
-  pub grades : HasGradeRoom totals.grades
+  pub verdicts : CanCountVerdicts totals.verdicts
+  pub grades : CanCountGrades totals.grades
 
 -- the printed counts of the refused entries and of each verdict
 abbrev pub statuses_text : Totals → List ℕ

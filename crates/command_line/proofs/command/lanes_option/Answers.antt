@@ -1,7 +1,7 @@
 -- `lanes_option`: the text of the default writes the constant.
 use Rattle.std.proofs.Common.{codes, rules}
 use Rattle.std.specs.Fmt.{digits}
-use Rattle.survey_core.specs.declared.settings.TheConstants.{MOST_LANES}
+use Rattle.survey_core.specs.declared.settings.TheConstants.{MAX_LANES}
 use Rattle.command_line.specs.Words.{number_rule}
 use Rattle.command_line.specs.steps.Words.{IsArgument}
 use Rattle.command_line.proofs.command.lanes_option.Goals as goal
@@ -9,5 +9,5 @@ use Rattle.command_line.proofs.command.lanes_option.Goals as goal
 pub returns : goal.returns
 unfolding digits
 returns c =
-    let shown : IsArgument (number_rule (codes "lanes") 1 MOST_LANES (codes "4")) c.default_value.result = search rules in
+    let shown : IsArgument (number_rule (codes "lanes") 1 MAX_LANES (codes "4")) c.default_value.result = search rules in
     shown

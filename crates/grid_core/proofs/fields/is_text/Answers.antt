@@ -2,5 +2,5 @@
 use Rattle.std.proofs.Common.{rules}
 use Rattle.grid_core.proofs.fields.is_text.Goals as goal
 
-pub returns-then-text-le-LONGEST_TEXT : goal.returns-then-text-le-LONGEST_TEXT
-returns-then-text-le-LONGEST_TEXT c = search rules
+pub returns-then-text-le-MAX_TEXT_LEN : goal.returns-then-text-le-MAX_TEXT_LEN
+returns-then-text-le-MAX_TEXT_LEN c = search rules

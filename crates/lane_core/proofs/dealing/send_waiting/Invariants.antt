@@ -11,7 +11,7 @@ invariant-loop-job g l =
       lane : g.L.Lane.same_lane l.fn.lane l.lane;
       so_far : SentSoFar (lists l.fn.lane) (lists l.lane) l.fn.waiting.items l.waiting.items;
       moved : IsTrue l.any ↔ Grows (lists l.fn.lane) (lists l.lane);
-      room : deque_capacity l.waiting ≡ deque_capacity l.fn.waiting;
+      capacity : deque_capacity l.waiting ≡ deque_capacity l.fn.waiting;
     }
 
 abbrev pub decreases-loop-job : goal.decreases-loop-job

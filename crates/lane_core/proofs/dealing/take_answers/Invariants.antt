@@ -10,5 +10,5 @@ invariant-loop g l =
       lane : g.L.Lane.same_lane l.fn.lane l.lane;
       so_far : TakenSoFar (lists l.fn.lane) (lists l.lane) l.fn.got.items l.got.items l.counter;
       moved : IsTrue l.any ↔ (0 < l.counter);
-      room : vec_capacity l.got ≡ vec_capacity l.fn.got;
+      capacity : vec_capacity l.got ≡ vec_capacity l.fn.got;
     }

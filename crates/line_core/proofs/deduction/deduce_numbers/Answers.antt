@@ -1,7 +1,7 @@
 -- `deduce_numbers`: the support masks determine the deduced line.
 use Rattle.line_core.proofs.Names.{rules, recursion_from_All}
-use Rattle.line_core.proofs.Telling.{told-deduced}
+use Rattle.line_core.proofs.SupportLaws.{support-deduced}
 use Rattle.line_core.proofs.deduction.deduce_numbers.Goals as goal
 
 pub returns-clause-answer : goal.returns-clause-answer
-returns-clause-answer g c = search (rules, recursion_from_All, told-deduced)
+returns-clause-answer g c = search (rules, recursion_from_All, support-deduced)

@@ -1,5 +1,5 @@
--- The ghost argument of the call of `colours` in `deduce_numbers`: the line.
+-- The ghost argument of the call of `line_support` in `deduce_numbers`: the line.
 use Rattle.line_core.proofs.deduction.deduce_numbers.Given as goal
 
-abbrev pub ghost-colours : goal.ghost-colours
-ghost-colours g a = g.cells
+abbrev pub ghost-line_support : goal.ghost-line_support
+ghost-line_support g a = g.cells

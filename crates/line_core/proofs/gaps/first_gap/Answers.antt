@@ -4,5 +4,6 @@ use Rattle.line_core.proofs.gaps.first_gap.Goals as goal
 
 pub returns : goal.returns
 returns g c =
-    let free = g.W.PlaceSet.number c.args.free in
-    flood_from _ (Has free) _ _ (meet_of (Has free) _ free _ _ (has_of free) c.first.ensures c.intersection.ensures) c.flood.ensures
+    let not_filled = g.W.BitSet.bits c.args.not_filled in
+    flood_from _ (Has not_filled) _ _ (meet_of (Has not_filled) _ not_filled _ _ (has_of not_filled) c.first.ensures c.intersection.ensures)
+    c.flood.ensures

@@ -4,5 +4,5 @@ use Rattle.line_core.proofs.gaps.gap_after.Goals as goal
 
 pub returns : goal.returns
 returns g c =
-    flood_from _ (Has (g.W.PlaceSet.number c.args.free)) _ _
-    (meet_of _ (Has (g.W.PlaceSet.number c.args.free)) _ _ _ c.shifted_up.ensures (has_of _) c.intersection.ensures) c.flood.ensures
+    flood_from _ (Has (g.W.BitSet.bits c.args.not_filled)) _ _
+    (meet_of _ (Has (g.W.BitSet.bits c.args.not_filled)) _ _ _ c.shifted_up.ensures (has_of _) c.intersection.ensures) c.flood.ensures

@@ -3,13 +3,13 @@ use Rattle.line_core.proofs.Names.{ℕ, ◌-◌, ◌⊎◌, Has, IsMaskOf, IsShi
 use Rattle.line_core.proofs.gaps.run_ends.Goals as goal
 
 -- the ends of a run that starts after a gap or at the start of the line, at an index that is in `window`
-run_ends_are : (w gap opening window by after starts some ends : ℕ) → IsMaskOf (IsShifted w (Has gap) 1) after
-    → IsMaskOf (λ i. Has after i ⊎ Has opening i) some → IsMaskOf (λ i. Has some i × Has window i) starts
+run_ends_are : (w gap line_start fit_starts by after starts some ends : ℕ) → IsMaskOf (IsShifted w (Has gap) 1) after
+    → IsMaskOf (λ i. Has after i ⊎ Has line_start i) some → IsMaskOf (λ i. Has some i × Has fit_starts i) starts
     → IsMaskOf (IsShifted w (Has starts) by) ends
-    → IsMaskOf (IsShifted w (λ s. (IsShifted w (Has gap) 1 s ⊎ Has opening s) × Has window s) by) ends
-run_ends_are w gap opening window by after starts some ends p q r s =
-    let either = join_of _ (Has opening) after opening some p (has_of opening) q in
-    shifted_of w _ starts by ends (meet_of _ (Has window) some window starts either (has_of window) r) s
+    → IsMaskOf (IsShifted w (λ s. (IsShifted w (Has gap) 1 s ⊎ Has line_start s) × Has fit_starts s) by) ends
+run_ends_are w gap line_start fit_starts by after starts some ends p q r s =
+    let either = join_of _ (Has line_start) after line_start some p (has_of line_start) q in
+    shifted_of w _ starts by ends (meet_of _ (Has fit_starts) some fit_starts starts either (has_of fit_starts) r) s
 
 pub returns : goal.returns
 returns g c =

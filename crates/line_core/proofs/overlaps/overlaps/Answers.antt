@@ -21,9 +21,9 @@ loop-number-preserved g c =
     record {
       start = search (rules, add-one, start_next);
       found = elim c.if-number-slack.branch [
-        | then-number-slack w ↦ rw w.certain-is (overlap_more clue g.W.PlaceSet.WIDTH slack j c.loop-number.greatest_start _ _ _ _
-            c.requires.fits c.loop-number-test.true w.if-number-slack.true invariant.start invariant.found w.first_places.ensures
-            w.shifted_up.ensures w.union-certain.ensures)
-        | else-number-slack w ↦ rw w.certain-is (search rules)
+        | then-number-slack w ↦ rw w.overlap-is (overlap_more clue g.W.BitSet.WIDTH slack j c.loop-number.greatest_start _ _ _ _
+            c.requires.fits c.loop-number-test.true w.if-number-slack.true invariant.start invariant.found w.prefix.ensures
+            w.shifted_up.ensures w.union-overlap.ensures)
+        | else-number-slack w ↦ rw w.overlap-is (search rules)
       ];
     }

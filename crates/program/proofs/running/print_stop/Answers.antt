@@ -2,6 +2,7 @@
 use Rattle.program.proofs.PrintingLemmas.{stop_printed}
 use Rattle.program.proofs.running.print_stop.Goals as goal
 
-pub returns-clause-said : goal.returns-clause-said
-returns-clause-said g c =
-    stop_printed _ _ _ _ _ _ _ c.in_ok-print_text.ensures.ok c.in_ok-print_word.ensures.said c.stop_word.ensures c.print_text-2.ensures.ok
+pub returns-clause-printed : goal.returns-clause-printed
+returns-clause-printed g c =
+    stop_printed _ _ _ _ _ _ _ c.in_ok-print_text.ensures.ok c.in_ok-print_word.ensures.printed c.stop_word.ensures
+    c.print_text-2.ensures.ok

@@ -5,4 +5,4 @@ use Rattle.puzzle_text.proofs.clue_lines.clues_of.Goals as goal
 pub loop-line-init : goal.loop-line-init
 loop-line-init c =
     let clues = c.in_ok-clues.ensures in
-    record { count = clues.len; room = clues.capacity; so_far = rw clues.items (each_begins _ shown_line c.args.lines.now) }
+    record { count = clues.len; capacity = clues.capacity; so_far = rw clues.items (each_begins _ shown_line c.args.lines.now) }

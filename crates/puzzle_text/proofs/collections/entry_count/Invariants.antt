@@ -5,7 +5,7 @@ use Rattle.puzzle_text.proofs.collections.entry_count.Given as goal
 abbrev pub invariant-lines : goal.invariant-lines
 invariant-lines l = record {
   counted : l.count + length (entries_of (raw_lines l.rest)) ≡ length (entries_of (raw_lines l.bytes));
-  room : l.count + length l.rest ≤ length l.bytes;
+  within : l.count + length l.rest ≤ length l.bytes;
 }
 
 abbrev pub decreases-lines : goal.decreases-lines

@@ -6,7 +6,7 @@ use Rattle.puzzle_text.proofs.collections.first_stray.Given as goal
 abbrev pub invariant-lines : goal.invariant-lines
 invariant-lines l = record {
   later : stray_from (l.number + 1) l.inside (raw_lines l.rest) ≡ first_stray (raw_lines l.bytes);
-  room : l.number + length l.rest ≤ length l.bytes;
+  within : l.number + length l.rest ≤ length l.bytes;
 }
 
 abbrev pub decreases-lines : goal.decreases-lines

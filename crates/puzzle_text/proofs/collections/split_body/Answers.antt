@@ -6,4 +6,4 @@ use Rattle.puzzle_text.proofs.collections.split_body.Goals as goal
 pub lines-preserved : goal.lines-preserved
 lines-preserved c =
     let line = past_line _ _ _ c.split_line.ensures.whole c.split_line.ensures.first (sym c.if-is_marker.ensures) in
-    follow_on _ _ _ c.lines.invariant (follow_on _ _ _ line c.past_plain-rest-in-lines.ensures)
+    follow_on _ _ _ c.lines.invariant (follow_on _ _ _ line c.skip_to_line_with_at-rest-in-lines.ensures)

@@ -5,7 +5,7 @@ use Rattle.puzzle_text.proofs.lines.all_lines.Given as goal
 abbrev pub invariant-loop-rest : goal.invariant-loop-rest
 invariant-loop-rest l = record {
   so_far : map shown_line l.found.items ++ numbered_from (l.number + 1) (raw_lines l.rest) ≡ lines l.bytes;
-  room : l.number + length l.rest ≤ length l.bytes;
+  within : l.number + length l.rest ≤ length l.bytes;
 }
 
 abbrev pub decreases-loop-rest : goal.decreases-loop-rest

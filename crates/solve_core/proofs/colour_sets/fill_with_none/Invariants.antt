@@ -3,4 +3,4 @@ use Rattle.solve_core.proofs.Names.{◌≡◌, ◌≤◌, replicate, vec_capacit
 use Rattle.solve_core.proofs.colour_sets.fill_with_none.Given as goal
 
 abbrev pub invariant-loop : goal.invariant-loop
-invariant-loop g l = record { items : l.sets.items ≡ replicate l.counter no_colours; room : l.count ≤ vec_capacity l.sets }
+invariant-loop g l = record { items : l.sets.items ≡ replicate l.counter no_colours; capacity : l.count ≤ vec_capacity l.sets }

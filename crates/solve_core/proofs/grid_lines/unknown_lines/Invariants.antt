@@ -3,4 +3,7 @@ use Rattle.solve_core.proofs.Names.{◌≡◌, ◌≤◌, replicate, vec_capacit
 use Rattle.solve_core.proofs.grid_lines.unknown_lines.Given as goal
 
 abbrev pub invariant-loop : goal.invariant-loop
-invariant-loop g l = record { items : l.lines.items ≡ replicate l.counter (replicate l.len Unknown); room : l.count ≤ vec_capacity l.lines }
+invariant-loop g l = record {
+  items : l.lines.items ≡ replicate l.counter (replicate l.len Unknown);
+  capacity : l.count ≤ vec_capacity l.lines;
+}

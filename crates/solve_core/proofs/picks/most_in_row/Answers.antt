@@ -5,8 +5,9 @@ use Rattle.solve_core.proofs.picks.most_in_row.Goals as goal
 
 pub returns : goal.returns
 returns g c =
-    let number = g.W.PlaceSet.number in
-    most_by c.args.row.now (has (number c.args.above)) (has (number c.args.below)) c.args.least
-    (number c.unknown_cells.result) _ _ c.first_in_most.result c.unknown_cells.ensures.cells
+    let bits = g.W.BitSet.bits in
+    most_by c.args.row.now (has (bits c.args.above)) (has (bits c.args.below)) c.args.least
+    (bits c.unknown_cells.result) _ _ c.first_in_most_sets.result c.unknown_cells.ensures.cells
     (λ x h i. c.known_beside-beside.ensures.beside x h i + counts_by _ _ _ c.of-across.ensures x i)
-    c.first_in_most.ensures.none c.first_in_most.ensures.found c.first_in_most.ensures.most c.first_in_most.ensures.earliest
+    c.first_in_most_sets.ensures.none c.first_in_most_sets.ensures.found c.first_in_most_sets.ensures.most
+    c.first_in_most_sets.ensures.earliest

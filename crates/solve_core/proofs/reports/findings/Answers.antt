@@ -1,16 +1,16 @@
 -- `findings`: the report is the defined one in each case: a dead closure, dead trials, or a search.
-use Rattle.solve_core.proofs.Names.{◌≡◌, ◌∙◌, ap, count_by, is_known, grade_by, picked, refl, subst, sym, IsAtRest, Some, Tried}
-use Rattle.solve_core.proofs.ReportLaws.{report-told}
+use Rattle.solve_core.proofs.Names.{◌≡◌, ◌∙◌, ap, count_by, is_known, grade_by, picked, refl, subst, sym, IsAtFixpoint, Some, TrialState}
+use Rattle.solve_core.proofs.ReportLaws.{report-of}
 use Rattle.solve_core.proofs.reports.findings.Goals as goal
 use Rattle.solve_core.proofs.reports.findings.Goals.{then-by_lines, else-by_lines}
 
-pub try_unless_full-requires-clause-rest : goal.try_unless_full-requires-clause-rest
-try_unless_full-requires-clause-rest g c = c.if-not-close.ensures.rest refl
+pub try_unless_full-requires-clause-fixpoint : goal.try_unless_full-requires-clause-fixpoint
+try_unless_full-requires-clause-fixpoint g c = c.if-not-close.ensures.fixpoint refl
 
-pub search-end-requires-clause-rest : goal.search-end-requires-clause-rest
-search-end-requires-clause-rest g c =
-    subst (λ (t : Tried). IsAtRest c.args.puzzle.now t.closer c.try_unless_full.new.board.cells) (sym c.trials-2.view_is)
-    (c.try_unless_full.ensures.rest (rw c.if-not-try_unless_full.false refl))
+pub search-end-requires-clause-fixpoint : goal.search-end-requires-clause-fixpoint
+search-end-requires-clause-fixpoint g c =
+    subst (λ (t : TrialState). IsAtFixpoint c.args.puzzle.now t.propagator c.try_unless_full.new.board.cells) (sym c.trials-2.view_is)
+    (c.try_unless_full.ensures.fixpoint (rw c.if-not-try_unless_full.false refl))
 
 pub returns : goal.returns
 returns g c =
@@ -23,6 +23,6 @@ returns g c =
       | else-by_lines w ↦ w.trial_known-is ∙ rw w.lines-else-by_lines.ensures.lines at w.known-trial_known.ensures
     ] in
     rw (c.verdict.ensures, graded, line_known, trial_known)
-    (rw (← c.search-end.ensures) at (report-told (picked c.args.pick p.width) p c.args.guesses c.args.board.now.cells
+    (rw (← c.search-end.ensures) at (report-of (picked c.args.pick p.width) p c.args.guesses c.args.board.now.cells
     (Some c.close.new.self.cells) (Some c.try_unless_full.new.board.cells) c.requires.unknown c.if-not-close.ensures.closed
     (rw c.if-not-try_unless_full.false at c.try_unless_full.ensures.tried)))

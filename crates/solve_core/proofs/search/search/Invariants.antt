@@ -1,6 +1,6 @@
 -- Invariant of the loop of `search`: the solutions found, the guesses spent and the events owed end as the whole
 -- search.
-use Rattle.solve_core.proofs.Names.{◌≡◌, ◌-◌, ◌≤◌, [], length, vec_capacity, lines_of, events, ending, IsBoardOf, IsIdle, owed, IsUnderWay, picked}
+use Rattle.solve_core.proofs.Names.{◌≡◌, ◌-◌, ◌≤◌, [], length, vec_capacity, lines_of, events, ending, IsBoardOf, HasNoDirtyLine, owed, IsUnderWay, picked}
 use Rattle.solve_core.specs.Sizes.{IsSizeOf}
 use Rattle.solve_core.proofs.search.search.Given as goal
 
@@ -13,11 +13,11 @@ invariant-loop-pick g l =
       under_way : IsUnderWay rule p l.branches.items l.board l.next;
       ends : ending p l.solutions.grids l.spent (l.guesses - l.spent) (owed rule p l.branches.items l.board l.next)
           ≡ ending p [] 0 l.guesses (events rule (lines_of p) l.fn.board.cells);
-      room : length l.fn.board.cells ≤ vec_capacity l.branches;
+      capacity : length l.fn.board.cells ≤ vec_capacity l.branches;
       cells : length l.board.cells ≡ length l.fn.board.cells;
       board : IsBoardOf p l.board;
       size : IsSizeOf p l.solutions.width l.solutions.height;
-      idle : IsIdle p l.closer;
+      clean : HasNoDirtyLine p l.propagator;
       spent : l.spent ≤ l.guesses;
       found : length l.solutions.grids ≤ 2;
     }

@@ -1,5 +1,5 @@
 -- `places_for_clues`: with one more clue the result doesn't shrink, and suffices for the clue's numbers too.
-use Rattle.solve_core.proofs.Names.{◌≡◌, ◌∙◌, ◌≤◌, [], get_or, sym, take_all, subst, arith, All, get_or_default, All-more, LONGEST_SIDE, rules, ℕ, List, true, leb, and_parts, leb-true, AllPass-from_list_all}
+use Rattle.solve_core.proofs.Names.{◌≡◌, ◌∙◌, ◌≤◌, [], get_or, sym, take_all, subst, arith, All, get_or_default, All-more, MAX_SIDE, rules, ℕ, List, true, leb, and_parts, leb-true, AllPass-from_list_all}
 use Rattle.grid_core.specs.Clues.{is_clue, is_run}
 use Rattle.solve_core.proofs.widths.places_for_clues.Goals as goal
 
@@ -15,17 +15,17 @@ loop-clue-preserved c =
     let i = c.loop-clue.clue-index in
     let clues = c.args.clues.now in
     let old = c.loop-clue.needed in
-    let new = c.places_needed-needed.result in
+    let new = c.bits_needed-needed.result in
     let item : c.numbers.result.now ≡ get_or clues i [] = c.numbers.ensures.numbers ∙ c.clue-item.is ∙
     get_or_default clues i c.clue-item.result [] (omega arith) in
-    let grown : old ≤ new = c.places_needed-needed.ensures.line in
+    let grown : old ≤ new = c.bits_needed-needed.ensures.line in
     record {
       least = omega (arith, c.loop-clue.invariant.least);
       passed = All-more (All (λ n. n ≤ new)) clues i [] (omega arith)
           (λ k d h j e l. omega (arith, c.loop-clue.invariant.passed k d h j e l))
-          (subst (All (λ n. n ≤ new)) item c.places_needed-needed.ensures.clue);
-      fewest = λ room a b. c.places_needed-needed.ensures.least room (c.loop-clue.invariant.fewest room a b)
-          (subst (All (λ n. n ≤ room)) (sym item) (b i [] (omega arith)));
-      most = c.places_needed-needed.ensures.least LONGEST_SIDE c.loop-clue.invariant.most
-          (subst (All (λ n. n ≤ LONGEST_SIDE)) (sym c.numbers.ensures.numbers) (clue_short LONGEST_SIDE _ c.numbers.ensures.clue));
+          (subst (All (λ n. n ≤ new)) item c.bits_needed-needed.ensures.clue);
+      fewest = λ bound a b. c.bits_needed-needed.ensures.least bound (c.loop-clue.invariant.fewest bound a b)
+          (subst (All (λ n. n ≤ bound)) (sym item) (b i [] (omega arith)));
+      most = c.bits_needed-needed.ensures.least MAX_SIDE c.loop-clue.invariant.most
+          (subst (All (λ n. n ≤ MAX_SIDE)) (sym c.numbers.ensures.numbers) (clue_short MAX_SIDE _ c.numbers.ensures.clue));
     }

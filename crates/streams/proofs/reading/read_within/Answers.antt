@@ -12,11 +12,11 @@ returns-then-is_err-clause-refused g c =
       few = omega (
         arith,
         length-append c.loop-buffer.text.items chunk,
-        length-take c.min-room.result c.loop-buffer.buffer,
+        length-take c.min-allowed.result c.loop-buffer.buffer,
         c.in-Ok.ensures.bound.0,
         c.in-Ok.ensures.bound.1,
         c.read.auto.buffer,
-        c.min-room.ensures,
+        c.min-allowed.ensures,
         c.len.ensures,
         c.loop-buffer.invariant.short,
       );

@@ -1,10 +1,10 @@
 -- `write_texts`: what was sent of a text follows the texts before it.
 use Rattle.std.proofs.Common.{rules, arith}
-use Rattle.streams.proofs.Front.{among_within, sent_among, sent_last}
+use Rattle.streams.proofs.Prefix.{among_within, sent_among, sent_last}
 use Rattle.streams.proofs.writing.write_texts.Goals as goal
 
-pub write_behind-requires-clause-counted : goal.write_behind-requires-clause-counted
-write_behind-requires-clause-counted g c =
+pub write_from-requires-clause-counted : goal.write_from-requires-clause-counted
+write_from-requires-clause-counted g c =
     let most = among_within c.args.front.now c.args.last.now c.loop-text.text-index c.text-item.result c.deref.result.now
     c.loop-text-test.true c.text-item.is c.deref.ensures.value in
     omega (arith, most, c.loop-text.invariant.sent, c.requires.counted)

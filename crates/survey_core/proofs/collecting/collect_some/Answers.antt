@@ -7,8 +7,8 @@ use Rattle.survey_core.specs.steps.Dealt.{dealt}
 use Rattle.survey_core.proofs.CollectedLemmas.{EachAnswered-at, EachAnswered-length}
 use Rattle.survey_core.proofs.collecting.collect_some.Goals as goal
 
-pub gather-requires-clause-lanes : goal.gather-requires-clause-lanes
-gather-requires-clause-lanes g c =
+pub interleave-requires-clause-lanes : goal.interleave-requires-clause-lanes
+interleave-requires-clause-lanes g c =
     omega (
       arith,
       EachAnswered-length _ _ c.in_ok-queues.ensures.1,
@@ -20,8 +20,8 @@ gather-requires-clause-lanes g c =
       c.in_ok-deal_out.ensures.lanes,
     )
 
-pub gather-requires-clause-answered : goal.gather-requires-clause-answered
-gather-requires-clause-answered g c = λ k within.
+pub interleave-requires-clause-answered : goal.interleave-requires-clause-answered
+interleave-requires-clause-answered g c = λ k within.
     subst (λ (js : List Job). AreAnswersTo js (get_or (map (λ q. q.items) c.in_ok-queues.queues.items) k []))
     (ap (λ l. get_or l k []) c.in_ok-lists.ensures ∙ c.in_ok-deal_out.ensures.dealt k within
     ∙ ap (λ v. dealt v.items c.args.lanes k) (sym c.of-all.ensures))

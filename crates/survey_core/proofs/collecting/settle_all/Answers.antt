@@ -15,6 +15,7 @@ settling-preserved g c =
         rw (c.push_reserved.ensures.items, map_push (λ q. q.items) c.settling.settled.items c.settle.result)
             (EachAnswered-push before.0 (map (λ q. q.items) c.settling.settled.items) own c.settle.result.items before.2 c.settle.ensures),
       );
-      room =
-          omega (arith, c.settling.invariant.room, c.in-Some.ensures.cases, c.push_reserved.ensures.len, c.push_reserved.ensures.capacity);
+      capacity =
+          omega
+          (arith, c.settling.invariant.capacity, c.in-Some.ensures.cases, c.push_reserved.ensures.len, c.push_reserved.ensures.capacity);
     }

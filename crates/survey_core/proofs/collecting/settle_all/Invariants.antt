@@ -9,7 +9,7 @@ abbrev pub invariant-settling : goal.invariant-settling
 invariant-settling g l = record {
   answered : (before : List (List Job)) × (before ++ complete_jobs l.complete.items ≡ complete_jobs l.fn.complete.items) ×
       EachAnswered before (map (λ q. q.items) l.settled.items);
-  room : vec_len l.settled + deque_len l.complete ≤ vec_capacity l.settled;
+  capacity : vec_len l.settled + deque_len l.complete ≤ vec_capacity l.settled;
 }
 
 abbrev pub decreases-settling : goal.decreases-settling

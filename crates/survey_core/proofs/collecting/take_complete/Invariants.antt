@@ -9,7 +9,7 @@ invariant-completing l = record {
   jobs : complete_jobs l.complete.items ++ dealt_jobs l.running.items ≡ complete_jobs l.initial.complete.items ++
       dealt_jobs l.initial.running.items;
   len : deque_len l.complete + deque_len l.running ≡ deque_len l.initial.complete + deque_len l.initial.running;
-  room : deque_capacity l.complete ≡ deque_capacity l.initial.complete;
+  capacity : deque_capacity l.complete ≡ deque_capacity l.initial.complete;
 }
 
 abbrev pub decreases-completing : goal.decreases-completing

@@ -8,5 +8,5 @@ abbrev pub invariant-rounds : goal.invariant-rounds
 invariant-rounds g l = record {
   jobs : complete_jobs l.complete.items ++ dealt_jobs l.running.items ≡ dealt_jobs l.fn.running.items;
   len : deque_len l.complete + deque_len l.running ≡ deque_len l.fn.running;
-  room : deque_len l.fn.running ≤ deque_capacity l.complete;
+  capacity : deque_len l.fn.running ≤ deque_capacity l.complete;
 }

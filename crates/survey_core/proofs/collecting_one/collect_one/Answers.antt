@@ -13,6 +13,7 @@ grading-preserved c =
         rw c.push_reserved.ensures.items
             (AreAnswersTo-push before.0 c.grading.answers.items c.in-Some.job c.grade_by.result before.2 c.grade_by.ensures),
       );
-      room =
-          omega (arith, c.grading.invariant.room, c.in-Some.ensures.cases, c.push_reserved.ensures.len, c.push_reserved.ensures.capacity);
+      capacity =
+          omega
+          (arith, c.grading.invariant.capacity, c.in-Some.ensures.cases, c.push_reserved.ensures.len, c.push_reserved.ensures.capacity);
     }

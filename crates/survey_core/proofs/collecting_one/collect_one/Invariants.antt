@@ -8,7 +8,7 @@ use Rattle.survey_core.proofs.collecting_one.collect_one.Given as goal
 abbrev pub invariant-grading : goal.invariant-grading
 invariant-grading l = record {
   answered : (done : List Job) × (done ++ l.jobs.items ≡ l.fn.jobs.items) × AreAnswersTo done l.answers.items;
-  room : vec_len l.answers + deque_len l.jobs ≤ vec_capacity l.answers;
+  capacity : vec_len l.answers + deque_len l.jobs ≤ vec_capacity l.answers;
 }
 
 abbrev pub decreases-grading : goal.decreases-grading

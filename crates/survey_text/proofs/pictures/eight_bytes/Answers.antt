@@ -6,7 +6,7 @@ use Rattle.std.proofs.lemmas.Nat.Bits.{bit_at-lt, bit_at_or}
 use Rattle.grid_core.specs.declared.cells.Cell.{Cell}
 use Rattle.grid_core.specs.declared.cells.Cell.TheVariants.{Unknown, Filled, Blank}
 use Rattle.grid_core.specs.Lines.{cell_with, line_cells}
-use Rattle.place_sets.specs.Masks.{has}
+use Rattle.bit_sets.specs.Masks.{has}
 use Rattle.survey_text.specs.Grids.{cell_byte}
 use Rattle.survey_text.proofs.pictures.eight_bytes.Goals as goal
 
@@ -32,5 +32,5 @@ returns c =
     let at : (k : ℕ) → cell_byte (cell_with (has f k) (has b k)) + 17 * bit_at (bit_or f b) k + 11 * bit_at f k ≡ 63 =
     λ k. rw (bit_at_or f b k) (byte_of (bit_at f k) (bit_at b k) (bit_at-lt f k) (bit_at-lt b k)) in
     c.to_le_bytes.ensures
-    ∙ le_bytes_8 (map cell_byte (line_cells 8 f b)) (0x3f3f3f3f3f3f3f3f - 17 * c.spread-known.result - 11 * c.spread.result) refl
+    ∙ le_bytes_8 (map cell_byte (line_cells 8 f b)) (0x3f3f3f3f3f3f3f3f - 17 * c.expand_bits-known.result - 11 * c.expand_bits.result) refl
     (small (line_cells 8 f b)) (omega (arith, at 0, at 1, at 2, at 3, at 4, at 5, at 6, at 7))

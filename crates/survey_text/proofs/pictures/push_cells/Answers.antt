@@ -7,8 +7,8 @@ use Rattle.std.proofs.lemmas.List.FromFn.{fill_by_all, map-range_with_len_more, 
 use Rattle.grid_core.specs.declared.cells.Cell.TheVariants.{Unknown}
 use Rattle.grid_core.specs.Lines.{cell_with, line_cells}
 use Rattle.grid_core.proofs.LineCells.{cell_itself, cells-resized, has_by}
-use Rattle.place_sets.proofs.HasLemmas.{has_true, true_has}
-use Rattle.place_sets.specs.Masks.{Has, has, IsMaskOf}
+use Rattle.bit_sets.proofs.HasLemmas.{has_true, true_has}
+use Rattle.bit_sets.specs.Masks.{Has, has, IsMaskOf}
 use Rattle.survey_text.specs.Grids.{cell_byte}
 use Rattle.survey_text.proofs.pictures.push_cells.Goals as goal
 
@@ -37,13 +37,13 @@ passed f m n i p h k =
 
 pub loop-part-preserved : goal.loop-part-preserved
 loop-part-preserved g c =
-    let number = g.W.PlaceSet.number in
+    let bits = g.W.BitSet.bits in
     let i = c.loop-part._part in
     let before = c.loop-part.invariant in
-    let f = number c.filled-filled.result in
-    let b = number c.blank-blank.result in
-    let filled = number c.loop-part.filled in
-    let blank = number c.loop-part.blank in
+    let f = bits c.filled-filled.result in
+    let b = bits c.blank-blank.result in
+    let filled = bits c.loop-part.filled in
+    let blank = bits c.loop-part.blank in
     let next : i * 8 + 8 ≡ (i + 1) * 8 = omega arith in
     let more = ap (λ (n : ℕ). line_cells n f b) (sym next) ∙ line_cells-more (i * 8) f b filled blank before.filled before.blank 8 in
     let eight =
@@ -54,17 +54,17 @@ loop-part-preserved g c =
       added =
           rw (c.in_ok-extend_from_slice.ensures.items, before.added, eight, more, map-append)
           (append_assoc c.args.text.now.items (map cell_byte (line_cells (i * 8) f b)) (map cell_byte (line_cells 8 filled blank)));
-      filled = passed f filled (number c.shifted_down-filled.result) i before.filled c.shifted_down-filled.ensures;
-      blank = passed b blank (number c.shifted_down-blank.result) i before.blank c.shifted_down-blank.ensures;
+      filled = passed f filled (bits c.shifted_down-filled.result) i before.filled c.shifted_down-filled.ensures;
+      blank = passed b blank (bits c.shifted_down-blank.result) i before.blank c.shifted_down-blank.ensures;
     }
 
 pub returns : goal.returns
 returns g c =
-    let number = g.W.PlaceSet.number in
+    let bits = g.W.BitSet.bits in
     let text = c.args.text.now.items in
     let line = c.args.line.now in
-    let f = number c.filled-filled.result in
-    let b = number c.blank-blank.result in
+    let f = bits c.filled-filled.result in
+    let b = bits c.blank-blank.result in
     let n = c.loop-part._part * 8 in
     let cells = λ (k : ℕ). cell_with (has f k) (has b k) in
     let whole = div_ceil_times c.len-3.result 8 (omega arith) in

@@ -1,7 +1,7 @@
 -- `Grid::first_unknown`: the first unknown cell of the first row that has one is that of the grid.
 use Rattle.grid_core.proofs.Names.{◌≡◌, ◌≤◌, ◌*◌, ap, length, refl, sym, arith, mul-le-mul_left, PartialGrid}
 use Rattle.grid_core.proofs.FirstUnknown.{first_in_row, known-row, position_none}
-use Rattle.grid_core.proofs.KeptRows.{count-cells}
+use Rattle.grid_core.proofs.StoredRows.{count-cells}
 use Rattle.grid_core.proofs.grids.Grid.first_unknown.Goals as goal
 
 pub returns-in-Some : goal.returns-in-Some

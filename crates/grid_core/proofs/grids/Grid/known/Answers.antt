@@ -4,8 +4,8 @@ use Rattle.grid_core.proofs.grids.Grid.known.Goals as goal
 
 pub returns : goal.returns
 returns c =
-    let past = rw (c.from.ensures, c.width.ensures.width, c.from-2.ensures, c.height.ensures) at c.loop-place-test.false in
-    rw (take_all c.loop-place.place c.args.self.now.cells (omega (arith, c.width.ensures.cells))) at c.loop-place.invariant
+    let past = rw (c.from.ensures, c.width.ensures.width, c.from-2.ensures, c.height.ensures) at c.loop-index-test.false in
+    rw (take_all c.loop-index.index c.args.self.now.cells (omega (arith, c.width.ensures.cells))) at c.loop-index.invariant
 
-pub loop-place-preserved : goal.loop-place-preserved
-loop-place-preserved c = grind (arith, common_steps)
+pub loop-index-preserved : goal.loop-index-preserved
+loop-index-preserved c = grind (arith, common_steps)

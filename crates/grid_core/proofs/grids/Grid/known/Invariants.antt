@@ -2,5 +2,5 @@
 use Rattle.grid_core.proofs.Names.{◌≡◌, take, count_by, is_known}
 use Rattle.grid_core.proofs.grids.Grid.known.Given as goal
 
-abbrev pub invariant-loop-place : goal.invariant-loop-place
-invariant-loop-place l = l.known ≡ count_by is_known (take l.place l.self.cells)
+abbrev pub invariant-loop-index : goal.invariant-loop-index
+invariant-loop-index l = l.known ≡ count_by is_known (take l.index l.self.cells)

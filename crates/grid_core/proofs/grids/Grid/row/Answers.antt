@@ -1,6 +1,6 @@
 -- `Grid::row`: a stored row has the cells of the grid's row, and rows below the stored ones are unknown.
 use Rattle.grid_core.proofs.Names.{ap, arith, PartialGrid}
-use Rattle.grid_core.proofs.KeptRows.{row_unknown, row_written}
+use Rattle.grid_core.proofs.StoredRows.{row_unknown, row_written}
 use Rattle.grid_core.proofs.grids.Grid.row.Goals as goal
 
 pub returns-in-Some-clause-row : goal.returns-in-Some-clause-row

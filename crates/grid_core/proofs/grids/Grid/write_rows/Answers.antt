@@ -1,6 +1,6 @@
 -- `Grid::write_rows`: a grid that stores a row for each line has the cells of the lines.
 use Rattle.grid_core.proofs.Names.{ap, PartialGrid}
-use Rattle.grid_core.proofs.KeptRows.{all_written}
+use Rattle.grid_core.proofs.StoredRows.{all_written}
 use Rattle.grid_core.proofs.grids.Grid.write_rows.Goals as goal
 
 pub returns : goal.returns

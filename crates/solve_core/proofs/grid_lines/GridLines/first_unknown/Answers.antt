@@ -17,13 +17,14 @@ known_before cells w y column end from near here within each none before =
 pub returns-in-Some : goal.returns-in-Some
 returns-in-Some g c =
     let found = c.in-Some.ensures in
-    let at = c.near_cells.ensures.unknown c.in-Some.x found.2 in
+    let at = c.cells_by_known_neighbours.ensures.unknown c.in-Some.x found.2 in
     rw (c.from.ensures, c.width-width.ensures.width) (
       omega (arith, rw c.width-width.ensures.width at c.loop-y.invariant.from, found.0),
       at.1.0,
       at.1.1,
       known_before c.args.self.now.cells c.args.self.now.width c.loop-y.y c.loop-y.column c.in-Some.x c.args.from _ (omega (arith, at.1.0))
-          (omega (arith, at.0)) (c.near_cells.ensures.each refl) found.3 (rw c.width-width.ensures.width at c.loop-y.invariant.known),
+          (omega (arith, at.0)) (c.cells_by_known_neighbours.ensures.each refl) found.3
+          (rw c.width-width.ensures.width at c.loop-y.invariant.known),
     )
 
 pub loop-y-preserved : goal.loop-y-preserved
@@ -37,7 +38,8 @@ loop-y-preserved g c =
       column = omega (arith, c.width-width.ensures.width, c.width-width.ensures.size.width_from);
       from = omega (arith, c.loop-y.invariant.from, c.loop-y.invariant.column);
       known = known_before c.args.self.now.cells w c.loop-y.y c.loop-y.column w c.args.from _ here (omega arith)
-          (rw (← c.width-width.ensures.width) at (c.near_cells.ensures.each refl))
-          (λ x low high. c.in_default.ensures x low (omega (arith, c.near_cells.ensures.fits, c.width-width.ensures.width, high)))
+          (rw (← c.width-width.ensures.width) at (c.cells_by_known_neighbours.ensures.each refl))
+          (λ x low high.
+          c.in_default.ensures x low (omega (arith, c.cells_by_known_neighbours.ensures.fits, c.width-width.ensures.width, high)))
           c.loop-y.invariant.known;
     })

@@ -1,0 +1,6 @@
+-- `u64::flood`: the carries of the sum are the flood.
+use Rattle.bit_sets.proofs.Flooding.{flooded}
+use Rattle.bit_sets.proofs.narrow.U64BitSet.flood.Goals as goal
+
+pub returns : goal.returns
+returns c = flooded 64 c.args.sources c.args.free c.ranges.sources.fits c.ranges.free.fits c.requires

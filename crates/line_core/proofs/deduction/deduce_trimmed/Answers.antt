@@ -1,0 +1,38 @@
+-- `deduce_trimmed`: what is deduced of the cells between the known ends is deduced of the line.
+use Rattle.line_core.proofs.Names.{rules, ◌-◌}
+use Rattle.line_core.proofs.KnownEnds.{lengths_part, inner_dead, inner_more, inner_none, inner_some, inner_within}
+use Rattle.line_core.proofs.deduction.deduce_trimmed.Goals as goal
+
+pub returns-in_err-from-clause-answer : goal.returns-in_err-from-clause-answer
+returns-in_err-from-clause-answer g c =
+    let ends = c.known_ends-front.ensures in
+    rw c.from_residual.ensures (inner_dead c.args.line.now _ _ ends.front ends.back ends.inner c.args.clue.now c.in_err-from.ensures)
+
+pub deduce_part-requires : goal.deduce_part-requires
+deduce_part-requires g c =
+    let are = lengths_part _ (c.in_ok-from.to - c.in_ok-from.from) c.in_ok-from.from c.args.clue.now c.requires.clue in search rules
+
+pub with_slice-requires-clause-within : goal.with_slice-requires-clause-within
+with_slice-requires-clause-within g c =
+    let ends = c.known_ends-front.ensures in
+    inner_within c.args.line.now _ _ ends.front ends.back ends.inner c.args.clue.now _ c.in_ok-from.ensures.2 c.in-Some.deduced
+    (rw (c.slice-inner.ensures, c.len.ensures.len) at c.in-Some.ensures.answer)
+
+pub with_slice-requires-clause-more : goal.with_slice-requires-clause-more
+with_slice-requires-clause-more g c =
+    let ends = c.known_ends-front.ensures in
+    inner_more c.args.line.now _ _ ends.front ends.back ends.inner c.args.clue.now _ c.in_ok-from.ensures.2 c.in-Some.deduced
+    (rw (c.slice-inner.ensures, c.len.ensures.len) at c.in-Some.ensures.answer)
+
+pub returns-in-None-clause-answer : goal.returns-in-None-clause-answer
+returns-in-None-clause-answer g c =
+    let ends = c.known_ends-front.ensures in
+    inner_none c.args.line.now _ _ ends.front ends.back ends.inner c.args.clue.now _ c.in_ok-from.ensures.2
+    (rw (c.slice-inner.ensures, c.len.ensures.len) at c.in-None.ensures.answer)
+
+pub returns-in-Some-clause-answer : goal.returns-in-Some-clause-answer
+returns-in-Some-clause-answer g c =
+    let ends = c.known_ends-front.ensures in
+    let answer = rw (c.slice-inner.ensures, c.len.ensures.len) at c.in-Some.ensures.answer in
+    rw c.with_slice.ensures
+    (inner_some c.args.line.now _ _ ends.front ends.back ends.inner c.args.clue.now _ c.in_ok-from.ensures.2 c.in-Some.deduced answer)

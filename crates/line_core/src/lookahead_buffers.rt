@@ -1,0 +1,215 @@
+//! Computes the lookahead of all unknown cells of a line, in buffers that are allocated once.
+
+ghost use Rattle.std.specs.Prelude.{◌≡◌, ◌+◌, ◌*◌, ◌<◌, ◌≤◌, List, length, map, reverse, true, vec_capacity, vec_len, IfOk};
+ghost use Rattle.grid_core.specs.declared.cells.Cell.{Cell};
+ghost use Rattle.line_core.specs.Lookahead.{AreLookaheadsOf};
+ghost use Rattle.grid_core.specs.declared.limits.TheConstants.{MAX_RUNS};
+ghost use Rattle.line_core.specs.declared.lookahead.TheConstants.{MAX_LOOKAHEAD_LEN};
+ghost use Rattle.line_core.specs.declared.prefix_supports.TheConstants.{ROW_STRIDE};
+ghost use Rattle.line_core.specs.steps.PrefixScan.{IsDomainOf};
+ghost use Rattle.line_core.specs.steps.Lookahead.{AreLookaheads, ArePrefixSupports, AreFeasibleEnds, AreFeasibleGaps};
+ghost use Rattle.line_core.specs.steps.Feasibility.{AreLengths};
+
+use crate::buffers::ensure_initialized;
+use crate::combining::combine_supports;
+use crate::domains::{LineDomain, reversed};
+use crate::lookahead::{Lookahead, Support};
+use crate::prefix_supports::{ROW_STRIDE, write_feasible, write_prefix_supports};
+use crate::suffix_gaps::MAX_GAPS;
+use bit_sets::BitSet;
+use grid_core::{BitLine, MAX_RUNS, NoMemory};
+use std::alloc::Global;
+
+/// Extends `table` to the rows that a clue of `runs` runs needs, one of `ROW_STRIDE` entries for
+/// each gap. Allocates nothing: the capacity has to suffice.
+fn make_rows<W: BitSet>(table: &mut Vec<Support<W>>, runs: usize)
+    requires runs { runs ≤ MAX_RUNS }
+    requires fits { ROW_STRIDE * (runs + 1) ≤ vec_capacity table.old }
+    ensures rows { ROW_STRIDE * (runs + 1) ≤ vec_len table.new }
+    ensures fits { vec_capacity table.new ≡ vec_capacity table.old }
+{
+    while table.len() < ROW_STRIDE * (runs + 1) {
+        table.push_reserved(Support::none());
+    }
+}
+
+/// Writes the feasible gaps and the feasible ends of runs of a line, and the prefix supports of
+/// these gaps. The cells in `table` have their indices in the line, or, if `MIRRORED`, those in the
+/// mirrored line. `suffix` is a buffer.
+fn write_prefix_table<W: BitSet, const MIRRORED: bool>(
+    domain: &LineDomain<W>,
+    clue: &[u16],
+    suffix: &mut [W::Stored; MAX_GAPS],
+    gaps: &mut [W::Stored; MAX_GAPS],
+    ends: &mut [W::Stored; MAX_GAPS],
+    table: &mut [Support<W>],
+)
+    ghost line: { List Cell }
+    requires domain { IsDomainOf W.WIDTH line domain.now.len
+        (W.bits domain.now.not_filled) (W.bits domain.now.not_blank) }
+    requires clue { AreLengths W.WIDTH clue.now }
+    requires count { length clue.now ≤ MAX_RUNS }
+    requires short { length line ≤ MAX_LOOKAHEAD_LEN }
+    requires size { ROW_STRIDE * (length clue.now + 1) ≤ length table.old }
+    ensures gaps { AreFeasibleGaps line clue.now (map W.stored_bits gaps.new) }
+    ensures ends { AreFeasibleEnds line clue.now (map W.stored_bits ends.new) }
+    ensures table { ArePrefixSupports MIRRORED line clue.now table.new }
+    ensures count { length table.new ≡ length table.old }
+{
+    write_feasible(domain, clue, suffix, gaps, ends);
+    write_prefix_supports::<W, MIRRORED>(domain.len, clue, gaps, ends, table);
+}
+
+/// Writes the prefix supports of the mirrored line and clue, in which the cells keep the indices of
+/// the line itself. All other slices but `clue` are buffers.
+fn write_suffix_table<W: BitSet>(
+    domain: &LineDomain<W>,
+    clue: &[u16],
+    suffix: &mut [W::Stored; MAX_GAPS],
+    gaps: &mut [W::Stored; MAX_GAPS],
+    ends: &mut [W::Stored; MAX_GAPS],
+    table: &mut [Support<W>],
+)
+    ghost line: { List Cell }
+    requires domain { IsDomainOf W.WIDTH line domain.now.len
+        (W.bits domain.now.not_filled) (W.bits domain.now.not_blank) }
+    requires clue { AreLengths W.WIDTH clue.now }
+    requires count { length clue.now ≤ MAX_RUNS }
+    requires short { length line ≤ MAX_LOOKAHEAD_LEN }
+    requires size { ROW_STRIDE * (length clue.now + 1) ≤ length table.old }
+    ensures table { ArePrefixSupports true (reverse line) (reverse clue.now) table.new }
+    ensures count { length table.new ≡ length table.old }
+{
+    let mut numbers = [0; MAX_RUNS];
+    let mirrored = &mut numbers[..clue.len()];
+    mirrored.copy_from_slice(clue);
+    mirrored.reverse();
+    write_prefix_table::<W, true>(&reversed(domain), mirrored, suffix, gaps, ends, table);
+}
+
+/// Writes, for each unknown cell of a line, the line's support after that cell is filled and after
+/// it is made blank. All slices but `clue` and `lookaheads` are buffers.
+fn write_lookaheads<W: BitSet>(
+    domain: &LineDomain<W>,
+    clue: &[u16],
+    suffix: &mut [W::Stored; MAX_GAPS],
+    gaps: &mut [W::Stored; MAX_GAPS],
+    ends: &mut [W::Stored; MAX_GAPS],
+    before: &mut [Support<W>],
+    after: &mut [Support<W>],
+    lookaheads: &mut [Lookahead<W>],
+)
+    ghost line: { List Cell }
+    requires domain { IsDomainOf W.WIDTH line domain.now.len
+        (W.bits domain.now.not_filled) (W.bits domain.now.not_blank) }
+    requires clue { AreLengths W.WIDTH clue.now }
+    requires count { length clue.now ≤ MAX_RUNS }
+    requires short { length line ≤ MAX_LOOKAHEAD_LEN }
+    requires before { ROW_STRIDE * (length clue.now + 1) ≤ length before.old }
+    requires after { ROW_STRIDE * (length clue.now + 1) ≤ length after.old }
+    requires lookaheads { length line ≤ length lookaheads.old }
+    ensures lookaheads { AreLookaheads line clue.now lookaheads.new }
+    ensures count { length lookaheads.new ≡ length lookaheads.old }
+{
+    // The mirrored line comes first: both calls write gaps and ends to the same buffers, and only
+    // those of the line itself are needed afterwards.
+    write_suffix_table(domain, clue, suffix, gaps, ends, after);
+    write_prefix_table::<W, false>(domain, clue, suffix, gaps, ends, before);
+    combine_supports(domain.len, clue, gaps, ends, before, after, lookaheads);
+}
+
+/// The buffers for computing lookahead for clues of at most `max_runs` runs. All are allocated
+/// once, and initialized as far as they are used.
+pub struct LookaheadBuffers<W: BitSet> {
+    /// The feasible gaps of a line.
+    gaps: Vec<[W::Stored; MAX_GAPS]>,
+    /// The feasible ends of its runs.
+    ends: Vec<[W::Stored; MAX_GAPS]>,
+    /// Its prefix supports, one row of `ROW_STRIDE` entries for each gap.
+    before: Vec<Support<W>>,
+    /// The prefix supports of the mirrored line, one row of `ROW_STRIDE` entries for each gap.
+    after: Vec<Support<W>>,
+    /// The greatest number of runs of a clue.
+    max_runs: usize,
+    ghost gaps_fit: { 0 < vec_capacity gaps },
+    ghost ends_fit: { 0 < vec_capacity ends },
+    ghost before_fits: { ROW_STRIDE * (max_runs + 1) ≤ vec_capacity before },
+    ghost after_fits: { ROW_STRIDE * (max_runs + 1) ≤ vec_capacity after },
+    ghost few: { max_runs ≤ MAX_RUNS },
+}
+
+/// Written by hand so that callers' proofs see one call: a derived drop is expanded at each exit of
+/// each caller.
+impl<W: BitSet> Drop for LookaheadBuffers<W> {
+    fn drop(self) {
+        let LookaheadBuffers {
+            gaps: _,
+            ends: _,
+            before: _,
+            after: _,
+            max_runs: _,
+        } = self;
+    }
+}
+
+impl<W: BitSet> LookaheadBuffers<W> {
+    /// Allocates the buffers for clues of at most `max_runs` runs, 0 to 128. Returns `NoMemory` if
+    /// an allocation fails.
+    pub fn new(alloc: Global, max_runs: usize) -> Result<LookaheadBuffers<W>, NoMemory>
+        requires { max_runs ≤ MAX_RUNS }
+        ensures { IfOk result (λ buffers. buffers.max_runs ≡ max_runs) }
+    {
+        let entries = ROW_STRIDE * (max_runs + 1);
+        Ok(LookaheadBuffers {
+            gaps: Vec::with_capacity(alloc, 1)?,
+            ends: Vec::with_capacity(alloc, 1)?,
+            before: Vec::with_capacity(alloc, entries)?,
+            after: Vec::with_capacity(alloc, entries)?,
+            max_runs,
+        })
+    }
+
+    /// Returns the greatest number of runs of a clue for which the buffers suffice.
+    pub fn max_runs(&self) -> usize
+        ensures { result ≡ self.now.max_runs }
+    {
+        self.max_runs
+    }
+
+    /// Writes, for each unknown cell of `line`, the support of the line after that cell is filled
+    /// and after it is made blank. `suffix` is a buffer; the entries of known cells are
+    /// unspecified.
+    pub(crate) fn write_lookaheads(
+        &mut self,
+        line: &BitLine<W>,
+        clue: &[u16],
+        suffix: &mut [W::Stored; MAX_GAPS],
+        lookaheads: &mut [Lookahead<W>],
+    )
+        ghost cells: { List Cell }
+        requires cells { line.now ≡ cells }
+        requires clue { AreLengths W.WIDTH clue.now }
+        requires count { length clue.now ≤ MAX_RUNS }
+        requires short { length cells ≤ MAX_LOOKAHEAD_LEN }
+        requires max_runs { length clue.now ≤ self.old.max_runs }
+        requires lookaheads { length cells ≤ length lookaheads.old }
+        ensures lookaheads { AreLookaheadsOf clue.now cells lookaheads.new }
+        ensures count { length lookaheads.new ≡ length lookaheads.old }
+        ensures max_runs { self.new.max_runs ≡ self.old.max_runs }
+    {
+        ensure_initialized::<W>(&mut self.gaps);
+        ensure_initialized::<W>(&mut self.ends);
+        make_rows(&mut self.before, clue.len());
+        make_rows(&mut self.after, clue.len());
+        write_lookaheads(
+            &LineDomain::of(line),
+            clue,
+            suffix,
+            &mut self.gaps[0],
+            &mut self.ends[0],
+            &mut self.before,
+            &mut self.after,
+            lookaheads,
+        );
+    }
+}

@@ -1,0 +1,247 @@
+//! Prefix supports: the support of the cells up to a gap, given that gap.
+
+ghost use Rattle.std.specs.Prelude.{◌≡◌, ◌+◌, ◌-◌, ◌*◌, ◌<◌, ◌≤◌, ◌⊎◌, ℕ, List, [], ◌∷◌, false, length, map, slice_index_or, true};
+ghost use Rattle.grid_core.specs.declared.cells.Cell.{Cell};
+ghost use Rattle.bit_sets.specs.Masks.{Has, IsMaskOf};
+ghost use Rattle.line_core.specs.steps.PrefixScan.{IsDomainOf};
+ghost use Rattle.line_core.specs.steps.Feasibility.{AreLengths, IsGapAfter, IsFeasibleEnd};
+ghost use Rattle.line_core.specs.Lookahead.{no_support};
+ghost use Rattle.line_core.specs.declared.lookahead.TheConstants.{MAX_LOOKAHEAD_LEN};
+ghost use Rattle.line_core.specs.declared.prefix_supports.TheConstants.{ROW_STRIDE};
+ghost use Rattle.line_core.specs.steps.Lookahead.{IsPrefixSupport, AreMasks, ArePrefixSupports, AreFeasibleEnds, AreFeasibleGaps, IsFeasibleGap};
+ghost use Rattle.line_core.specs.steps.PrefixSupports.{IsRow, IsMirroredIn};
+ghost use Rattle.line_core.specs.steps.Combining.{AreMore, HasColour};
+
+use crate::domains::LineDomain;
+use crate::lookahead::Support;
+use crate::prefix_scan::PrefixScan;
+use crate::suffix_gaps::{MAX_GAPS, feasible_ends, suffix_gap, write_suffix_gaps};
+use bit_sets::{BitSet, fit_table, prefix};
+use grid_core::MAX_RUNS;
+
+/// The number of entries in a row of a table of prefix supports: one for each index of a gap on a
+/// line of at most `MAX_LOOKAHEAD_LEN` cells. The table has one row for each number of runs before
+/// the gap.
+pub const ROW_STRIDE: usize = 128;
+
+/// Writes the feasible gaps of a line, before each run and after the last one, and the feasible
+/// ends of each run. `suffix` is a buffer for the suffix gaps.
+pub fn write_feasible<W: BitSet>(
+    domain: &LineDomain<W>,
+    clue: &[u16],
+    suffix: &mut [W::Stored; MAX_GAPS],
+    gaps: &mut [W::Stored; MAX_GAPS],
+    ends: &mut [W::Stored; MAX_GAPS],
+)
+    ghost line: { List Cell }
+    requires domain { IsDomainOf W.WIDTH line domain.now.len
+        (W.bits domain.now.not_filled) (W.bits domain.now.not_blank) }
+    requires clue { AreLengths W.WIDTH clue.now }
+    requires count { length clue.now ≤ MAX_RUNS }
+    ensures gaps { AreFeasibleGaps line clue.now (map W.stored_bits gaps.new) }
+    ensures ends { AreFeasibleEnds line clue.now (map W.stored_bits ends.new) }
+{
+    write_suffix_gaps(domain, clue, suffix);
+    let fits = fit_table(domain.not_blank);
+    let mut scan = PrefixScan::new(domain);
+    let first = scan.gap().intersection(suffix_gap(clue, suffix, 0));
+    gaps[0] = first.to_stored();
+    for j in 0..clue.len() {
+        let run_ends = scan.next_run(&fits, clue[j]);
+        let after = suffix_gap(clue, suffix, j + 1);
+        let feasible = feasible_ends(domain, clue, j, run_ends, after);
+        let gap = scan.gap().intersection(after);
+        ends[j] = feasible.to_stored();
+        gaps[j + 1] = gap.to_stored();
+    }
+}
+
+/// Returns the indices `first..first + count`, or, if `MIRRORED`, these mirrored within the first
+/// `len` indices, by a shift of `indices`, the first `count` indices.
+fn mirrored_cells<W: BitSet, const MIRRORED: bool>(
+    len: u16,
+    first: u16,
+    count: u16,
+    indices: W,
+) -> W
+    requires len { len ≤ W.WIDTH }
+    requires count { (0 < count) × (first + count ≤ len) }
+    requires indices { IsMaskOf (λ i. i < count) (W.bits indices) }
+    ensures { IsMaskOf (IsMirroredIn MIRRORED len first (first + count)) (W.bits result) }
+{
+    let from = if MIRRORED { len - first - count } else { first };
+    indices.shifted_up(from)
+}
+
+/// Returns the part of the support of the cells up to the gap at `index` for which no run ends
+/// right before the gap: its own cell is blank, and, if `longer` has `index`, the cells before have
+/// the prefix support `last` of the gap one cell before.
+fn gap_support<W: BitSet, const MIRRORED: bool>(
+    len: u16,
+    index: u16,
+    longer: W,
+    last: &Support<W>,
+) -> Support<W>
+    requires len { len ≤ W.WIDTH }
+    requires index { index < len }
+    ensures { AreMasks (λ filled k.
+        ((filled ≡ false) × IsMirroredIn MIRRORED len index (index + 1) k)
+        ⊎ (Has (W.bits longer) index × HasColour last.now filled k)) result }
+{
+    let own = Support {
+        fillable: W::empty(),
+        blankable: mirrored_cells::<W, MIRRORED>(len, index, 1, prefix(1)),
+    };
+    if longer.contains(index) {
+        own.with(last)
+    } else {
+        own
+    }
+}
+
+/// Returns the support of the cells up to the end of a run that starts at `start`: those of `run`
+/// are filled, and the cells before have the prefix support of the gap right before it, from the
+/// row `before`.
+pub fn run_and_prefix<W: BitSet>(start: u16, run: W, before: &[Support<W>]) -> Support<W>
+    requires { start ≤ length before.now }
+    ensures { AreMasks (λ filled k. ((filled ≡ true) × Has (W.bits run) k)
+        ⊎ ((0 < start) × HasColour (slice_index_or before.now (start - 1) no_support) filled k))
+        result }
+{
+    let own = Support {
+        fillable: run,
+        blankable: W::empty(),
+    };
+    if start == 0 {
+        return own;
+    }
+    own.with(&before[usize::from(start - 1)])
+}
+
+/// Returns the support of the cells up to the gap at `index`: `in_gap`, that without a run right
+/// before the gap, and, if `index` is in `ended`, the support given a run of `number` cells that
+/// ends right before it.
+fn prefix_support<W: BitSet, const MIRRORED: bool>(
+    in_gap: Support<W>,
+    len: u16,
+    index: u16,
+    number: u16,
+    indices: W,
+    ended: W,
+    before: &[Support<W>],
+) -> Support<W>
+    requires len { len ≤ W.WIDTH }
+    requires index { index < len }
+    requires number { 0 < number }
+    requires indices { IsMaskOf (λ i. i < number) (W.bits indices) }
+    requires ended { Has (W.bits ended) index → number ≤ index }
+    requires before { index ≤ length before.now }
+    ensures { AreMore (λ filled k. Has (W.bits ended) index
+        × (((filled ≡ true) × IsMirroredIn MIRRORED len (index - number) index k)
+        ⊎ ((number < index)
+        × HasColour (slice_index_or before.now (index - number - 1) no_support) filled k)))
+        in_gap result }
+{
+    if !ended.contains(index) {
+        return in_gap;
+    }
+    let start = index - number;
+    let run = mirrored_cells::<W, MIRRORED>(len, start, number, indices);
+    in_gap.with(&run_and_prefix(start, run, before))
+}
+
+/// Writes the prefix support of each feasible gap before the first run: all cells up to the gap are
+/// blank.
+#[tactic(auto, using(crate::proofs::GapRows::walks))]
+fn write_first<W: BitSet, const MIRRORED: bool>(len: u16, gaps: W, row: &mut [Support<W>])
+    ghost line: { List Cell }
+    requires len { (len ≡ length line) × (len ≤ W.WIDTH) }
+    requires short { length line ≤ MAX_LOOKAHEAD_LEN }
+    requires gaps { (i : ℕ) → Has (W.bits gaps) i → IsGapAfter line [] i }
+    requires size { length line ≤ length row.old }
+    ensures row { (i : ℕ) → Has (W.bits gaps) i
+        → IsPrefixSupport MIRRORED line [] i (slice_index_or row.new i no_support) }
+    ensures count { length row.new ≡ length row.old }
+{
+    let mut left = gaps;
+    while !left.is_empty() {
+        let index = left.first_index();
+        left = left.with_bit(index, false);
+        row[usize::from(index)] = Support {
+            fillable: W::empty(),
+            blankable: mirrored_cells::<W, MIRRORED>(len, 0, index + 1, prefix(index + 1)),
+        };
+    }
+}
+
+/// Writes the prefix support of each feasible gap after run `j` to the second row of `rows`. The
+/// first row has those of the gaps before the run.
+#[tactic(auto, using(crate::proofs::GapRows::walks))]
+fn write_row<W: BitSet, const MIRRORED: bool>(
+    len: u16,
+    clue: &[u16],
+    j: usize,
+    gaps: W,
+    ends: W,
+    rows: &mut [Support<W>],
+)
+    ghost line: { List Cell }
+    requires len { (len ≡ length line) × (len ≤ W.WIDTH) }
+    requires clue { AreLengths W.WIDTH clue.now }
+    requires j { j < length clue.now }
+    requires short { length line ≤ MAX_LOOKAHEAD_LEN }
+    requires gaps { IsMaskOf (IsFeasibleGap line clue.now (j + 1)) (W.bits gaps) }
+    requires ends { IsMaskOf (IsFeasibleEnd line clue.now j) (W.bits ends) }
+    requires before { IsRow MIRRORED line clue.now j 0 rows.old }
+    requires size { 2 * ROW_STRIDE ≤ length rows.old }
+    ensures row { IsRow MIRRORED line clue.now (j + 1) ROW_STRIDE rows.new }
+    ensures before { (k : ℕ) → k < ROW_STRIDE
+        → slice_index_or rows.new k no_support ≡ slice_index_or rows.old k no_support }
+    ensures count { length rows.new ≡ length rows.old }
+{
+    let number = clue[j];
+    let longer = gaps.shifted_up(1);
+    let ended = ends.shifted_up(1);
+    let (before, row) = rows.split_at_mut(ROW_STRIDE);
+    let indices = prefix::<W>(number);
+    // From left to right: a gap right after another one takes over the prefix support of that one,
+    // which is `last` then.
+    let mut last = Support::none();
+    let mut left = gaps;
+    while !left.is_empty() {
+        let index = left.first_index();
+        left = left.with_bit(index, false);
+        let in_gap = gap_support::<W, MIRRORED>(len, index, longer, &last);
+        last = prefix_support::<W, MIRRORED>(in_gap, len, index, number, indices, ended, before);
+        row[usize::from(index)] = last.copied();
+    }
+}
+
+/// Writes, for each number of runs and each feasible gap after them, the support of the cells up to
+/// that gap, given that gap. If `MIRRORED`, the gaps are those of the mirrored line; the cells keep
+/// their own indices.
+pub fn write_prefix_supports<W: BitSet, const MIRRORED: bool>(
+    len: u16,
+    clue: &[u16],
+    gaps: &[W::Stored; MAX_GAPS],
+    ends: &[W::Stored; MAX_GAPS],
+    table: &mut [Support<W>],
+)
+    ghost line: { List Cell }
+    requires len { (len ≡ length line) × (len ≤ W.WIDTH) }
+    requires clue { AreLengths W.WIDTH clue.now }
+    requires count { length clue.now ≤ MAX_RUNS }
+    requires short { length line ≤ MAX_LOOKAHEAD_LEN }
+    requires gaps { AreFeasibleGaps line clue.now (map W.stored_bits gaps.now) }
+    requires ends { AreFeasibleEnds line clue.now (map W.stored_bits ends.now) }
+    requires size { ROW_STRIDE * (length clue.now + 1) ≤ length table.old }
+    ensures table { ArePrefixSupports MIRRORED line clue.now table.new }
+    ensures count { length table.new ≡ length table.old }
+{
+    write_first::<W, MIRRORED>(len, W::from_stored(gaps[0]), table);
+    for j in 0..clue.len() {
+        let next = W::from_stored(gaps[j + 1]);
+        let run_ends = W::from_stored(ends[j]);
+        write_row::<W, MIRRORED>(len, clue, j, next, run_ends, &mut table[ROW_STRIDE * j..]);
+    }
+}

@@ -1,8 +1,0 @@
--- `Wide::reversed`: both halves are mirrored and exchanged.
-use Rattle.std.proofs.Common.{rules}
-use Rattle.place_sets.proofs.Reversing.{words_reversed}
-use Rattle.place_sets.proofs.wide.WidePlaceSet.reversed.Goals as goal
-
-pub returns : goal.returns
-returns c =
-    words_reversed 128 c.args.self.low c.args.self.high _ _ (search rules) c.reversed.type_inv c.reversed-2.ensures c.reversed.ensures

@@ -1,9 +1,0 @@
--- `Wide::symmetric_difference`: the symmetric difference of two sets is that of each half.
-use Rattle.std.proofs.Common.{arith}
-use Rattle.place_sets.proofs.Halves.{wholes, halves}
-use Rattle.place_sets.proofs.wide.WidePlaceSet.symmetric_difference.Goals as goal
-
-pub returns : goal.returns
-returns c =
-    halves _ _ _ _ _ c.symmetric_difference.type_inv c.symmetric_difference.ensures (λ i l. grind (arith, wholes))
-    c.symmetric_difference-2.ensures (λ i. grind (arith, wholes))

@@ -1,6 +1,0 @@
--- `both`: an index is in the mask, and in the mask shifted down.
-use Rattle.place_sets.proofs.Uses.{meet_of, has_of}
-use Rattle.place_sets.proofs.windows.both.Goals as goal
-
-pub returns : goal.returns
-returns g c = meet_of _ _ _ _ _ (has_of _) c.shifted_down.ensures c.intersection.ensures

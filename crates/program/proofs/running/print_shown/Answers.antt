@@ -1,6 +1,0 @@
--- `print_shown`: if an allocation fails, nothing is printed.
-use Rattle.program.proofs.PrintingLemmas.{unprinted}
-use Rattle.program.proofs.running.print_shown.Goals as goal
-
-pub returns-in-Err-clause-answer : goal.returns-in-Err-clause-answer
-returns-in-Err-clause-answer g c = unprinted _ _

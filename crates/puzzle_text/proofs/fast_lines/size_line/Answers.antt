@@ -1,0 +1,8 @@
+-- `size_line`: two numbers with a separator between them, and a line ending.
+use Rattle.puzzle_text.proofs.Names.{rules}
+use Rattle.puzzle_text.proofs.FastLines.{sizes_end}
+use Rattle.puzzle_text.proofs.fast_lines.size_line.Goals as goal
+
+pub returns : goal.returns
+returns c =
+    sizes_end _ _ _ _ _ _ _ c.in_ok-first.ensures.number (search rules) c.in_ok-second.ensures.number c.in_ok-after_line_end.ensures.ends

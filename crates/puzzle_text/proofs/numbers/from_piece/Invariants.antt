@@ -1,9 +1,0 @@
--- The loop of `from_piece`: all bytes dropped so far are separators, so that the pieces are unchanged.
-use Rattle.puzzle_text.proofs.Names.{◌≡◌, ◌≤◌, length, pieces}
-use Rattle.puzzle_text.proofs.numbers.from_piece.Given as goal
-
-abbrev pub invariant-loop-text : goal.invariant-loop-text
-invariant-loop-text l = (pieces l.text ≡ pieces l.fn.text) × (length l.text ≤ length l.fn.text)
-
-abbrev pub decreases-loop-text : goal.decreases-loop-text
-decreases-loop-text l = length l.text

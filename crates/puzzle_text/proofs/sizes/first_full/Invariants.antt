@@ -1,9 +1,0 @@
--- The loop of `first_full`: all lines so far are blank.
-use Rattle.puzzle_text.proofs.Names.{◌≡◌, length, map, first_full, shown_line}
-use Rattle.puzzle_text.proofs.sizes.first_full.Given as goal
-
-abbrev pub invariant-loop-rest : goal.invariant-loop-rest
-invariant-loop-rest l = first_full (map shown_line l.rest) ≡ first_full (map shown_line l.lines)
-
-abbrev pub decreases-loop-rest : goal.decreases-loop-rest
-decreases-loop-rest l = length l.rest

@@ -1,7 +1,0 @@
--- `size_line`: two numbers with a separator between them, and a line ending.
-use Rattle.puzzle_text.proofs.Names.{rules}
-use Rattle.puzzle_text.proofs.UsualLines.{sizes_end}
-use Rattle.puzzle_text.proofs.usual_lines.size_line.Goals as goal
-
-pub returns : goal.returns
-returns c = sizes_end _ _ _ _ _ _ _ c.in_ok-first.ensures.number (search rules) c.in_ok-second.ensures.number c.in_ok-below.ensures.ends

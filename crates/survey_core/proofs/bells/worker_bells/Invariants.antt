@@ -1,6 +1,0 @@
--- The invariant of the loop of `worker_bells`: the list has as many parkers as turns were taken.
-use Rattle.std.proofs.Common.{◌≡◌, vec_len}
-use Rattle.survey_core.proofs.bells.worker_bells.Given as goal
-
-abbrev pub invariant-loop : goal.invariant-loop
-invariant-loop l = vec_len l.bells ≡ l.counter
