@@ -20,6 +20,9 @@
 extern "C" {
 #endif
 
+/* The version of this header. nonograde_version returns that of the library. */
+#define NONOGRADE_VERSION "0.1.0"
+
 /* How a call ended. */
 enum nonograde_status {
     NONOGRADE_OK = 0,

@@ -17,7 +17,7 @@ import sys
 
 from comparing import run_test
 
-VERSION = b"2026.11.29"
+VERSION = b"0.1.0"
 MAX_TEXT = 1_048_576
 
 # Puzzles
@@ -230,7 +230,17 @@ STOPPED = [
 
 # Words
 
-UNREAD = b"error: a word of the command line is no text\n"
+# Each row has a command line with a word that isn't text in UTF-8, and that word as the line names it.
+UNREAD = [
+    (b"\xff", b"?"),
+    (b"lines \xff.non", b"?.non"),
+    (b"lines one.mk \x80", b"?"),
+    (b"--help \xc3", b"?"),
+    (b"solve \xffcaf\xc3\xa9\xc3.mk nowhere.mk \x80", b"?caf\xc3\xa9?.mk"),
+    (b"survey \xe2\x82 --lanes=\xed\xa0\x80", b"??"),
+    (b"survey --lanes=\xed\xa0\x80", b"--lanes=???"),
+    (b"lines " + 130_000 * b"a" + b"\xfe", 130_000 * b"a" + b"?"),
+]
 FILE_MISSING = "the following required arguments were not provided:\n  <FILE>"
 LINES_USAGE, SOLVE_USAGE = "nonograde lines <FILE>", "nonograde solve [OPTIONS] <FILE>"
 SURVEY_USAGE, CONVERT_USAGE = "nonograde survey [OPTIONS] [FILE]...", "nonograde convert --to <FORMAT> <FILE>"
@@ -304,11 +314,11 @@ Arguments:
 Options:
   -h, --help  Print help
 
-It prints one, open or none, the number of known cells, and the grid.
+Prints one, open or none, the number of known cells, and the grid.
 
 Example: nonograde lines puzzles/heart.non
 
-Exit status: 0 if the grid is printed, 1 at a fault, 2 if the words are refused.
+Exit status: 0 if the grid was printed, 1 at a fault, 2 if the command line is refused.
 """
 
 # Each row has a command line, and the help that is printed. The exit status is 0, and standard error stays empty.
@@ -330,21 +340,21 @@ HELP_LINES = [
         b"Grade the puzzles of a collection",
         b"Usage: nonograde survey [OPTIONS] [FILE]...",
         b"Example: nonograde survey --lanes 8 --show puzzles/heart.non puzzles/cat.mk",
-        b"Exit status: 0 if the survey is printed, 1 at a fault, 2 if the words are refused.",
+        b"Exit status: 0 if the survey was printed, 1 at a fault, 2 if the command line is refused.",
     ),
     (
         b"solve --help",
         b"Solve a puzzle",
         b"Usage: nonograde solve [OPTIONS] <FILE>",
         b"Example: nonograde solve puzzles/heart.non",
-        b"Exit status: 0 if the line is printed, 1 at a fault, 2 if the words are refused.",
+        b"Exit status: 0 if the line was printed, 1 at a fault, 2 if the command line is refused.",
     ),
     (
         b"convert --help",
         b"Write a puzzle in another format",
         b"Usage: nonograde convert --to <FORMAT> <FILE>",
         b"Example: nonograde convert --to mk puzzles/heart.non",
-        b"Exit status: 0 if the text is printed, 1 at a fault, 2 if the words are refused.",
+        b"Exit status: 0 if the text was printed, 1 at a fault, 2 if the command line is refused.",
     ),
 ]
 
@@ -421,8 +431,8 @@ class Runs:
             self.compare(line.encode(), b"", 2, b"", reported.encode())
         for line in (b"", b"--"):
             self.compare(line, b"", 2, b"", HELP)
-        for line in (b"\xff", b"lines \xff.non", b"lines one.mk \x80", b"--help \xc3"):
-            self.compare(line, b"", 2, b"", UNREAD)
+        for line, word in UNREAD:
+            self.compare(line, b"", 2, b"", b"error: '" + word + b"' isn't text in UTF-8\n")
         for line, text in WHOLE_HELP:
             self.compare(line, b"", 0, text, b"")
         for line, *wanted in HELP_LINES:

@@ -103,7 +103,7 @@ static void check_other_calls(void) {
                               sizeof room);
     check(is(reply, NONOGRADE_AMBIGUOUS, room, "Ambiguous"), "Ambiguous");
     reply = nonograde_version(room, sizeof room);
-    check(reply.status == NONOGRADE_OK && reply.length == 10, "version");
+    check(is(reply, NONOGRADE_OK, room, NONOGRADE_VERSION), "version");
 }
 
 static void check_rooms(void) {

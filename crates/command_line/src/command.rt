@@ -27,11 +27,10 @@ macro_rules! grading_help {
         concat!(
             $prints,
             "
-Each line is N WxH VERDICT GRADE LINE TRIALS GUESSES GOAL NAME, or N refused WORD NAME.
-VERDICT: none, one or several solutions; or unsettled, if the guesses allowed are too few.
-GRADE: what it takes, line (logic), trials (of a colour, until it contradicts) or search (guesses).
-LINE, TRIALS: cells known after each. GOAL: absent, or it meets or misses the clues.
-If unsettled, try --guesses 1000000 (mostly still in a fraction of a second), or the other --pick.
+VERDICT: none, one or several solutions, or unsettled if the guess limit was reached.
+GRADE: what solving takes: line (logic), trials (assume a colour until it contradicts), search.
+LINE, TRIALS: cells known after each. GOAL: absent, or whether it meets or misses the clues.
+If unsettled, try --guesses 1000000 (mostly still a fraction of a second), or the other --pick.
 
 ",
             $further
@@ -41,36 +40,38 @@ If unsettled, try --guesses 1000000 (mostly still in a fraction of a second), or
 
 /// The end of the help of `survey`.
 const SURVEY_HELP: &str = grading_help!(
-    "It prints a line for each puzzle, and a line of totals.",
-    "A collection is one text, each puzzle below a line \"@ NAME\". As FILE it is refused; give it on standard input:
+    "Prints a line for each puzzle, and a line of totals.
+Each line is N WxH VERDICT GRADE LINE TRIALS GUESSES GOAL NAME, or N refused WORD NAME.",
+    "A collection is one text, each puzzle below a line \"@ NAME\". As FILE it is refused: give it on standard input:
 nonograde survey < puzzles/collection.txt
 
 Example: nonograde survey --lanes 8 --show puzzles/heart.non puzzles/cat.mk
 
-Exit status: 0 if the survey is printed, 1 at a fault, 2 if the words are refused."
+Exit status: 0 if the survey was printed, 1 at a fault, 2 if the command line is refused."
 );
 
 /// The end of the help of `solve`.
 const SOLVE_HELP: &str = grading_help!(
-    "It prints the puzzle's line, and its solutions: none, one or two of them.",
+    "Prints a line for the puzzle, then its solutions: none, one or two of them.
+The line is 1 WxH VERDICT GRADE LINE TRIALS GUESSES GOAL NAME.",
     "Example: nonograde solve puzzles/heart.non
 
-Exit status: 0 if the line is printed, 1 at a fault, 2 if the words are refused."
+Exit status: 0 if the line was printed, 1 at a fault, 2 if the command line is refused."
 );
 
 /// The end of the help of `convert`.
-const CONVERT_HELP: &str = "It prints the puzzle's text in the format.
+const CONVERT_HELP: &str = "Prints the puzzle's text in the format.
 
 Example: nonograde convert --to mk puzzles/heart.non
 
-Exit status: 0 if the text is printed, 1 at a fault, 2 if the words are refused.";
+Exit status: 0 if the text was printed, 1 at a fault, 2 if the command line is refused.";
 
 /// The end of the help of `lines`.
-const LINES_HELP: &str = "It prints one, open or none, the number of known cells, and the grid.
+const LINES_HELP: &str = "Prints one, open or none, the number of known cells, and the grid.
 
 Example: nonograde lines puzzles/heart.non
 
-Exit status: 0 if the grid is printed, 1 at a fault, 2 if the words are refused.";
+Exit status: 0 if the grid was printed, 1 at a fault, 2 if the command line is refused.";
 
 /// A survey of some files, or of the collection on standard input if there are none.
 #[derive(Debug, Drop)]

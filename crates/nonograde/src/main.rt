@@ -18,7 +18,7 @@ fn main(rt: HostRuntime) -> ExitCode {
             &mut errors,
             rt.stderr(),
         ),
-        Err(error) => refuse_words(&mut errors, &error),
+        Err(fault) => refuse_words(&mut errors, &fault),
     };
     ExitCode::from(status)
 }

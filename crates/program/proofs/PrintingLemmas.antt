@@ -1,5 +1,5 @@
 -- What a command appends to the output, from what its parts return and print.
-use Rattle.std.proofs.Common.{◌≡◌, ◌≤◌, ℕ, List, Option, Some, None, Result, Ok, Err, [], codes, length, take, refl, sym, ap, ◌∙◌}
+use Rattle.std.proofs.Common.{◌≡◌, ◌≤◌, ◌++◌, ℕ, List, Option, Some, None, Result, Ok, Err, [], codes, length, take, refl, sym, ap, ◌∙◌}
 use Rattle.std.specs.Prelude.{IfErr, IfSome, IsErrAnd, OnErr, OnOk}
 use Rattle.std.specs.Io.KnownBytes.{Appends}
 use Rattle.std.proofs.KnownBytes.{Appends-trans, Keeps-refl}
@@ -34,13 +34,12 @@ pub unprinted : (shown known : Option (List ℕ)) →
 unprinted None known = ([], tt, Keeps-refl known)
 unprinted (Some text) known = (text, refl, Keeps-refl known)
 
--- if the three pieces of a stop's line were sent one after another, the line was sent
-pub stop_printed : (stop : Stop) (word : List ℕ) (r : Result (Unit {0}) Stop) (first second third last : Option (List ℕ))
-    → Appends first second (codes "nonograde: ") → Appends second third word → word ≡ stop_word stop
-    → OnOk r (Appends third last (codes "\n")) → OnOk r (Appends first last (stop_line stop))
-stop_printed stop word (Ok _) first second third last begun given is ended =
-    Appends-trans first second last _ _ begun (Appends-trans second third last _ _ (rw is at given) ended)
-stop_printed stop word (Err _) first second third last begun given is ended = tt
+-- if three pieces were sent one after another, the whole was sent
+pub pieces_printed : (a b c : List ℕ) (r : Result (Unit {0}) Stop) (first second third last : Option (List ℕ))
+    → Appends first second a → Appends second third b → OnOk r (Appends third last c) → OnOk r (Appends first last (a ++ b ++ c))
+pieces_printed a b c (Ok _) first second third last begun given ended =
+    Appends-trans first third last _ _ (Appends-trans first second third _ _ begun given) ended
+pieces_printed a b c (Err _) first second third last begun given ended = tt
 
 -- if a text answers a file's bytes, and all of it or a prefix was sent, `PrintsFile` holds
 printed_of : (answer : List ℕ → Result (List ℕ) Stop) (body text : List ℕ) (r : Result (Unit {0}) Stop) (old new : Option (List ℕ))

@@ -1,5 +1,5 @@
 -- How the program ends: its exit status, and what it prints for a fault.
-use Rattle.std.specs.Prelude.{◌≡◌, ℕ, ◌⊎◌, ◌<◌, ◌↔◌, List, codes, Result, Ok, Err, ◌==◌, if◌then◌else◌}
+use Rattle.std.specs.Prelude.{◌≡◌, ℕ, ◌⊎◌, ◌<◌, ◌↔◌, List, Result, Ok, Err}
 use Rattle.std.specs.Io.KnownBytes.{Appends, Keeps}
 use Rattle.clap.specs.Words.{kind_of}
 use Rattle.clap.specs.declared.error.kind.ErrorKind.{ErrorKind}
@@ -61,9 +61,3 @@ EndsBy (Err command_memory) input status output errors =
     IsUntouched input × EndsUnread status output errors
 EndsBy (Err (Words error)) input status output errors =
     IsUntouched input × EndsByWords (kind_of error) status output errors
-
--- the line that is printed if the program's words can't be read, by the exit status
-abbrev pub refused_line : ℕ → List ℕ
-refused_line status =
-    if status == 1 then stop_line NoMemory
-    else codes "error: a word of the command line is no text\n"

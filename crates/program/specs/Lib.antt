@@ -1,4 +1,5 @@
 -- The definitions that public contracts rest on.
 pub mod Stop
+pub mod Words
 pub mod Printing
 pub mod Ending

@@ -5,7 +5,9 @@ mod files;
 mod performing;
 mod running;
 mod stop;
+mod words;
 
 pub use files::read_prefix;
-pub use running::{refuse_words, report_stop, run, words_of};
+pub use running::{report_stop, run};
 pub use stop::Stop;
+pub use words::{WordsFault, refuse_words, words_of};

@@ -1,7 +1,6 @@
 //! Running the program on its words and standard streams, up to its exit status.
 
-ghost use Rattle.std.specs.Prelude.{◌≡◌, ◌≢◌, ◌-◌, ◌^◌, ◌<◌, ◌≤◌, ◌↔◌, ℕ, List, IfOk, IfSome, OnErr, OnOk, Ok, Result, map, string_bytes};
-ghost use Rattle.std.specs.IoError.{error_kind};
+ghost use Rattle.std.specs.Prelude.{◌≡◌, ◌-◌, ◌^◌, ◌<◌, ◌≤◌, ◌↔◌, ℕ, List, IfOk, IfSome, OnErr, OnOk, Ok, Result, map, string_bytes};
 ghost use Rattle.std.specs.Io.KnownBytes.{Appends};
 ghost use Rattle.clap.specs.Words.{kind_of};
 ghost use Rattle.puzzle_text.specs.Words.{word_text};
@@ -10,7 +9,7 @@ ghost use Rattle.command_line.specs.Ranges.{HasSettingsInRange};
 ghost use Rattle.program.specs.Printing.{IsUnwritten, Prints, stream};
 ghost use Rattle.program.specs.Stop.{stop_line};
 ghost use Rattle.command_line.specs.Words.{WordsAsk};
-ghost use Rattle.program.specs.Ending.{EndsAfter, EndsBy, EndsByWords, Stops, refused_line};
+ghost use Rattle.program.specs.Ending.{EndsAfter, EndsBy, EndsByWords, Stops};
 
 use crate::performing::{perform, print_text};
 use crate::stop::{Stop, stop_word};
@@ -20,20 +19,11 @@ use itoa::Buffer;
 use puzzle_text::FaultWord;
 use std::alloc::Global;
 use std::fmt::Display;
-use std::io::{ErrorKind, Read, Write};
-use std::rt::{Env, Files};
+use std::io::{Read, Write};
+use std::rt::Files;
 use std::sync::Wait;
 use std::thread::Threads;
-use std::{env, io};
 use survey_core::Counted;
-
-/// The line that refuses words that aren't UTF-8.
-const NO_TEXT: &[u8] = b"error: a word of the command line is no text\n";
-
-/// Returns the words after the program's name.
-pub fn words_of<R: Env + AllocGlobal>(rt: &R) -> io::Result<Vec<String>> {
-    Ok(env::args(rt)?.skip(1).collect(rt.alloc())?)
-}
 
 /// Prints a fault word, followed by a colon and its line number if it has one.
 fn print_word<E: Write>(errors: &mut Counted<E>, word: FaultWord) -> Result<(), Stop>
@@ -72,23 +62,6 @@ pub fn report_stop<E: Write>(errors: &mut Counted<E>, stop: &Stop) -> u8
 {
     let _ = print_stop(errors, stop);
     1
-}
-
-/// Prints that the program's words can't be read, and returns its exit status: 1 if an allocation
-/// failed, and 2 otherwise.
-pub fn refuse_words<E: Write>(errors: &mut Counted<E>, error: &io::Error) -> u8
-    requires { fault_count errors.old < 2 ^ 32 - 1 }
-    ensures memory { error_kind error.now ≡ ErrorKind.OutOfMemory → result ≡ 1 }
-    ensures other { error_kind error.now ≢ ErrorKind.OutOfMemory → result ≡ 2 }
-    ensures printed { fault_count errors.new ≡ fault_count errors.old
-        → Appends (E.contents errors.old.inner) (E.contents errors.new.inner)
-        (refused_line result) }
-{
-    if error.kind() == ErrorKind::OutOfMemory {
-        return report_stop(errors, &Stop::NoMemory);
-    }
-    let _ = print_text(errors, NO_TEXT);
-    2
 }
 
 /// Prints what `Display` formats of `shown`, and flushes.

@@ -5,8 +5,8 @@
 mod converting;
 mod reports;
 
-/// The version of `nonograde`: the day of the newest change that users see.
-pub const VERSION: &str = "2026.11.29";
+/// The version of `nonograde`, as MAJOR.MINOR.PATCH.
+pub const VERSION: &str = "0.1.0";
 
 pub use converting::{ConvertFault, convert};
 pub use reports::{lines_report, solve_report};

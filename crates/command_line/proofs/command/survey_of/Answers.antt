@@ -5,11 +5,14 @@ use Rattle.command_line.proofs.WordLemmas.{flag_of_entry}
 use Rattle.command_line.proofs.command.survey_of.Goals as goal
 
 pub returns-clause-asked : goal.returns-clause-asked
-returns-clause-asked c = (refl, record {
-  settings = c.in-Some.ensures;
-  progress = (
-    flag_of_entry (found_of c.args.matches.now) (codes "progress") (codes "true") _ true c.get_flag.ensures.value,
-    flag_of_entry (found_of c.args.matches.now) (codes "progress") (codes "false") _ false c.get_flag.ensures.other,
-  );
-  files = c.in_ok-files_of.ensures;
-})
+returns-clause-asked c = (
+  refl,
+  record {
+    settings = c.in-Some.ensures;
+    progress = (
+      flag_of_entry (found_of c.args.matches.now) (codes "progress") (codes "true") _ true c.get_flag.ensures.value,
+      flag_of_entry (found_of c.args.matches.now) (codes "progress") (codes "false") _ false c.get_flag.ensures.other,
+    );
+    files = c.in_ok-files_of.ensures;
+  },
+)
