@@ -1,7 +1,12 @@
 # Completions of nonograde for bash.
 _nonograde() {
-    local words=''
-    case $COMP_CWORD:$3 in
+    local words='' before=$3 typed=$2 option=''
+    if [[ $before == = ]]; then
+        before=${COMP_WORDS[COMP_CWORD - 2]}
+    elif [[ $typed == --*=* ]]; then # COMP_WORDBREAKS has no `=`
+        before=${typed%%=*} option=${typed%%=*}= typed=${typed#*=}
+    fi
+    case $COMP_CWORD:$before in
         1:*) words='survey solve convert lines help --help --version' ;;
         *:help) words='survey solve convert lines help' ;;
         *:--pick) words='first most' ;;
@@ -22,6 +27,6 @@ _nonograde() {
             fi
             ;;
     esac
-    mapfile -t COMPREPLY < <(compgen -W "$words" -- "$2")
+    mapfile -t COMPREPLY < <(compgen -P "$option" -W "$words" -- "$typed")
 }
 complete -F _nonograde nonograde

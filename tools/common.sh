@@ -4,6 +4,7 @@
 set -u
 export LC_ALL=C
 tools=$(cd "$(dirname "${BASH_SOURCE[0]}")" && pwd)
+bin=${tools%/*}/bin
 program=${NONOGRADE:-$tools/../crates/nonograde/out/nonograde}
 [[ $program != */* ]] || program=$(realpath -ms "$program")
 passed=0 failed=0
@@ -31,17 +32,6 @@ open_room() {
     trap 'rm -rf "$room"' EXIT
 }
 
-# Makes a folder that stays, unless there is one with something in it.
-make_folder() {
-    mkdir -p -- "$1" 2>/dev/null || stop Write
-    [ -z "$(ls -A -- "$1")" ] || refuse "$1 isn't empty"
-}
-
-# Passes standard input on: an awk doesn't always tell that it can't write.
-pass_on() {
-    cat 2>/dev/null
-}
-
 # Prints how many checks run side by side: one a processor, as far as each has 4 GB of the free memory. Most hold 1 to 3 GB,
 # the largest 3.9. By itself `rt` reserves up to 8 GB for a check of the larger crates, and leaves processors idle.
 lanes() {
@@ -62,21 +52,35 @@ count() {
     fi
 }
 
-# Runs a script, and counts whether it ends with a status and prints the bytes of `expected`: a name for this,
-# the status, the script and its words.
+# Runs a script of bin/, and counts whether it ends with a status and prints the bytes of `expected`: a name for
+# this, the status, the script (`pack` is nonograde-pack) and its words.
 check() {
     local name=$1 status=$2 wrong='' ended
-    "$tools/$3" "${@:4}" >printed 2>said
+    "$bin/nonograde-$3" "${@:4}" >printed 2>said
     ended=$?
     [ $ended = "$status" ] || wrong="status $ended and not $status, $(tail -n 3 said)"
     cmp -s printed expected || wrong+=" it printed something else: $(diff -a expected printed | head -n 3)"
     count "$name" "$wrong"
 }
 
+# Counts whether a script of bin/ ends quietly if only its first line is read, also if the signal of that is
+# ignored: a name for this, the first line, the script and its words.
+check_quiet() {
+    local name=$1 line=$2 signal
+    for signal in URG PIPE; do
+        (
+            trap '' $signal
+            "$bin/nonograde-$3" "${@:4}" 2>said
+            echo $? >ended
+        ) | head -n 1 >printed
+        count "$name, $signal ignored" "$(grep -vx 141 ended; cat said; grep -vxF -- "$line" printed)"
+    done
+}
+
 # Counts whether the script just run says these lines, and no others, in its own name or as a fault.
 check_said() {
     local said
-    said=$(grep -aE '^([a-z]+[.]sh|nonograde): ' said)
+    said=$(grep -aE '^nonograde(-[a-z]+)?: ' said)
     count "what is said of $1" "$([ "$said" = "$2" ] || echo "it said $said")"
 }
 

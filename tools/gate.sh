@@ -33,7 +33,7 @@ lacking() {
     compiles || echo gcc libc6-dev
     parallel --version | grep -q '^GNU parallel' || echo parallel
     hash sshd ssh rsync gawk shellcheck || echo openssh-server openssh-client rsync gawk shellcheck
-    hash make mandoc man zsh || echo make mandoc man-db zsh
+    hash make mandoc man zsh fish lintian || echo make mandoc man-db zsh fish lintian
     hash python3 || echo python3
 } 2>/dev/null
 
@@ -53,7 +53,7 @@ install_packages() {
 # Checks what needs no program: that ShellCheck finds nothing in any script, that no public contract rests on a
 # definition that only private calls need, and that the page on proofs says how many there are for the headline.
 check_texts() {
-    local scripts=(.ci/run tools/*.sh) said
+    local scripts=(.ci/run bin/* tools/*.sh) said
     install_packages || return
     shellcheck "${scripts[@]}" || return
     said=$(tools/promises.py) || { tail -n 5 <<<"$said"; return 1; }
@@ -143,7 +143,7 @@ take check_texts
 begin make_library
 step tools/outside.sh
 take make_library
-others=(tools/sweep.sh tools/shards_test.sh tools/machines_test.sh tools/pack_test.sh tools/pages_test.sh)
+others=(tools/sweep.sh tools/shards_test.sh tools/machines_test.sh tools/pack_test.sh tools/pages_test.sh tools/install_test.sh)
 for script in "${others[@]}"; do
     begin "$script"
 done

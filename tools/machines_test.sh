@@ -1,5 +1,5 @@
 #!/usr/bin/env bash
-# Tests tools/shards.sh over three machines: on this one, an `sshd` each on 127.0.0.1 to 127.0.0.3 with its own
+# Tests nonograde-shards over three machines: on this one, an `sshd` each on 127.0.0.1 to 127.0.0.3 with its own
 # processes and its own folder for shards, so that only root can. It needs GNU parallel, rsync and OpenSSH's
 # server. It runs the program that `rt ci` left in crates/nonograde/out, or the one that NONOGRADE names. Its
 # last line is `N passed, M failed`.
@@ -82,7 +82,7 @@ in_the_midst() {
 
 # Surveys over some machines, and checks it: a name for this, the status and the machines, and further words.
 check_over() {
-    check "$1" "$2" shards.sh --room shards --entries 150 --show collection \
+    check "$1" "$2" shards --dir shards --entries 150 --show collection \
         --sshlogin "$(sed 's/[123]/1\/127.0.0.&/g' <<<"$3")" "${@:4}"
 }
 
@@ -107,7 +107,7 @@ rm -r shards/*
 mv expected whole
 "$program" survey </dev/null >expected
 check_over 'a dead machine' 3 3 --joblog log
-check_said 'a dead machine' "shards.sh: shards 1 to 12: entries 1 to 1700 are missing: ssh: connect to host 127.0.0.3 port $port: Connection refused"
+check_said 'a dead machine' "nonograde-shards: shards 1 to 12: entries 1 to 1700 are missing: ssh: connect to host 127.0.0.3 port $port: Connection refused"
 mv whole expected
 check_over 'a resumed run' 0 1,2 --joblog log --resume-failed
 

@@ -1,21 +1,20 @@
 #!/usr/bin/env bash
 # Tests that the pages say what is so, with the program that `rt ci` left in crates/nonograde/out, or the one
-# that NONOGRADE names: it installs it, types the commands of README.md and of the installed man page, follows
-# the links of all pages, asks it for the examples of docs/formats.md and for each word of a fault, compares man
-# page and completions with its help, and runs it from its package. It needs mandoc, man-db, zsh and make. Its
-# last line is `N passed, M failed`.
+# that NONOGRADE names: it installs it, types the commands of README.md and of the installed man pages, follows
+# the links of all pages, asks it for the examples of docs/formats.md and for each word of a fault, and compares
+# man pages and completions with its help, and their numbers with what it does. It needs mandoc, man-db, fish,
+# zsh and make. Its last line is `N passed, M failed`.
 . "$(dirname "$0")/common.sh"
 program=$(realpath "$program")
 [ -x "$program" ] || refuse "there is no $program"
 unset NONOGRADE MANPATH MAKEFLAGS MAKELEVEL MFLAGS
 open_room
 mkdir -p "$room/home" "$room/clone/crates/nonograde/out"
-cd "$tools/.." && cp -r Makefile ./*.md docs man completions puzzles tests tools "$room/clone" || exit
+cd "$tools/.." && cp -r Makefile ./*.md bin docs man completions puzzles tests tools "$room/clone" || exit
 cp "$program" "$room/clone/crates/nonograde/out/nonograde"
 words=$(find crates -path '*/src/*.rt' ! -path '*/nonograde_c/*' -exec grep -hoE 'FaultWord::(alone|at_line)\("[A-Za-z]+"' {} + |
     cut -d '"' -f 2 | sort -u)
-kit=$(realpath "$(command -v rt)" 2>/dev/null)
-kit=${kit%/bin/rt} here=$PWD tick=$'\x60'
+tick=$'\x60'
 cd "$room/clone" || exit
 export HOME=$room/home PATH=$room/home/.local/bin:$PATH
 
@@ -24,9 +23,9 @@ same() {
     count "$1" "$([ "$2" = "$3" ] || diff <(echo "$2") <(echo "$3"))"
 }
 
-# The man page that is installed in a root.
+# The man page that is installed, of section 1 or the one that is named.
 manual() {
-    MANWIDTH=100 MANPAGER=cat man -M "${1:-$HOME/.local}/share/man" nonograde 2>&1 | col -bx
+    MANWIDTH=100 MANPAGER=cat man -M "$HOME/.local/share/man" "${1:-1}" nonograde 2>&1 | col -bx
 }
 
 # Types the commands of a page, and compares what each prints with the lines below it. They are indented lines
@@ -184,7 +183,7 @@ commands() {
 # What bash completes: a command line that ends in the word to be completed.
 bash_completes() {
     # shellcheck disable=SC2016
-    bash --norc -c '. "$0" && COMP_WORDS=("$@") COMP_CWORD=$(($# - 1)) && _nonograde "$1" "${*: -1}" "${*: -2:1}" &&
+    bash --norc -c '. "$0" && COMP_WORDS=("$@") COMP_CWORD=$(($# - 1)) typed=${*: -1} && _nonograde "$1" "${typed#=}" "${*: -2:1}" &&
         printf "%s\n" "${COMPREPLY[@]}"' "$HOME/.local/share/bash-completion/completions/nonograde" nonograde "$@" | sort
 }
 
@@ -209,10 +208,10 @@ compare_option() {
     for value in $option $values "$usual" "$range"; do
         count "$command $option in the man page" "$(grep -qw -- "$value" <<<"$entry" || echo "no $value in $entry")"
     done
-    told=$(zsh_is_told "$command" '' | grep -F -- "${option}[")
+    told=$(zsh_is_told "$command" '' | grep -E -- "${option}=?\[")
     same "$command $option in zsh" "${said%% \[*}]$values" "$(sed 's/^[^[]*\[//; s/].*:(\(.*\))$/]\1/; s/].*:$/]/' <<<"$told")"
-    [ -z "$values" ] ||
-        same "$command $option in bash" "$(tr ' ' '\n' <<<"$values" | sort)" "$(bash_completes "$command" "$option" '')"
+    same "$command $option in fish" "$option ${said%% \[*}" "$(fish_completes "$command -" | grep -F -- "$option ")"
+    [ -z "$values" ] || compare_values "$command" "$option" "$(tr ' ' '\n' <<<"$values" | sort)"
     [ -n "$range" ] || return
     least=${range% to *} most=${range#* to }
     for value in "$least" "$most" $((least - 1)) $((most + 1)); do
@@ -224,11 +223,27 @@ compare_option() {
         "$(nonograde "$command" --help | grep -q "^If unsettled, try --guesses $most .* --pick" || echo 'it says nothing')"
 }
 
-# Compares man page and completions with the program's help.
+# Compares what is completed of an option's values, in a word of their own and behind `=`, with those of the
+# help: the command, the option, the values.
+compare_values() {
+    local command=$1 option=$2 values=$3 first=${3:0:1}
+    same "$command $option in bash" "$values" "$(bash_completes "$command" "$option" '')"
+    same "$command $option= in bash" "$values" "$(bash_completes "$command" "$option" =)"
+    same "$command $option=$first in bash" "$(grep "^$first" <<<"$values")" "$(bash_completes "$command" "$option" = "$first")"
+    same "$command $option=$first in bash without = in COMP_WORDBREAKS" "$(grep "^$first" <<<"$values" | sed "s/^/$option=/")" \
+        "$(bash_completes "$command" "$option=$first")"
+    same "$command $option in fish, its values" "$values" "$(fish_completes "$command $option " | cut -d ' ' -f 1 | sort)"
+    same "$command $option= in fish" "$option=${values//$'\n'/$'\n'$option=}" \
+        "$(fish_completes "$command $option=" | cut -d ' ' -f 1 | sort)"
+}
+
+# Compares the man page and completions with the program's help.
 compare_with_help() {
     local command about options option said
     same 'commands in bash' "$( (commands && options_of) | cut -d ' ' -f 1 | sort)" "$(bash_completes '')"
     same 'commands in zsh' "$(commands | sed 's/ /:/')" "$(zsh_is_told '')"
+    same 'commands in fish' "$(commands | sort)" "$(fish_completes '' | sort)"
+    same 'options without command in fish' "$(options_of | sort)" "$(fish_completes - | grep -- -- | sort)"
     same 'options without command in zsh' "$(options_of | sed 's/ \(.*\)/[\1]/')" "$(zsh_is_told - | grep -o -- '--.*')"
     while read -r command about; do
         [ "$command" != help ] || continue
@@ -240,27 +255,34 @@ compare_with_help() {
         same "the example in $command's help" '0 more' "$? $([ -s printed ] && echo more)"
         same "options of $command in bash" "$options" "$(bash_completes "$command" -)"
         same "options of $command in zsh" "$options" "$(zsh_is_told "$command" '' | grep -oE -- '--[a-z]+' | sort)"
+        same "options of $command in fish" "$options" "$(fish_completes "$command -" | grep -oE -- '^--[a-z]+' | sort)"
         while read -r option said; do
             compare_option "$command" "$option" "$said"
         done < <(options_of "$command")
     done < <(commands)
     options=$({ options_of && commands | grep -v '^help ' | while read -r command _; do options_of "$command"; done; } | cut -d ' ' -f 1)
     same 'options that are named and not there' '' \
-        "$({ manual && cat README.md; } | grep -oE -- '--[a-z]+' | grep -vxF -- "$options")"
+        "$({ manual && manual 5 && cat README.md; } | grep -oE -- '--[a-z]+' | grep -vxF -- "$options")"
 }
 
-# What is typed at a terminal with zsh, up to its end: a line with tabs.
+# What fish completes, a line each: the word and its description. Its words are the line after `nonograde`.
+fish_completes() {
+    env XDG_DATA_HOME="$HOME/.local/share" HOME="$room/fish" fish -c "complete -C'nonograde $1'" 2>&1 | tr '\t' ' '
+}
+
+# What is typed at a terminal with zsh, up to its end: a line with tabs. The folder is in the search path as
+# README.md says.
 typed_in_zsh() {
     mkdir -p zsh
-    cat >zsh/.zshrc <<'END'
-fpath=(~/.local/share/zsh/site-functions $fpath)
+    grep -oP "$tick\Kfpath[^$tick]*" README.md >zsh/.zshrc
+    cat >>zsh/.zshrc <<'END'
 autoload -Uz compinit
 compinit -D -u
 PS1='ready> '
 nonograde() { print -r typed $* end }
 END
     # shellcheck disable=SC2016
-    timeout 30 zsh -fc '
+    timeout 10 zsh -fc '
         zmodload zsh/zpty
         zpty shell env TERM=dumb ZDOTDIR=zsh zsh -i
         zpty -r shell text "*ready> *"
@@ -280,31 +302,212 @@ follow_links() {
     done
 }
 
-# Runs the program from its package, unpacked into an empty folder.
-try_package() {
-    local packed folder
-    packed=$(echo out/*.tar.gz)
-    folder=$(basename "$packed" .tar.gz)
-    mkdir package
-    tar -xzf "$packed" -C package
-    dpkg-deb -x out/*.deb package/debian
-    same 'the two packages' '' "$(diff -r "package/$folder" package/debian/usr)"
-    same 'the version of the package' "$(nonograde --version)" "nonograde $(dpkg-deb -f out/*.deb Version)"
-    same 'what the program needs' libc.so.6 "$(ldd "package/$folder/bin/nonograde" | awk '$2 == "=>" { print $1 }')"
-    same 'paths of this machine in the package' '' \
-        "$(grep -rlF -e "$here" -e "$room" -e "${kit:-$here}" package)"
-    same 'the program of the package' "$(nonograde survey <puzzles/collection.txt)" \
-        "$(cd "package/$folder/share/doc/nonograde" && ../../../bin/nonograde survey <puzzles/collection.txt)"
-    same 'the shards of the package' "$(nonograde survey <puzzles/collection.txt)" \
-        "$(cd "package/$folder/share/doc/nonograde" && NONOGRADE=nonograde tools/shards.sh puzzles/collection.txt 2>"$room/said")"
-    same 'the man page of the package' "$(manual)" "$(manual "package/$folder")"
+# Compares which files are completed: all three endings, also in upper case, folders, and another FILE.
+complete_files() {
+    local files
+    mkdir -p files/folder
+    touch files/{a.non,b.mk,c.nin,D.NON,e.txt}
+    files=$(printf 'files/%s\n' D.NON a.non b.mk c.nin folder)
+    for words in survey solve convert lines; do
+        same "$words FILE in bash" "$files" "$(bash_completes "$words" files/)"
+        same "$words FILE in fish" "$files" "$(fish_completes "$words files/" | sed 's/ .*//; s/\/$//' | sort)"
+        same "$words FILE in zsh" "$words files/D.NON" "$(typed_in_zsh $'nonograde '"$words"$' files/D\t')"
+    done
+    same 'another FILE in bash' "$files" "$(bash_completes survey files/a.non files/)"
+    same 'another FILE in fish' "$files" "$(fish_completes 'survey files/a.non files/' | sed 's/ .*//; s/\/$//' | sort)"
+    same 'another FILE in zsh' 'survey files/a.non files/b.mk' "$(typed_in_zsh $'nonograde survey files/a.non files/b\t')"
+    same 'a folder in zsh' 'lines puzzles/knot.mk' "$(typed_in_zsh $'nonograde lines puz\tkn\t')"
+    same 'a line in zsh' 'survey --pick=most puzzles/heart.non' \
+        "$(typed_in_zsh $'nonograde surv\t--pi\tmo\tpuzzles/he\t')"
+    same 'a value behind = in zsh' 'convert --to=nin puzzles/heart.non' \
+        "$(typed_in_zsh $'nonograde convert --to=ni\tpuzzles/he\t')"
+    rm -r files
+}
+
+# A page as one line.
+flat() {
+    case $1 in
+        1 | 5) manual "$1" ;;
+        *) cat "$1" ;;
+    esac | tr -s ' \n' ' '
+}
+
+# The statuses of the man page, with what they mean.
+statuses() {
+    manual | sed -nE '/^EXIT STATUS/,/^EXAMPLES/s/^ +([0-9]+) +(.*)/\1 \2/p'
+}
+
+# Compares the status that has this meaning in the man page with the one that a command ends with.
+compare_status() {
+    local meaning=$1
+    shift
+    "$@" <puzzles/collection.txt >printed 2>said
+    same "the status of ${*:2}, by the man page" $? "$(statuses | sed -n "s/ $meaning.*//p")"
+}
+
+# Compares the statuses of the man page with the program and its help.
+compare_statuses() {
+    local command
+    compare_status 'Everything is printed' nonograde survey
+    compare_status 'Everything is printed' nonograde survey puzzles/collection.txt
+    compare_status 'Everything is printed' nonograde --help
+    compare_status 'A fault' nonograde survey nowhere.non
+    compare_status 'A fault' nonograde solve puzzles/collection.txt
+    compare_status 'The command line is refused' nonograde
+    compare_status 'The command line is refused' nonograde survey --nothing
+    for command in survey solve convert lines; do
+        count "the statuses of $command's help" "$(nonograde "$command" --help |
+            grep -qE '^Exit status: 0 if the .* printed, 1 at a fault, 2 if the command line is refused\.$' || echo 'they are others')"
+    done
+}
+
+# The number in a page after some words, which are a regular expression.
+number_after() {
+    flat "$1" | grep -oP "$2 \K[0-9,]*[0-9]" | tr -d , | head -n 1
+}
+
+# A text of N bytes that begins with another.
+text_of() {
+    printf '%s\n' "$2" && head -c $(($1 - ${#2} - 1)) /dev/zero
+}
+
+# The fault of a text that has N of what is limited.
+fault_at() {
+    case $1 in
+        side) echo "$2 1" >asked.mk ;;
+        numbers) printf '1 1\n%s\n#\n0\n' "$(yes 1 | head -n "$2" | paste -sd ' ')" >asked.mk ;;
+        number) printf '1 1\n%s\n#\n0\n' "$2" >asked.mk ;;
+        text) printf 'title "%s"\nwidth 1\nheight 1\nrows\n0\ncolumns\n0\n' "$(text_of "$2" a | tr -c a a)" >asked.non ;;
+        puzzle) text_of "$2" '1 1' >asked.mk ;;
+        collection) text_of "$2" '@ a.txt' | nonograde survey ;;
+        puzzles) yes '@ a.txt' | head -n "$2" | nonograde survey ;;
+    esac 2>&1 | grep -o '^nonograde: .*'
+    ! compgen -G 'asked.*' >/dev/null || nonograde survey asked.* | grep -o '^1 refused [A-Za-z]*'
+    rm -f asked.*
+}
+
+# Compares a limit that the pages have with the program: what is limited, the word of the fault beyond it, a
+# page, and the words before the number.
+compare_limit() {
+    local limit
+    limit=$(number_after "$3" "$4")
+    count "the limit of $1 in $3" "$([ -n "$limit" ] || echo "there is no number after '$4'")"
+    [ -n "$limit" ] || return
+    count "$1: $limit as in $3" "$(fault_at "$1" "$limit" | grep -w "$2")"
+    count "$1: more than the $limit of $3" "$(fault_at "$1" $((limit + 1)) | grep -qw "$2" || echo "it isn't $2")"
+}
+
+# Compares all limits of man pages and docs/formats.md with the program, and the stack of the man page.
+compare_limits() {
+    local page=docs/formats.md kib command
+    compare_limit side BadSize 1 'Width and height 1 to'
+    compare_limit side BadSize 1 "A size isn't a number from 1 to"
+    compare_limit side BadSize 5 'a width and a height, each from 1 to'
+    compare_limit side BadSize $page 'a width and a height, each from 1 to'
+    compare_limit numbers BadNumber 1 'Numbers in a clue'
+    compare_limit numbers BadNumber 1 'or it has more than'
+    compare_limit numbers BadNumber 5 'a list of at most'
+    compare_limit numbers BadNumber $page 'a list of at most'
+    compare_limit number BadNumber 1 "something in it isn't a number from 1 to"
+    compare_limit number BadNumber 5 'numbers, each from 1 to'
+    compare_limit number BadNumber $page 'numbers, each from 1 to'
+    compare_limit text BadLine 1 'or its text has more than'
+    compare_limit text BadLine 5 'A text of at most'
+    compare_limit text BadLine $page 'a text of at most'
+    compare_limit puzzle TooLong 1 'A puzzle'
+    compare_limit puzzle TooLong 1 'The puzzle has more than'
+    compare_limit puzzle TooLong 5 'text has at most'
+    compare_limit puzzle TooLong $page 'the text has more than'
+    compare_limit collection TooLong 1 'A collection'
+    compare_limit collection TooLong 1 'or the collection more than'
+    compare_limit collection TooLong 5 'A collection has at most'
+    compare_limit collection TooLong $page 'TooLong. \| a collection \| it has more than'
+    compare_limit puzzles TooMany 1 'Puzzles in a survey'
+    compare_limit puzzles TooMany 1 'There are more than'
+    compare_limit puzzles TooMany 5 'bytes and'
+    compare_limit puzzles TooMany $page 'TooMany. \| a collection \| it has more than'
+    kib=$(number_after 1 'The main thread needs a stack of')
+    for command in 'survey --show' 'survey puzzles/cat.mk' 'solve puzzles/carpet.nin' 'lines puzzles/cat.mk' \
+        'convert --to mk puzzles/demo.non' 'solve --help' 'survey --lanes 0'; do
+        # shellcheck disable=SC2086
+        same "$command with a stack of ${kib:-no} KiB" "$(nonograde $command <puzzles/collection.txt 2>&1)" \
+            "$(ulimit -s "$kib" && env -i "$(command -v nonograde)" $command <puzzles/collection.txt 2>&1)"
+    done
+}
+
+# A field of a puzzle's line, by its name among the columns of the man page.
+field() {
+    local place
+    place=$(tr ' ' '\n' <<<"$columns" | grep -nx "$1" | cut -d : -f 1)
+    cut -d ' ' -f "${place:-100}" <<<"$2"
+}
+
+# Compares the columns of the man page with the program, its help and the other pages.
+compare_columns() {
+    local columns line command column
+    columns=$(manual | sed -n 's/^ *\(N WxH.*\)/\1/p')
+    same "the columns of survey's help" "$columns" \
+        "$(nonograde survey --help | sed -n 's/^Each line is \(.*\), or N refused WORD NAME\.$/\1/p')"
+    same "the columns of solve's help" "${columns/#N/1}" \
+        "$(nonograde solve --help | sed -n 's/^The line is \(.*\)\.$/\1/p')"
+    same 'the columns of README.md' "$columns" "$(grep -oP "A line has $tick\K[^$tick]*" README.md)"
+    same 'the columns of formats.md' "$columns" "$(grep -oP "entry's line is $tick\KN WxH [^$tick]*" docs/formats.md)"
+    same "the columns' meanings in the man page" "${columns% NAME}" \
+        "$(manual | sed -nE '/^PRINTED LINES/,/ WORD  /s/^     ([A-Z][A-Zx, ]*)  +[^ ].*/\1/p' | grep -v WORD | paste -sd ' ' | tr -s ' ,' ' ' | sed 's/ $//')"
+    for column in 'LINE, TRIALS' GUESSES; do
+        count "$column in the man page" "$(flat 1 | grep -qiF "$(rows_below 'Field | Meaning' | cat - <(sed -n 's/^| \(.*\) | \(.*\) |$/\1\t\2/p' docs/formats.md) |
+            sed -n "s/^$column\t\([^,;]*\(, and [^;,]*\)\{0,1\}\).*/$column \1/p" | head -n 1)" || echo 'it has another meaning in formats.md')"
+    done
+    line=$(nonograde solve --guesses 2 puzzles/carpet.nin | head -n 1)
+    same 'the column N' 1 "$(field N "$line")"
+    same 'the column WxH' "$(head -n 1 puzzles/knot.mk | sed 's/\(.*\) \(.*\)/\2x\1/')" "$(field WxH "$(nonograde solve puzzles/knot.mk | head -n 1)")"
+    same 'the column VERDICT' unsettled "$(field VERDICT "$line")"
+    same 'the column GRADE' search "$(field GRADE "$line")"
+    same 'the column LINE' "$(nonograde lines puzzles/carpet.nin | sed -n 's/^open //p')" "$(field LINE "$line")"
+    same 'the column TRIALS' 8 "$(field TRIALS "$(nonograde solve puzzles/knot.mk | head -n 1)")"
+    same 'the column GUESSES' 2 "$(field GUESSES "$line")"
+    same 'the column GOAL' meets "$(field GOAL "$(nonograde solve puzzles/heart.non | head -n 1)")"
+    same 'the column NAME' puzzles/carpet.nin "$(field NAME "$line")"
+}
+
+# Checks that man pages refer to nothing that isn't installed.
+find_what_is_named() {
+    local section named
+    for section in 1 5; do
+        while IFS= read -r named; do
+            count "$named, named by nonograde($section)" "$(compgen -G "$HOME/.local/$named" >/dev/null ||
+                compgen -G "$HOME/.local/share/doc/nonograde/$named" >/dev/null || echo "it isn't installed")"
+        done < <(manual $section | grep -oE '\b(bin|docs|include|man|puzzles|share|tests|tools)/[][A-Za-z0-9_.*?/-]*[A-Za-z0-9_*?]' | sort -u)
+        while IFS= read -r named; do
+            count "$named, named by nonograde($section)" "$([ -x "$HOME/.local/bin/$named" ] || echo "it isn't installed")"
+        done < <(manual $section | grep -oE '\bnonograde-[a-z]+' | sort -u)
+        same "the pages that nonograde($section) refers to" '' "$(flat $section | sed 's/-- *//' |
+            grep -oE '\b[a-z]+\([0-9]\)' | sort -u | grep -v '^nonograde([15])$')"
+    done
+}
+
+# Runs the man page's awk filters on a survey with refused puzzles of odd names.
+filter_odd_names() {
+    local odd filter
+    odd=$(printf '@ %s\n' 'several x.txt' 'a several 2x2 search' '1x1 several' | nonograde survey)
+    while IFS= read -r filter; do
+        same "no refused line and no totals pass awk '$filter'" '' "$(awk "$filter" <<<"$odd")"
+    done < <(manual | grep -oP "awk '\K[^']*")
+    count "the man page's filters" "$(manual | grep -qE "^ +\\$ .*(grep|cut) " && echo 'one takes a word of a name')"
 }
 
 make -s install PREFIX="$HOME/.local"
 type_commands 'the README' <README.md
-count 'the man page' "$(mandoc -T lint man/nonograde.1 2>&1)"
-type_commands 'the man page' < <(manual)
+for page in man/nonograde.[15]; do
+    count "$page" "$(mandoc -T lint "$page" 2>&1 | grep -v 'referenced manual not found: Xr nonograde [15]')"
+done
+cp -r "$HOME/.local/share/doc/nonograde" "$room/copy" && cd "$room/copy" || exit
+type_commands 'nonograde(1)' < <(manual)
+type_commands 'nonograde(5)' < <(manual 5)
+cd "$room/clone" || exit
 follow_links
+find_what_is_named
+filter_odd_names
 ask_for_examples line 'Line | Clue'
 ask_for_examples section 'Section | Clue lines'
 ask_for_examples 'size line' 'Size line | Sizes'
@@ -312,11 +515,8 @@ ask_for_examples marker 'Line | Name'
 compare_examples
 get_faults
 compare_with_help
-same 'a line in zsh' 'survey --pick most puzzles/heart.non' \
-    "$(typed_in_zsh $'nonograde surv\t--pi\tmo\tpuzzles/he\t')"
-same 'files in bash' 'puzzles/demo.nin puzzles/demo.non' "$(bash_completes lines puzzles/dem | paste -sd ' ')"
-make -s dist >said 2>&1
-try_package
-make -s uninstall PREFIX="$HOME/.local"
-same 'what is left behind' '' "$(find "$HOME/.local" -type f)"
+compare_statuses
+compare_limits
+compare_columns
+complete_files
 finish
