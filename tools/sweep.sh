@@ -133,7 +133,7 @@ make_files
 while read -r crate name rest; do
     case "$crate" in
         '' | '#') ;;
-        program*)
+        program | program:*)
             # shellcheck disable=SC2086 # The words of the command line.
             sweep_program "$crate" "$name" $rest
             ;;

@@ -9,5 +9,5 @@ mod words;
 
 pub use files::read_prefix;
 pub use running::{report_stop, run};
-pub use stop::Stop;
+pub use stop::{Stop, stop_text};
 pub use words::{WordsFault, refuse_words, words_of};

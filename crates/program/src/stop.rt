@@ -1,13 +1,14 @@
 //! The faults at which the program stops, and their fault words.
 
-ghost use Rattle.std.specs.Prelude.{◌≡◌};
+ghost use Rattle.std.specs.Prelude.{◌≡◌, IfOk};
 ghost use Rattle.puzzle_text.specs.Words.{word_text};
-ghost use Rattle.program.specs.Stop.{run_word, stop_of_convert, stop_word};
+ghost use Rattle.program.specs.Stop.{run_word, stop_line, stop_of_convert, stop_word};
 ghost use Rattle.program.specs.declared.stop.Stop.TheVariants.{Entry as entry_stop, NoMemory as memory_stop};
 
 use grid_core::NoMemory;
 use puzzle_text::{EntryFault, FaultWord};
 use reports::ConvertFault;
+use std::alloc::Global;
 use survey_core::RunFault;
 
 /// Why the program stops.
@@ -81,4 +82,16 @@ pub fn stop_word(stop: Stop) -> FaultWord
         Stop::Write => FaultWord::alone("Write"),
         Stop::NoMemory => FaultWord::alone("NoMemory"),
     }
+}
+
+/// Returns the line that the program prints when it stops: `nonograde: `, the fault word, and LF.
+/// Fails with `NoMemory` if an allocation fails. The program itself prints the line by
+/// `report_stop`, which allocates nothing.
+pub fn stop_text(alloc: Global, stop: &Stop) -> Result<Vec<u8>, NoMemory>
+    ensures { IfOk result (λ text. text.items ≡ stop_line stop.now) }
+{
+    let mut text = Vec::from_slice(alloc, b"nonograde: ")?;
+    stop_word(*stop).push(&mut text)?;
+    text.push(b'\n')?;
+    Ok(text)
 }
