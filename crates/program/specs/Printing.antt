@@ -1,5 +1,5 @@
 -- What a command prints and what it reads of standard input, by its result.
-use Rattle.std.specs.Prelude.{◌≡◌, ℕ, ◌≤◌, List, [], ◌∷◌, length, map, take, string_bytes, Option, IfSome, OnOk, Result, Ok, Err}
+use Rattle.std.specs.Prelude.{◌≡◌, ℕ, ◌≤◌, ◌⊎◌, List, [], ◌∷◌, length, map, take, string_bytes, Option, IfSome, OnErr, OnOk, Result, Ok, Err}
 use Rattle.std.specs.Io.KnownBytes.{Appends, IsAtEnd, Keeps}
 use Rattle.puzzle_text.specs.Collections.{Entry as NamedText}
 use Rattle.puzzle_text.specs.declared.faults.CollectionFault.{CollectionFault}
@@ -117,14 +117,23 @@ PrintsFiles settings names result old new =
     (texts : List (List ℕ)) × (length texts ≡ length names) ×
     PrintsSurvey (files_survey settings names texts) result old new
 
--- what a survey of standard input appends to the output, if its bytes are known; if the survey was
--- printed, the input was read to its end; nothing if an allocation fails
+-- the result is a stop because the output failed
+abbrev pub IsUnwritten : {U : Type 0} → Result U Stop → Type 0
+IsUnwritten (Ok _) = ⊥
+IsUnwritten (Err Write) = Unit {0}
+IsUnwritten (Err (Run fault)) = IsWrite fault
+IsUnwritten (Err _) = ⊥
+
+-- what a survey of standard input appends to the output, if its bytes are known; nothing, whether
+-- they are known or not, if it stops but for a failed output; if the survey was printed, the input
+-- was read to its end
 abbrev pub PrintsInput : {U : Type 0} → Settings → Stream → Result U Stop →
     Option (List ℕ) → Option (List ℕ) → Type 0
 PrintsInput settings input (Err NoMemory) old new = Keeps old new
 PrintsInput settings input result old new =
     IfSome input.old (λ bytes.
     PrintsSurvey (survey_of (guess_settings settings) settings.show bytes) result old new) ×
+    OnErr result (IsUnwritten result ⊎ Keeps old new) ×
     OnOk result (IsAtEnd input.new)
 
 -- what a survey appends to the output: that of the files with these names, without touching
@@ -146,10 +155,3 @@ Performs (Convert format path) input result old new =
     IsUntouched input × PrintsFile (convert_answer format (string_bytes path)) result old new
 Performs (Lines path) input result old new =
     IsUntouched input × PrintsFile (lines_answer (string_bytes path)) result old new
-
--- the result is a stop because the output failed
-abbrev pub IsUnwritten : {U : Type 0} → Result U Stop → Type 0
-IsUnwritten (Ok _) = ⊥
-IsUnwritten (Err Write) = Unit {0}
-IsUnwritten (Err (Run fault)) = IsWrite fault
-IsUnwritten (Err _) = ⊥
