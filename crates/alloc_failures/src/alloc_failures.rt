@@ -52,7 +52,7 @@ pub fn arm(alloc: Global, number: usize) {
     let _request = Vec::<u8>::with_capacity(alloc, ARM_REQUEST.wrapping_add(number));
 }
 
-/// Lets allocations succeed again. Returns whether one failed since `refuse`.
+/// Lets allocations succeed again. Returns whether one failed since `arm`.
 pub fn disarm(alloc: Global) -> bool {
     Vec::<u8>::with_capacity(alloc, DISARM_REQUEST).is_err()
 }

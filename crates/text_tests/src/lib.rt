@@ -1,4 +1,4 @@
-//! Tests of `grid_core`, `puzzle_text` and `refusals`.
+//! Tests of `grid_core`, `puzzle_text` and `alloc_failures`.
 #![tactic(auto)]
 
 #[cfg(test)]
