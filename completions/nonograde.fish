@@ -17,6 +17,6 @@ complete -c nonograde -n '__fish_seen_subcommand_from survey solve' -l pick -x -
 complete -c nonograde -n '__fish_seen_subcommand_from survey' -l lanes -x -d 'The number of lanes, 1 to 16'
 complete -c nonograde -n '__fish_seen_subcommand_from survey' -l ring -x -d 'The capacity of a lane\'s rings, 1 to 64'
 complete -c nonograde -n '__fish_seen_subcommand_from survey' -l show -d 'Show the solutions'
-complete -c nonograde -n '__fish_seen_subcommand_from survey' -l progress -d 'Tell on standard error how many entries are begun'
+complete -c nonograde -n '__fish_seen_subcommand_from survey' -l progress -d 'Show progress on standard error'
 complete -c nonograde -n '__fish_seen_subcommand_from convert' -l to -x -a 'non mk nin' -d 'The format'
 complete -c nonograde -n 'not __fish_seen_subcommand_from help; and __fish_seen_subcommand_from survey solve convert lines' -a '(__nonograde_files)'

@@ -138,11 +138,15 @@ make_texts() {
     for number in 1 2 10 256 300; do
         hearts $number >surveyed_$number
     done
-    printf '\rentries begun 1\n' >told_input
-    printf '\n' >told_nothing
-    for number in 1 2 10 300; do
-        printf '\rentries begun %d of %d files\n' $number $number >told_$number
+    printf '\r1 of %d entries graded, %d refused\n' "$(awk '/^entries/ { print $2 }' survey)" \
+        "$(awk '/^entries/ { print $4 }' survey)" >told_input
+    for number in 1 10 300; do
+        printf '\r%d of %d files graded, 0 refused\n' $number $number >told_$number
     done
+    printf '\r1 of 2 files graded, 1 refused\n' >told_half
+    printf '%s\n' "$(heart_line heart.non)" '2 refused UnknownFormat zeros' \
+        'entries 2 refused 1 none 0 one 1 several 0 unsettled 0 line 1 trials 0 search 0' >surveyed_half
+    cat told_300 surveyed_300 >told_then_surveyed
     printf '%s\n' "$(heart_line "$far")" "$(totals 1)" >surveyed_far
     printf '%s\n' "$(heart_line 'two?lines.non')" "$(totals 1)" >surveyed_two_lines
     printf '%s\n' '1 refused TooLong zeros.non' '2 refused UnknownFormat zeros' \
@@ -238,25 +242,23 @@ input_slow() {
     done <collection | run "$@" >printed
 }
 
-# Standard error is a full pipe. It is read only once the survey is printed, for which the program has a second.
-errors_stopped() {
-    local status=1 pid
-    mkfifo stopped
-    exec 8<>stopped
-    dd if=/dev/zero of=stopped oflag=nonblock bs=65536 count=2 status=none 2>dd_said
-    bounded "$@" <collection >printed 2>&8 8>&- &
-    pid=$!
-    for _ in {1..20}; do
-        sleep 0.05
-        cmp -s printed surveyed_2 && status=0 && break
-    done
-    tr -d '\0' <stopped >said 8>&- &
-    wait $pid && [ $status = 0 ]
+# Standard error is a full pipe that nobody reads. The program has two seconds.
+errors_stuck() {
+    local status limits=(timeout 2)
+    mkfifo stuck
+    exec 8<>stuck
+    dd if=/dev/zero of=stuck oflag=nonblock bs=65536 count=2 status=none 2>dd_said
+    bounded "$@" <collection >printed 2>&8 8>&-
     status=$?
     exec 8>&-
-    wait
-    rm stopped
+    rm stuck
     return $status
+}
+
+# Standard error is where the output goes. Of the line that is written over itself the last is kept.
+errors_in_output() {
+    bounded "$@" <collection 2>&1 | sed 's/.*\r/\r/' >printed
+    return "${PIPESTATUS[0]}"
 }
 
 # A file's bytes are written to fifo.non by a writer that comes after a while, and goes.
@@ -441,16 +443,18 @@ for outside in errors_closed errors_full; do
     try $outside - closed_heart lines heart.non
 done
 
-# A survey's progress.
+# A survey's progress. Its line is ended before the survey is printed, and can't hold that up.
 try ordinary told_input survey survey --progress
 try ordinary told_1 surveyed_1 survey --progress heart.non
 try ordinary told_1 surveyed_1 survey --progress --guesses 0 heart.non
+try ordinary told_half surveyed_half survey --progress heart.non zeros
+try ordinary - surveyed_zeros survey --progress zeros.non zeros
+try errors_in_output - told_then_surveyed survey --progress $(lines 300 heart.non)
 try output_full Write:told_input - survey --progress
 try errors_slow:0 told_10 surveyed_10 survey --progress $(lines 10 heart.non)
 try errors_slow:0 told_300 surveyed_300 survey --progress $(lines 300 heart.non)
-try errors_slow:1 told_nothing surveyed_10 survey --progress $(lines 10 heart.non)
-try errors_slow:2 - surveyed_300 survey --progress $(lines 300 heart.non)
-try errors_stopped told_2 surveyed_2 survey --progress heart.non heart.non
+try errors_slow:1000 - surveyed_300 survey --progress $(lines 300 heart.non)
+try errors_stuck - surveyed_10 survey --progress $(lines 10 heart.non)
 
 # Files. One that can't be read is told before anything is printed.
 for words in survey 'survey heart.non' lines solve 'convert --to mk'; do

@@ -202,7 +202,7 @@ fn progress_option<'a>(alloc: Global) -> Arg<'a>
 {
     Arg::new(alloc, "progress")
         .long("progress")
-        .help("Tell on standard error how many entries are begun")
+        .help("Show progress on standard error")
         .action(ArgAction::SetTrue)
 }
 

@@ -5,6 +5,10 @@
 pub trait Gate {
     /// Lets the job of this number through. It always returns, but may take any time.
     fn enter(&self, number: u32);
+
+    /// Called by a survey of this many entries once its puzzles are graded and before anything is
+    /// written. It always returns. Does nothing unless the gate defines it.
+    fn close(&self, _entries: usize) {}
 }
 
 /// A gate that lets each job through at once.

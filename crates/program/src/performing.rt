@@ -19,9 +19,8 @@ use std::io::{Read, Write};
 use std::rt::Files;
 use std::sync::Wait;
 use std::thread::Threads;
-use survey_core::{
-    Counted, Progress, ProgressGate, Settings, run_survey, survey_entries, write_text,
-};
+use std::time::Clock;
+use survey_core::{Counted, ProgressGate, Settings, run_survey, survey_entries, write_text};
 
 /// Prints `text` and flushes.
 pub fn print_text<W: Write>(writer: &mut Counted<W>, text: &[u8]) -> Result<(), Stop>
@@ -129,10 +128,10 @@ fn survey<R, I, O, P>(
     progress: P,
 ) -> Result<(), Stop>
 where
-    R: Files + Threads + Wait + Sync + AllocGlobal,
+    R: Files + Threads + Wait + Clock + Copy + Send + Sync + AllocGlobal + 'static,
     I: Read,
     O: Write,
-    P: Write + Drop + Send,
+    P: Write + Drop + Send + 'static,
     requires reading { fault_count input.old < 2 ^ 32 - 1 }
     requires writing { fault_count output.old < 2 ^ 32 - 1 }
     ensures answer { PrintsSurveyOf survey.now.settings (map string_bytes survey.now.files.items)
@@ -143,16 +142,10 @@ where
     if !survey.progress {
         return survey_through(rt, survey, input, output, &OpenGate);
     }
-    let gate = ProgressGate::new();
-    let progress = Progress::new(rt.alloc(), progress, files_of(survey))?;
-    progress.report_while(
-        rt,
-        &gate,
-        &mut ||
-            requires reading { fault_count input.now < 2 ^ 32 - 1 }
-            requires writing { fault_count output.now < 2 ^ 32 - 1 }
-        { survey_through(rt, survey, input, output, &gate) },
-    )
+    let gate = ProgressGate::new(*rt, rt.alloc(), progress, files_of(survey))?;
+    let done = survey_through(rt, survey, input, output, &gate);
+    gate.end();
+    done
 }
 
 /// Prints the line of one file's puzzle, with its solutions.
@@ -216,10 +209,10 @@ pub fn perform<R, I, O, P>(
     progress: P,
 ) -> Result<(), Stop>
 where
-    R: Files + Threads + Wait + Sync + AllocGlobal,
+    R: Files + Threads + Wait + Clock + Copy + Send + Sync + AllocGlobal + 'static,
     I: Read,
     O: Write,
-    P: Write + Drop + Send,
+    P: Write + Drop + Send + 'static,
     requires range { HasSettingsInRange request.now }
     requires reading { fault_count input.old < 2 ^ 32 - 1 }
     requires writing { fault_count output.old < 2 ^ 32 - 1 }

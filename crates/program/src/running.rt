@@ -23,6 +23,7 @@ use std::io::{Read, Write};
 use std::rt::Files;
 use std::sync::Wait;
 use std::thread::Threads;
+use std::time::Clock;
 use survey_core::Counted;
 
 /// Prints a fault word, followed by a colon and its line number if it has one.
@@ -126,11 +127,11 @@ fn finish<R, I, O, E, P>(
     progress: P,
 ) -> u8
 where
-    R: Files + Threads + Wait + Sync + AllocGlobal,
+    R: Files + Threads + Wait + Clock + Copy + Send + Sync + AllocGlobal + 'static,
     I: Read,
     O: Write,
     E: Write,
-    P: Write + Drop + Send,
+    P: Write + Drop + Send + 'static,
     requires range { IfOk asked HasSettingsInRange }
     requires reading { fault_count input.old < 2 ^ 32 - 1 }
     requires writing { fault_count output.old < 2 ^ 32 - 1 }
@@ -163,11 +164,11 @@ pub fn run<R, I, O, E, P>(
     progress: P,
 ) -> u8
 where
-    R: Files + Threads + Wait + Sync + AllocGlobal,
+    R: Files + Threads + Wait + Clock + Copy + Send + Sync + AllocGlobal + 'static,
     I: Read,
     O: Write,
     E: Write,
-    P: Write + Drop + Send,
+    P: Write + Drop + Send + 'static,
     requires reading { fault_count input.old < 2 ^ 32 - 1 }
     requires writing { fault_count output.old < 2 ^ 32 - 1 }
     requires telling { fault_count errors.old < 2 ^ 32 - 1 }

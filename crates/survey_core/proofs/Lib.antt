@@ -1,5 +1,4 @@
--- The modules of lemmas on surveys: entries read and graded, jobs dealt and answered, lane by lane, and progress.
-pub mod ProgressLemmas
+-- The modules of lemmas on surveys: entries read and graded, jobs dealt and answered.
 pub mod ParsingLemmas
 pub mod ListingLemmas
 pub mod DealtLemmas

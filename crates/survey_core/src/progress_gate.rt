@@ -1,170 +1,215 @@
 //! The gate that counts the jobs that enter it, and the thread that reports their number.
 
-ghost use Rattle.std.specs.Prelude.{◌≡◌};
-
 use crate::progress::Progress;
+use grid_core::NoMemory;
 use lane_core::Gate;
+use std::alloc::Global;
 use std::io::Write;
-use std::sync::Wait;
-use std::sync::atomic::{AtomicBool, AtomicU32, Ordering};
+use std::sync::Arc;
+use std::sync::atomic::{AtomicBool, AtomicU32, AtomicUsize, Ordering};
 use std::thread;
-use std::thread::{Parker, Scope, Threads};
-use std::time::Duration;
+use std::thread::Threads;
+use std::time::{Clock, Duration, Instant};
 
-/// How long the reporting thread pauses between two numbers, in milliseconds. It prints at most ten
-/// in a second.
-const PAUSE: u64 = 100;
+/// How long the reporting thread sleeps between two looks at the counts, in milliseconds.
+const NAP: u64 = 10;
 
-/// A gate that counts the jobs as they enter, and delays none of them.
+/// How many naps lie between two numbers: at most ten are printed in a second.
+const NAPS_PER_LINE: u64 = 10;
+
+/// How long the end of the line is waited for, at most, in milliseconds.
+const LONGEST_WAIT: u64 = 300;
+
+/// From when on the time left is estimated, in milliseconds.
+const SHORTEST_SAMPLE: u128 = 1000;
+
+/// What a gate and its reporting thread share.
 #[derive(Drop)]
-pub struct ProgressGate {
+struct Shared {
+    /// How many jobs have entered since the last line ended.
     begun: AtomicU32,
-    has_ended: AtomicBool,
-    parker: Parker,
+    /// Whether there is a reporting thread.
+    is_reporting: AtomicBool,
+    /// Whether that thread is to end the line. It then clears this.
+    is_ending: AtomicBool,
+    /// Whether the survey is graded.
+    is_graded: AtomicBool,
+    /// How many entries the survey has, once it is graded.
+    entries: AtomicUsize,
+    /// Whether the gate is gone, and the thread is to end.
+    is_over: AtomicBool,
 }
 
-impl ProgressGate {
-    /// Returns a gate that no job has entered yet.
-    pub fn new() -> ProgressGate {
-        ProgressGate {
+impl Shared {
+    /// Returns what is shared before any job has entered.
+    fn new() -> Shared {
+        Shared {
             begun: AtomicU32::new(0),
-            has_ended: AtomicBool::new(false),
-            parker: Parker::new(),
+            is_reporting: AtomicBool::new(false),
+            is_ending: AtomicBool::new(false),
+            is_graded: AtomicBool::new(false),
+            entries: AtomicUsize::new(0),
+            is_over: AtomicBool::new(false),
         }
     }
 
-    /// Closes the gate, which no job enters afterwards, and wakes the reporting thread, which then
-    /// ends.
-    fn close(&self) {
-        self.has_ended.store(true, Ordering::SeqCst);
-        self.parker.unpark();
+    /// Makes the gate as if no job had entered yet.
+    fn reset(&self) {
+        self.begun.store(0, Ordering::SeqCst);
+        self.is_graded.store(false, Ordering::SeqCst);
+        self.is_ending.store(false, Ordering::SeqCst);
     }
 }
 
-impl Gate for ProgressGate {
-    fn enter(&self, _number: u32) {
-        self.begun.fetch_add(1, Ordering::SeqCst);
+/// Returns an estimate of the seconds left, if there are `files` files and `begun` of them were
+/// begun in the time `elapsed`.
+fn seconds_left(begun: u32, files: u32, elapsed: Duration) -> Option<u64> {
+    let millis = elapsed.as_millis();
+    if millis < SHORTEST_SAMPLE {
+        return None;
     }
+    let left = u128::from(files.saturating_sub(begun));
+    let millis_left = millis.checked_mul(left)?.checked_div(u128::from(begun))?;
+    u64::try_from(millis_left / 1000).ok()
 }
 
-/// Reports how many jobs have entered `gate` until that is closed, and then the final number.
-fn report_until_closed<R: Wait, E: Write + Drop>(
-    rt: &R,
-    gate: &ProgressGate,
+/// The reporting thread's work: it prints how many jobs have entered.
+#[derive(Drop)]
+struct Reporting<R, E> {
+    rt: R,
+    shared: Arc<Shared, Global>,
     progress: Progress<E>,
-) {
-    let mut progress = progress;
-    for _ in rt.forever() {
-        gate.parker.park_timeout(rt, Duration::from_millis(PAUSE));
-        // In this order: if the gate is closed, no job enters any more, and `begun` is final.
-        let has_ended = gate.has_ended.load(Ordering::SeqCst);
-        let begun = gate.begun.load(Ordering::SeqCst);
-        if has_ended {
-            let _ = progress.close_line(begun);
+    /// When the first job entered, as far as is known.
+    start: Option<Instant>,
+}
+
+impl<R: Clock + Copy, E: Write + Drop> Reporting<R, E> {
+    /// Reports until the gate is gone.
+    fn run(self) {
+        let mut reporting = self;
+        // In effect without end; a thread that doesn't wait for others needs no other loop.
+        for nap in 1..u64::MAX {
+            thread::sleep(&reporting.rt, Duration::from_millis(NAP));
+            if reporting.shared.is_over.load(Ordering::SeqCst) {
+                return;
+            }
+            reporting.look(nap % NAPS_PER_LINE == 0);
+        }
+    }
+
+    /// Ends the line if it is to end, and otherwise prints it again if `is_due`.
+    fn look(&mut self, is_due: bool) {
+        // In this order: if the line is to end, no job enters any more, and `begun` is final.
+        let is_ending = self.shared.is_ending.load(Ordering::SeqCst);
+        let begun = self.shared.begun.load(Ordering::SeqCst);
+        if is_ending {
+            self.end_line(begun);
+            self.start = None;
+            self.shared.reset();
+        } else if begun > 0 {
+            self.start = self.start.or(Instant::now(&self.rt).ok());
+            if is_due {
+                let left = self.estimate(begun);
+                let _ = self.progress.update(begun, left);
+            }
+        }
+    }
+
+    /// Ends the line, which says what was done if the survey is graded.
+    fn end_line(&mut self, begun: u32) {
+        let _ = if self.shared.is_graded.load(Ordering::SeqCst) {
+            let entries = self.shared.entries.load(Ordering::SeqCst);
+            self.progress.print_last_line(begun, entries)
+        } else {
+            self.progress.break_off()
+        };
+    }
+
+    /// Returns an estimate of the seconds left, if it is a survey of files and there is a clock.
+    fn estimate(&self, begun: u32) -> Option<u64> {
+        let elapsed = self.start?.elapsed(&self.rt).ok()?;
+        seconds_left(begun, self.progress.files()?, elapsed)
+    }
+}
+
+/// The gate's part of what it shares with the thread, which ends when this is dropped.
+struct Owner {
+    shared: Arc<Shared, Global>,
+}
+
+impl Drop for Owner {
+    fn drop(self) {
+        let Owner { shared } = self;
+        shared.is_over.store(true, Ordering::SeqCst);
+    }
+}
+
+/// A gate that delays no job, and reports how many have entered on a line that overwrites itself.
+///
+/// A thread of its own prints the line, at most ten times in a second. If it can't be started,
+/// nothing is reported. A writer that accepts nothing holds up that thread alone, which then ends
+/// with the process.
+#[derive(Drop)]
+pub struct ProgressGate<R> {
+    rt: R,
+    owner: Owner,
+}
+
+impl<R: Threads + Clock + Copy + Send + 'static> ProgressGate<R> {
+    /// Returns a gate that no job has entered yet, and whose line goes to `writer`. `files` is the
+    /// number of files if it is for a survey of files. Fails with `NoMemory` if an allocation does.
+    pub fn new<E: Write + Drop + Send + 'static>(
+        rt: R,
+        alloc: Global,
+        writer: E,
+        files: Option<u32>,
+    ) -> Result<ProgressGate<R>, NoMemory> {
+        let shared = Arc::new(alloc, Shared::new())?;
+        let reporting = Reporting {
+            rt,
+            shared: Arc::try_clone(&shared)?,
+            progress: Progress::new(alloc, writer, files)?,
+            start: None,
+        };
+        let is_started = thread::spawn(&rt, move || reporting.run()).is_ok();
+        shared.is_reporting.store(is_started, Ordering::SeqCst);
+        Ok(ProgressGate {
+            rt,
+            owner: Owner { shared },
+        })
+    }
+}
+
+impl<R: Clock> ProgressGate<R> {
+    /// Ends the line, if a survey that failed left it open. Waits for that for at most 0.3 seconds.
+    /// Afterwards the gate can serve another survey.
+    pub fn end(&self) {
+        let shared = &self.owner.shared;
+        if !shared.is_reporting.load(Ordering::SeqCst) {
+            shared.reset();
+        }
+        let is_begun = shared.begun.load(Ordering::SeqCst) > 0;
+        if !is_begun || shared.is_ending.swap(true, Ordering::SeqCst) {
             return;
         }
-        let _ = progress.update(begun);
+        for _ in 0..LONGEST_WAIT {
+            if !shared.is_ending.load(Ordering::SeqCst) {
+                return;
+            }
+            thread::sleep(&self.rt, Duration::from_millis(1));
+        }
     }
 }
 
-/// A call to be made in the closure of a scope. The contract of a scope doesn't cover what its
-/// closure writes through a `&mut`. Therefore the closure holds a value of a type parameter that
-/// implements this trait, and the contract of `run` covers it.
-trait Task {
-    type Output;
-
-    ghost can_run: { Self → Type 0 };
-
-    ghost run_gives: { Self → Self.Output → Type 0 };
-
-    fn run(self) -> Self::Output
-        requires { can_run self }
-        ensures { run_gives self result };
-}
-
-/// A mutably borrowed closure, as a `Task`.
-#[derive(Drop)]
-struct Lent<'a, F> {
-    work: &'a mut F,
-}
-
-impl<'a, F: FnMut() -> A, A> Task for Lent<'a, F> {
-    type Output = (&'a mut F, A);
-
-    ghost can_run = { λ task. F.pre task.work.now };
-
-    ghost run_gives = { λ task done. (done.0.ghost_name ≡ task.work.ghost_name)
-        × F.step task.work.now done.1 done.0.now };
-
-    fn run(self) -> (&'a mut F, A) {
-        let Lent { work } = self;
-        let done = work();
-        (work, done)
+impl<R: Clock> Gate for ProgressGate<R> {
+    fn enter(&self, _number: u32) {
+        self.owner.shared.begun.fetch_add(1, Ordering::SeqCst);
     }
-}
 
-/// Runs `task` and returns its result, while a thread of `scope` reports how many jobs have entered
-/// `gate`.
-fn run_reported<'s, S, R: Wait + Sync, E: Write + Drop + Send + 's, T: Task<Output = A> + Drop, A>(
-    scope: &Scope<'s, S>,
-    rt: &'s R,
-    gate: &'s ProgressGate,
-    progress: Progress<E>,
-    task: T,
-) -> A
-    requires { T.can_run task }
-    ensures { T.run_gives task result }
-{
-    // If the thread can't be started, nothing is reported, and the task runs all the same.
-    let _reporting = scope.spawn(move || report_until_closed(rt, gate, progress));
-    let done = task.run();
-    gate.close();
-    done
-}
-
-/// Runs `task` and returns its result, while a thread, in a scope that lasts as long, reports how
-/// many jobs have entered `gate`.
-fn run_in_scope<R: Threads + Wait + Sync, E: Write + Drop + Send, T: Task<Output = A> + Drop, A>(
-    rt: &R,
-    gate: &ProgressGate,
-    progress: Progress<E>,
-    task: T,
-) -> A
-    requires { T.can_run task }
-    ensures { T.run_gives task result }
-{
-    thread::scope(
-        thread::scope_env(),
-        rt,
-        move |scope| -> A
-            requires { T.can_run task }
-            ensures { T.run_gives task result }
-        { run_reported(scope, rt, gate, progress, task) },
-    )
-}
-
-/// Has no effect. Ends the borrow `work` with the value that it has, so that the proof can relate
-/// the closure after the call to the one that was lent.
-fn take_back<F>(work: &mut F)
-    ensures { work.new ≡ work.old }
-{}
-
-impl<E: Write + Drop + Send> Progress<E> {
-    /// Calls `work` and returns its result, while a thread of its own reports how many jobs have
-    /// entered `gate`: at most ten numbers in a second, each greater than the one before, and at
-    /// the end, if any job entered, the final number and LF. If the thread can't be started,
-    /// nothing is reported.
-    pub fn report_while<R: Threads + Wait + Sync, F: FnMut() -> A, A>(
-        self,
-        rt: &R,
-        gate: &ProgressGate,
-        work: &mut F,
-    ) -> A
-        requires { F.pre work.old }
-        ensures { F.step work.old result work.new }
-    {
-        let (work, done) = run_in_scope(rt, gate, self, Lent { work });
-        take_back(work);
-        done
+    fn close(&self, entries: usize) {
+        let shared = &self.owner.shared;
+        shared.entries.store(entries, Ordering::SeqCst);
+        shared.is_graded.store(true, Ordering::SeqCst);
+        self.end();
     }
 }

@@ -39,7 +39,10 @@ fn write_survey<H: Threads + Wait + Sync, W: Write, G: Gate + Sync>(
     ensures no_read { IsErrOf result RunFault.Read → ⊥ }
 {
     match survey_text(rt, alloc, entries, settings, gate) {
-        Ok(survey) => survey.write(writer).map_err(RunFault::Write),
+        Ok(survey) => {
+            gate.close(entries.len());
+            survey.write(writer).map_err(RunFault::Write)
+        }
         Err(fault) => Err(RunFault::from(fault)),
     }
 }

@@ -3,15 +3,16 @@
 
 use crate::tests::{one_thread_survey, repeated};
 use crate::tests_answers::{assert_answers, eight_jobs};
-use crate::tests_progress::enter;
+use crate::tests_progress::{Errors, Taken, enter};
 use crate::tests_samples::{TEN, TEN_SURVEY, settings};
 use alloc_failures::{CallResult, arm, disarm, expected_if, sweep};
 use lane_core::{Gate, OpenGate};
+use std::io::ErrorKind;
 use std::sync::Wait;
 use std::sync::atomic::{AtomicU32, Ordering};
 use std::test::Fail;
 use std::thread::Threads;
-use survey_core::{Counted, MAX_JOBS, Progress, ProgressGate, RunFault, collect, run_survey};
+use survey_core::{Counted, MAX_JOBS, ProgressGate, RunFault, collect, run_survey};
 
 /// More allocations and starts of threads than any call here makes.
 const MOST_GROWTHS: usize = 3000;
@@ -113,17 +114,18 @@ fn surveys_in_parts_are_written_or_refused(rt: HostRuntime) -> Result<(), Fail> 
 fn progress_is_told_or_refused(rt: HostRuntime) -> Result<(), Fail> {
     let alloc = rt.alloc();
     for growth in 1..MOST_GROWTHS {
-        let mut text = Vec::with_capacity(alloc, 3000)?;
-        let gate = ProgressGate::new();
+        let taken = Taken::new(alloc)?;
+        let errors = Errors::new(&rt, &taken, ErrorKind::Other)?;
         arm(alloc, growth);
-        if let Ok(progress) = Progress::new(alloc, &mut text, Some(u32::MAX)) {
-            progress.report_while(&rt, &gate, &mut || enter(&gate, MAX_JOBS as u32));
+        if let Ok(gate) = ProgressGate::new(rt, alloc, errors, Some(u32::MAX)) {
+            enter(&gate, MAX_JOBS as u32);
+            gate.close(MAX_JOBS);
         }
         if !disarm(alloc) {
-            assert!(rt; text.ends_with(b"\rentries begun 10000 of 4294967295 files\n"));
+            assert!(rt; taken.is(&rt, b"\r10000 of 10000 files graded, 0 refused\n"));
             return Ok(());
         }
-        assert!(rt; text.is_empty(), "growth {growth}");
+        assert!(rt; taken.is(&rt, b""), "growth {growth}");
     }
     assert!(rt; false, "growths without end");
     Ok(())
