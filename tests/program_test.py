@@ -175,7 +175,7 @@ PRINTED = [
 # Each row has a command line that asks for progress, standard input, what is printed, and the progress line as it was
 # written last. The exit status is 0. tools/outside.sh tests how often the line is written.
 PROGRESS = [
-    (b"survey --progress", b"@ one.mk\n" + ONE, ONE_LINE + ONE_TOTALS, b"\rentries begun 1\n"),
+    (b"survey --progress", b"@ one.mk\n" + ONE, ONE_LINE + ONE_TOTALS, b"\r1 of 1 entries graded, 0 refused\n"),
     (
         b"survey --show two.mk --guesses 2 --progress one.mk",
         b"",
@@ -183,7 +183,7 @@ PROGRESS = [
         + TWO_GRIDS
         + b"2 1x1 one line 1 1 0 absent one.mk\n.\n\n"
         + totals(2, one=1, several=1, line=1, search=1),
-        b"\rentries begun 2 of 2 files\n",
+        b"\r2 of 2 files graded, 0 refused\n",
     ),
     (b"survey --progress", b"", totals(0), b""),
     (b"survey --progress", b"@ a.txt\n", b"1 refused UnknownFormat a.txt\n" + totals(1, refused=1), b""),

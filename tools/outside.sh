@@ -2,7 +2,8 @@
 # Runs the program where the outside fails it: outputs that are closed, full or no longer read, inputs that
 # can't be read or come slowly, files of many kinds, and limits on threads and on memory. It builds and proves
 # nothing of the program: it runs what `rt ci` left in crates/nonograde/out, or the program that its one
-# argument names. It needs a C compiler. Its last line is `N passed, M failed`.
+# argument names. It counts the threads that surveys start, too. It needs a C compiler. Its last line is
+# `N passed, M failed`.
 #
 # A case says what is outside, what the program is to say on standard error, what it is to print on standard
 # output, and its words.
@@ -103,6 +104,22 @@ ssize_t read(int from, void *bytes, size_t count) {
 END
 }
 
+# A library that writes a line to file descriptor 9 for each thread that is to start.
+make_starts() {
+    cc -O2 -shared -fPIC -x c -o starts.so - -ldl <<'END'
+#define _GNU_SOURCE
+#include <dlfcn.h>
+#include <pthread.h>
+#include <unistd.h>
+
+int pthread_create(pthread_t *thread, const pthread_attr_t *how, void *(*start)(void *), void *given) {
+    int (*real)(pthread_t *, const pthread_attr_t *, void *(*)(void *), void *) = dlsym(RTLD_NEXT, "pthread_create");
+    (void)!write(9, "start\n", 6);
+    return real(thread, how, start, given);
+}
+END
+}
+
 # Makes the files that the program is to read.
 make_files() {
     local ones
@@ -135,7 +152,7 @@ make_texts() {
     printf '%s\n' "$(heart_line fifo.non)" "$picture" '' >solved_fifo
     printf '%s\n' "$(heart_line "$far")" "$picture" '' >solved_far
     printf '%s\n' "$(heart_line 'two?lines.non')" "$picture" '' >solved_two_lines
-    for number in 1 2 10 256 300; do
+    for number in 1 2 10 63 64 96 256 300; do
         hearts $number >surveyed_$number
     done
     printf '\r1 of %d entries graded, %d refused\n' "$(awk '/^entries/ { print $2 }' survey)" \
@@ -285,6 +302,15 @@ threads() {
     ordinary "$@"
 }
 
+# The program has to start COUNT threads.
+starts() {
+    local limits=(env LD_PRELOAD=./starts.so) status
+    ordinary "${@:2}" 9>started
+    status=$?
+    [ "$(wc -l <started)" = "$1" ] || echo "(it started $(wc -l <started) threads)" >>said
+    return $status
+}
+
 # The program may have SIZE KiB of addresses.
 memory() {
     local limits=(sh -c 'ulimit -v "$0" && exec "$@"' "$1")
@@ -401,6 +427,7 @@ long=$(repeated 4000 n)
 two_lines=$'two\nlines.non'
 make_writes
 make_reads
+make_starts
 make_files
 make_texts
 
@@ -514,6 +541,14 @@ if [ ${#another[@]} -gt 0 ]; then
 else
     echo "left out: threads of which only some are refused"
 fi
+
+# The threads that a survey starts. It grades in one for each lane. It reads in one for each lane, or in fewer, so that
+# each has at least 32 entries, and with a single one in no thread of its own; and it prints in as many.
+try starts:4 - surveyed_63 survey --lanes 4 $(lines 63 heart.non)
+try starts:6 - surveyed_64 survey --lanes 2 $(lines 64 heart.non)
+try starts:9 - surveyed_96 survey --lanes 3 $(lines 96 heart.non)
+try starts:12 - surveyed_300 survey --lanes 4 $(lines 300 heart.non)
+try starts:34 - surveyed_300 survey --lanes 16 $(lines 300 heart.non)
 
 # Little room for addresses.
 try_little_room 10000 closed_full lines full.non
