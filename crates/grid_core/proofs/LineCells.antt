@@ -1,5 +1,5 @@
 -- The cells of a line that is stored as two bit sets.
-use Rattle.grid_core.proofs.Names.{◌≡◌, ℕ, ◌<◌, ◌≤◌, Bool, true, false, nat_eq, cond, List, length, get_or, set, refl, sym, ◌∙◌, arith, zero-add, ext_get_or, length-set, replicate, nat_tests, common_steps, length-replicate, get_or-replicate, bit_at-zero, length-map-range_with_len, get_or-map-range_with_len, Cell, Unknown, is_filled, is_known, Has, has, IsWithBit, IsMaskOf, cell_with, line_cells, is_blank}
+use Rattle.grid_core.proofs.Names.{◌≡◌, ℕ, ◌<◌, ◌≤◌, Bool, true, false, nat_eq, cond, List, length, get_or, set, refl, sym, ◌∙◌, arith, zero-add, ext_get_or, length-set, replicate, nat_tests, common_steps, length-replicate, get_or-replicate, bit_at-zero, length-map-range_with_len, get_or-map-range_with_len, Cell, Unknown, Filled, Blank, is_filled, is_known, Has, has, IsWithBit, IsMaskOf, cell_with, line_cells, is_blank}
 
 -- the cell at index `i`, by the masks
 pub cell_at : (len filled blank i : ℕ) → i < len → get_or (line_cells len filled blank) i Unknown ≡ cell_with (has filled i) (has blank i)
@@ -39,6 +39,20 @@ line_is len filled blank l e same =
 -- the membership of an index in a mask, by an implication in each direction
 pub has_by : (m i : ℕ) (b : Bool) → (Has m i → b ≡ true) → (b ≡ true → Has m i) → has m i ≡ b
 has_by m i b to from = grind (arith, nat_tests)
+
+filled_is : (c : Cell) → is_filled c ≡ true → c ≡ Filled
+filled_is c e = grind arith
+
+blank_is : (c : Cell) → is_blank c ≡ true → c ≡ Blank
+blank_is c e = grind arith
+
+-- the membership of an index in the set of a line's filled cells
+pub has_filled : (m : ℕ) (l : List Cell) → IsMaskOf (λ i. get_or l i Unknown ≡ Filled) m → (i : ℕ) → has m i ≡ is_filled (get_or l i Unknown)
+has_filled m l set i = has_by m i (is_filled (get_or l i Unknown)) (λ h. rw (set.to i h) refl) (λ e. set.from i (filled_is _ e))
+
+-- the membership of an index in the set of a line's blank cells
+pub has_blank : (m : ℕ) (l : List Cell) → IsMaskOf (λ i. get_or l i Unknown ≡ Blank) m → (i : ℕ) → has m i ≡ is_blank (get_or l i Unknown)
+has_blank m l set i = has_by m i (is_blank (get_or l i Unknown)) (λ h. rw (set.to i h) refl) (λ e. set.from i (blank_is _ e))
 
 -- each cell is determined by whether it is filled and whether it is blank
 pub cell_itself : (c : Cell) → cell_with (is_filled c) (is_blank c) ≡ c

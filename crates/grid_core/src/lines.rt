@@ -1,7 +1,7 @@
 //! Lines, stored as two bit sets.
 
 ghost use Rattle.std.specs.Prelude.{◌≡◌, ◌≢◌, ℕ, ◌+◌, ◌<◌, ◌≤◌, ◌↔◌, ◌++◌, IsTrue, length, replicate, slice_index_or, slice_set, take, drop, true};
-ghost use Rattle.grid_core.specs.declared.cells.Cell.TheVariants.{Unknown};
+ghost use Rattle.grid_core.specs.declared.cells.Cell.TheVariants.{Blank, Filled, Unknown};
 ghost use Rattle.grid_core.specs.Cells.{Extends, is_filled, is_known};
 ghost use Rattle.grid_core.specs.declared.limits.TheConstants.{MAX_SIDE};
 ghost use Rattle.bit_sets.specs.Masks.{Has, IsMaskOf, has};
@@ -132,19 +132,15 @@ impl<W: BitSet> BitLine<W> {
     }
 
     /// Returns the set of the indices of the filled cells.
-    #[tactic(auto, using(crate::proofs::LineCells::seen))]
     pub fn filled(&self) -> W
-        ensures { (i : ℕ) → i < length self.now
-            → has (W.bits result) i ≡ is_filled (slice_index_or self.now i Unknown) }
+        ensures { IsMaskOf (λ i. slice_index_or self.now i Unknown ≡ Filled) (W.bits result) }
     {
         self.filled
     }
 
     /// Returns the set of the indices of the blank cells.
-    #[tactic(auto, using(crate::proofs::LineCells::seen))]
     pub fn blank(&self) -> W
-        ensures { (i : ℕ) → i < length self.now
-            → has (W.bits result) i ≡ is_blank (slice_index_or self.now i Unknown) }
+        ensures { IsMaskOf (λ i. slice_index_or self.now i Unknown ≡ Blank) (W.bits result) }
     {
         self.blank
     }

@@ -5,7 +5,7 @@ use Rattle.std.proofs.lemmas.List.{append_cancel_left, drop-drop, take_rest, map
 use Rattle.std.proofs.lemmas.List.Elements.{All-drop, All-take}
 use Rattle.std.proofs.Math.Seq.{take-suc}
 use Rattle.grid_core.specs.Cells.{is_known}
-use Rattle.grid_core.specs.Lines.{IsUnknownCell, is_blank}
+use Rattle.grid_core.specs.Lines.{IsUnknownCell}
 use Rattle.line_core.specs.steps.KnownEnds.{AreKnown, IsInnerClue, IsKnownEnd, filled_first}
 use Rattle.line_core.specs.steps.Full.{IsCluePrefix, IsFilled, mirrored_if}
 use Rattle.line_core.specs.Order.{AtMost}
@@ -119,31 +119,28 @@ module _ (f g : List Bool) (l : List Cell) (clue : List ℕ) where
 
 -- ---- known ends
 
-blank_is : (c : Cell) → is_blank c ≡ true → c ≡ Blank
-blank_is c e = search rules
-
 known_is : (c : Cell) → (c ≡ Unknown → ⊥) → is_known c ≡ true
 known_is c e = search rules
 
 -- known cells, up to and including the last blank one, are a known end
-pub known_end_is : (l : List Cell) (known last : ℕ) → known ≤ length l → AreKnown l known → is_blank (get_or l last Unknown) ≡ true
+pub known_end_is : (l : List Cell) (known last : ℕ) → known ≤ length l → AreKnown l known → get_or l last Unknown ≡ Blank
     → last < known
     → IsKnownEnd l (last + 1)
 known_end_is l known last within are blank low = record {
   within = omega arith;
   known = λ i h. are i (omega arith);
-  closed = λ some. let e : last + 1 - 1 ≡ last = omega arith in rw e (blank_is _ blank);
+  closed = λ some. let e : last + 1 - 1 ≡ last = omega arith in rw e blank;
 }
 
 -- known cells at the other end, up to and including their last blank one, are a known end of the mirrored line
 pub known_end_mirrored : (l : List Cell) (known first : ℕ) → known ≤ length l → AreKnown (reverse l) known
-    → (first < known → is_blank (get_or l (first + (length l - known)) Unknown) ≡ true) → IsKnownEnd (reverse l) (known - first)
+    → (first < known → get_or l (first + (length l - known)) Unknown ≡ Blank) → IsKnownEnd (reverse l) (known - first)
 known_end_mirrored l known first within are blank = record {
   within = omega (arith, length-reverse l);
   known = λ i h. are i (omega arith);
   closed = λ some.
       let e : length l - 1 - (known - first - 1) ≡ first + (length l - known) = omega arith in
-      rw (get_or-reverse l (known - first - 1) Unknown (omega arith), e) (blank_is _ (blank (omega arith)));
+      rw (get_or-reverse l (known - first - 1) Unknown (omega arith), e) (blank (omega arith));
 }
 
 -- the mask of a test of the line's cells, on the mirrored line or as it is

@@ -8,6 +8,7 @@ ghost use Rattle.grid_core.specs.Cells.{Extends, colour};
 ghost use Rattle.line_core.specs.Placings.{is_placing};
 ghost use Rattle.line_core.specs.Deduction.{deduced};
 ghost use Rattle.line_core.specs.RunStarts.{leftmost, rightmost, AreStarts};
+ghost use Rattle.line_core.specs.declared.lookahead.TheConstants.{MAX_LOOKAHEAD_LEN};
 ghost use Rattle.line_core.specs.Order.{AtMost};
 
 /// A deduced line knows at least what the line knows: each known cell keeps its colour.
@@ -53,6 +54,11 @@ pub fn rightmost_is_greatest()
     ensures { (line : List Cell) (clue starts : List ℕ) → rightmost line clue ≡ Some starts
         → AreStarts line clue starts
         × ((other : List ℕ) → AreStarts line clue other → pointwise nat_le other starts ≡ true) }
+{}
+
+/// Lookahead tables are built for lines of up to this many cells.
+pub fn limit_is_a_number()
+    ensures { MAX_LOOKAHEAD_LEN ≡ 128 }
 {}
 
 /// If there is a placing, there are a leftmost and a rightmost one.

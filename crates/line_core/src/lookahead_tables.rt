@@ -154,6 +154,7 @@ impl<W: LineBits> LookaheadTable<W> {
         requires buffers { length clue.now ≤ buffers.old.max_runs }
         ensures table { IsTableOf clue.now self.new }
         ensures line { self.new.line ≡ Some line.now }
+        ensures tables { tables.new ≡ tables.old }
         ensures buffers { buffers.new.max_runs ≡ buffers.old.max_runs }
     {
         make_entries(&mut self.lookaheads, line.len());
@@ -180,6 +181,7 @@ impl<W: LineBits> LookaheadTable<W> {
         ensures table { IsTableOf clue.now self.new }
         ensures line { length line.now ≤ MAX_LOOKAHEAD_LEN → length clue.now ≤ buffers.old.max_runs
             → self.new.line ≡ Some line.now }
+        ensures tables { tables.new ≡ tables.old }
         ensures buffers { buffers.new.max_runs ≡ buffers.old.max_runs }
     {
         if self.is_of(line) {

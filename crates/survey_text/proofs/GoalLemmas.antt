@@ -32,7 +32,7 @@ lines_decide full (line ∷ lines) =
     )
 
 -- the test of a full grid is true exactly if it meets the clues of the puzzle
-meets_decide : (p : Nonogram) (full : List Bool) → Decides (meets_clues p full) (Meets p full)
+pub meets_decide : (p : Nonogram) (full : List Bool) → Decides (meets_clues p full) (Meets p full)
 meets_decide p full =
     let lines = lines_decide full (lines_of p) in
     let size_test = length full == p.width * p.height in

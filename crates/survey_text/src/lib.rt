@@ -3,6 +3,7 @@
 
 mod entries;
 mod goals;
+pub mod laws;
 mod listed;
 mod listings;
 mod names;

@@ -6,7 +6,7 @@ use Rattle.std.proofs.lemmas.List.{map-append, take-map}
 use Rattle.std.proofs.lemmas.List.FromFn.{fill_by_all, map-range_with_len_more, take-map-range_with_len}
 use Rattle.grid_core.specs.declared.cells.Cell.TheVariants.{Unknown}
 use Rattle.grid_core.specs.Lines.{cell_with, line_cells}
-use Rattle.grid_core.proofs.LineCells.{cell_itself, cells-resized, has_by}
+use Rattle.grid_core.proofs.LineCells.{cell_itself, cells-resized, has_blank, has_by, has_filled}
 use Rattle.bit_sets.proofs.HasLemmas.{has_true, true_has}
 use Rattle.bit_sets.specs.Masks.{Has, has, IsMaskOf}
 use Rattle.survey_text.specs.Grids.{cell_byte}
@@ -72,7 +72,7 @@ returns g c =
     let long : length line ≤ n = omega (arith, whole.0) in
     let is_line : line ≡ line_cells (length line) f b =
     fill_by_all cells line (length line) Unknown refl (λ k h.
-    sym (rw (c.filled-filled.ensures k h, c.blank-blank.ensures k h) (cell_itself (get_or line k Unknown)))) in
+    sym (rw (has_filled f line c.filled-filled.ensures k, has_blank b line c.blank-blank.ensures k) (cell_itself (get_or line k Unknown)))) in
     c.truncate.ensures.items
     ∙ rw (ends, c.loop-part.invariant.added) (take-append-add text (map cell_byte (line_cells n f b)) (length line))
     ∙ ap (λ (bytes : List ℕ). text ++ bytes) (take-map cell_byte (length line) (line_cells n f b)
