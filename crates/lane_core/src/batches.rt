@@ -132,9 +132,12 @@ fn grade_next<G: Gate>(front: &mut LaneFront, back: &mut LaneBack, alloc: Global
 }
 
 impl Lane for BatchLane {
+    ghost use Rattle.rtrb.specs.Ring.{known_items};
     ghost use Rattle.lane_core.specs.Batch.{batch_front, batch_capacity, SameWork, SameWork-refl, SameWork-trans, SameWork-capacity};
 
     ghost lists = { batch_front };
+
+    ghost known_answers = { λ lane. known_items lane.front.answers };
 
     ghost capacity = { batch_capacity };
 

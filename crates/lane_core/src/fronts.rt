@@ -40,9 +40,12 @@ impl LaneFront {
 
 impl Lane for LaneFront {
     ghost use Rattle.std.specs.Prelude.{refl};
+    ghost use Rattle.rtrb.specs.Ring.{known_items};
     ghost use Rattle.lane_core.specs.Ends.{front_lists, front_capacity, SameFront, SameFront-refl, SameFront-trans, SameFront-capacity};
 
     ghost lists = { front_lists };
+
+    ghost known_answers = { λ front. known_items front.answers };
 
     ghost capacity = { front_capacity };
 

@@ -9,6 +9,13 @@ pub trait Gate {
     /// Called by a survey of this many entries once its puzzles are graded and before anything is
     /// written. It always returns. Does nothing unless the gate defines it.
     fn close(&self, _entries: usize) {}
+
+    /// Called by a survey that can't start the thread of a worker. A gate that has a thread of its
+    /// own ends it and returns true, and the survey tries again. It always returns. Does nothing
+    /// unless the gate defines it.
+    fn give_up_thread(&self) -> bool {
+        false
+    }
 }
 
 /// A gate that lets each job through at once.

@@ -1,6 +1,7 @@
 //! The interface of a lane to its collector.
 
-ghost use Rattle.std.specs.Prelude.{◌≡◌, ◌↔◌, ◌≤◌, ℕ, length, true, OnOk, OnErr, IfErr, IfSome, IfNone};
+ghost use Rattle.std.specs.Prelude.{◌≡◌, ◌↔◌, ◌≤◌, ℕ, List, length, true, OnOk, OnErr, IfErr, IfSome, IfNone};
+ghost use Rattle.lane_core.specs.declared.answers.Answer.{Answer};
 ghost use Rattle.lane_core.specs.Messages.{has_finish};
 ghost use Rattle.lane_core.specs.Lane.{FrontLists, PutsMessage, ReceivesAnswer};
 ghost use Rattle.lane_core.specs.Sending.{IsRefusal};
@@ -15,6 +16,9 @@ use crate::messages::Message;
 pub trait Lane {
     /// The messages sent, and the answers received.
     ghost lists: { Self → FrontLists };
+
+    /// The answers that this end has seen and not received.
+    ghost known_answers: { Self → List Answer };
 
     /// How many messages, and how many answers, the lane's rings hold.
     ghost capacity: { Self → ℕ };
@@ -54,7 +58,8 @@ pub trait Lane {
         ensures lane { same_lane self.old self.new }
         ensures some { IfSome result
             (λ answer. ReceivesAnswer answer (lists self.old) (lists self.new)) }
-        ensures none { IfNone result (lists self.new ≡ lists self.old) };
+        ensures none { IfNone result (lists self.new ≡ lists self.old) }
+        ensures idle { IfNone result (length (known_answers self.old) ≡ 0) };
 
     ghost same_lane_refl: { (a : Self) → same_lane a a };
 
