@@ -1,6 +1,6 @@
 //! Running a task on a list in chunks, each in a thread of its own.
 
-ghost use Rattle.std.specs.Prelude.{◌≡◌, ◌≤◌, ◌<◌, ◌+◌, ◌++◌, ◌^◌, ℕ, List, IfOk, length};
+ghost use Rattle.std.specs.Prelude.{◌≡◌, ◌≤◌, ◌<◌, ◌+◌, ◌-◌, ◌*◌, ◌++◌, ◌^◌, ℕ, List, IfOk, length};
 ghost use Rattle.std.specs.Thread.{IsSync, IsSend};
 
 use grid_core::NoMemory;
@@ -11,7 +11,10 @@ const MIN_CHUNK: usize = 32;
 
 /// Returns in how many chunks a task on `items` items is to run: one for each of `lanes` lanes, or
 /// fewer, so that each has at least 32 items. With 0 or 1 the list is not divided.
-pub fn chunk_count(items: usize, lanes: u16) -> usize {
+pub fn chunk_count(items: usize, lanes: u16) -> usize
+    ensures lanes { result ≤ lanes }
+    ensures size { result * 32 ≤ items }
+{
     usize::from(lanes).min(items / MIN_CHUNK)
 }
 
@@ -104,7 +107,11 @@ fn split_and_join<R: Threads + Sync, T: Sync, W: ChunkTask<T, Output = X> + Sync
 /// division leaves over goes to the other chunks.
 fn chunk_start(count: usize, some: usize, chunks: usize) -> usize
     requires { (some ≤ chunks) × (0 < chunks) }
-    ensures { result ≤ count }
+    ensures within { result ≤ count }
+    // If there are `least` items for each chunk, each has at least as many.
+    ensures front { (least : ℕ) → chunks * least ≤ count → some * least ≤ result }
+    ensures behind { (least : ℕ) → chunks * least ≤ count
+        → (chunks - some) * least ≤ count - result }
 {
     count / chunks * some
 }

@@ -36,7 +36,7 @@ struct Shared {
     is_graded: AtomicBool,
     /// How many entries the survey has, once it is graded.
     entries: AtomicUsize,
-    /// Whether the gate is gone, and the thread is to end.
+    /// Whether the thread is to end, since the gate is gone or gives it up.
     is_over: AtomicBool,
 }
 
@@ -91,6 +91,7 @@ impl<R: Clock + Copy, E: Write + Drop> Reporting<R, E> {
         for nap in 1..u64::MAX {
             thread::sleep(&reporting.rt, Duration::from_millis(NAP));
             if reporting.shared.is_over.load(Ordering::SeqCst) {
+                reporting.shared.is_reporting.store(false, Ordering::SeqCst);
                 return;
             }
             reporting.look(nap % NAPS_PER_LINE == 0);
@@ -146,9 +147,9 @@ impl Drop for Owner {
 
 /// A gate that delays no job, and reports how many have entered on a line that overwrites itself.
 ///
-/// A thread of its own prints the line, at most ten times in a second. If it can't be started,
-/// nothing is reported. A writer that accepts nothing holds up that thread alone, which then ends
-/// with the process.
+/// A thread of its own prints the line, at most ten times in a second. If it can't be started, or
+/// is given up since a worker's couldn't be, nothing is reported. A writer that accepts nothing
+/// holds up that thread alone, which then ends with the process.
 #[derive(Drop)]
 pub struct ProgressGate<R> {
     rt: R,
@@ -211,5 +212,22 @@ impl<R: Clock> Gate for ProgressGate<R> {
         shared.entries.store(entries, Ordering::SeqCst);
         shared.is_graded.store(true, Ordering::SeqCst);
         self.end();
+    }
+
+    fn give_up_thread(&self) -> bool {
+        let shared = &self.owner.shared;
+        if !shared.is_reporting.load(Ordering::SeqCst) {
+            return false;
+        }
+        shared.is_over.store(true, Ordering::SeqCst);
+        for _ in 0..LONGEST_WAIT {
+            thread::sleep(&self.rt, Duration::from_millis(1));
+            if !shared.is_reporting.load(Ordering::SeqCst) {
+                // All that is left for the thread is to exit.
+                thread::sleep(&self.rt, Duration::from_millis(NAP));
+                return true;
+            }
+        }
+        false
     }
 }

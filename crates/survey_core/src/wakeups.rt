@@ -1,7 +1,7 @@
 //! How the two ends of a lane wake each other: an end with nothing to do parks, and the other end
 //! wakes it.
 
-ghost use Rattle.std.specs.Prelude.{◌≡◌, IfOk, vec_len};
+ghost use Rattle.std.specs.Prelude.{◌≡◌, ◌≤◌, ◌+◌, ◌*◌, IfOk, vec_len};
 
 use grid_core::NoMemory;
 use std::alloc::Global;
@@ -22,7 +22,11 @@ pub fn worker_parkers(alloc: Global, workers: usize) -> Result<Vec<Parker>, NoMe
 /// Returns how many answers a worker puts, at most, before it wakes the collector: half of the
 /// capacity of its ring, `ring`, and at least 1. The collector then refills the lane while the
 /// worker grades the other half.
-pub fn wake_interval(ring: usize) -> usize {
+pub fn wake_interval(ring: usize) -> usize
+    ensures some { 1 ≤ result }
+    ensures half { 2 ≤ ring → 2 * result ≤ ring }
+    ensures most { ring ≤ 2 * result + 1 }
+{
     (ring / 2).max(1)
 }
 
