@@ -120,6 +120,28 @@ int pthread_create(pthread_t *thread, const pthread_attr_t *how, void *(*start)(
 END
 }
 
+# A library under which opening failing.non fails with the error ERROR.
+make_opens() {
+    cc -O2 -shared -fPIC -x c -o opens.so - <<'END'
+#define _GNU_SOURCE
+#include <errno.h>
+#include <linux/fcntl.h>
+#include <stdlib.h>
+#include <string.h>
+#include <sys/syscall.h>
+#include <unistd.h>
+
+int open64(const char *path, int how, int mode) {
+    if (strstr(path, "failing.non")) return errno = atoi(getenv("ERROR")), -1;
+    return syscall(SYS_openat, AT_FDCWD, path, how, mode);
+}
+
+int open(const char *path, int how, int mode) {
+    return open64(path, how, mode);
+}
+END
+}
+
 # Makes the files that the program is to read.
 make_files() {
     local ones
@@ -247,6 +269,13 @@ errors_slow() {
 # The first COUNT bytes of failing.non are read, and then it can't be read.
 file_failing() {
     local limits=(env LD_PRELOAD=./reads.so READABLE="$1")
+    shift
+    ordinary "$@"
+}
+
+# failing.non can't be opened, for the reason of the number ERROR.
+opening_fails() {
+    local limits=(env LD_PRELOAD=./opens.so ERROR="$1")
     shift
     ordinary "$@"
 }
@@ -428,6 +457,7 @@ two_lines=$'two\nlines.non'
 make_writes
 make_reads
 make_starts
+make_opens
 make_files
 make_texts
 
@@ -493,6 +523,11 @@ for words in 'survey heart.non' lines solve 'convert --to mk'; do
     for count in 0 5 9000; do
         try file_failing:$count Read - $words failing.non
     done
+    # ENOMEM, EACCES, EIO and EMFILE.
+    try opening_fails:12 NoMemory - $words failing.non
+    for error in 13 5 24; do
+        try opening_fails:$error Read - $words failing.non
+    done
 done
 for words in lines solve 'convert --to mk'; do
     try ordinary TooLong - $words zeros.non
@@ -537,6 +572,12 @@ if [ ${#another[@]} -gt 0 ]; then
     try threads:17 - survey survey --lanes 16
     try threads:2 - survey survey --lanes 1
     try threads:2 Thread - survey --lanes 4 $(lines 300 heart.non)
+    # The thread that reports the progress is given up for a worker's.
+    try threads:4 Thread - survey --progress
+    try threads:5 - survey survey --progress
+    try threads:6 told_input survey survey --progress
+    try threads:17 - survey survey --progress --lanes 16
+    try threads:5 - surveyed_300 survey --progress $(lines 300 heart.non)
     try threads:5 - surveyed_300 survey --lanes 4 $(lines 300 heart.non)
 else
     echo "left out: threads of which only some are refused"

@@ -85,6 +85,23 @@ fn reports_are_made_or_refused(rt: HostRuntime) -> Result<(), Fail> {
     Ok(())
 }
 
+/// Tests that a reporter's second report allocates no more than the two grids for solutions, which
+/// the first one gave away with its verdict.
+#[test]
+fn buffers_are_kept_for_the_next_report(rt: HostRuntime) -> Result<(), Fail> {
+    let alloc = rt.alloc();
+    let puzzle = puzzle_with(alloc, &[ONE, ONE, ONE], &[ONE, ONE, ONE]).ok_or("puzzle")?;
+    let mut reporter = Reporter::new();
+    let first = reporter.report(alloc, &puzzle, 3, Pick::First)?;
+    arm(alloc, 3);
+    let second = reporter.report(alloc, &puzzle, 3, Pick::First);
+    assert!(rt; !disarm(alloc), "a third allocation");
+    assert!(rt; is_found(&first, &puzzle, 3));
+    assert!(rt; is_found(&second?, &puzzle, 3));
+    assert!(rt; is_active(alloc));
+    Ok(())
+}
+
 /// Tests a puzzle of eight cells, of which lines make none known and trials all.
 #[test]
 fn closing_takes_no_memory(rt: HostRuntime) -> Result<(), Fail> {

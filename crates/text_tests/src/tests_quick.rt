@@ -1,9 +1,9 @@
-//! Tests that the quick readers accept each text that a writer returns, with LF and with CR LF.
-//! Their contracts allow them to accept nothing.
+//! Tests that the quick readers accept each text that a writer returns, with LF and with CR LF, and
+//! in `.non` with comments. Their contracts allow them to accept nothing.
 
 use grid_core::{Clue, Field, MAX_SIDE, Puzzle, Texts};
 use puzzle_text::*;
-use std::alloc::Global;
+use std::alloc::{AllocError, Global};
 use std::test::Fail;
 
 /// A linear congruential generator of pseudorandom numbers, with its state.
@@ -120,6 +120,28 @@ fn are_taken(alloc: Global, puzzle: &Puzzle) -> Result<bool, Fail> {
         }
     }
     Ok(true)
+}
+
+/// Returns `text` with a comment above it and one below it.
+fn with_comments(alloc: Global, text: &[u8]) -> Result<Vec<u8>, AllocError> {
+    let mut longer = Vec::new(alloc);
+    let pieces: [&[u8]; 3] = [b"# above\n", text, b"# below\n"];
+    for piece in pieces {
+        longer.extend_from_slice(piece)?;
+    }
+    Ok(longer)
+}
+
+#[test]
+fn commented_texts_are_taken(rt: HostRuntime) -> Result<(), Fail> {
+    let alloc = rt.alloc();
+    let mut draws = Draws(2);
+    for _ in 0..100 {
+        let text = Format::Non.write(alloc, &drawn_puzzle(alloc, &mut draws)?)?;
+        let commented = with_comments(alloc, &text)?;
+        assert!(rt; is_taken(alloc, Format::Non, &commented, &text)?);
+    }
+    Ok(())
 }
 
 #[test]
