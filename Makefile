@@ -14,6 +14,8 @@ test:
 	tools/gate.sh
 wrong-bodies:
 	tools/wrong_bodies.sh $(CRATES)
+instructions: $(PROGRAM)
+	benches/run.py record
 look:
 	cd crates/nonograde && rt try --data heart.non=../../puzzles/heart.non -- solve heart.non
 install: $(PROGRAM)
@@ -23,4 +25,5 @@ uninstall:
 dist: $(PROGRAM)
 	@tools/install.sh --pack out
 # `make wrong-bodies CRATES='line_core solve_core'` tries those of some crates, without names those of all.
-.PHONY: program test wrong-bodies look install uninstall dist
+# `make instructions` records how many instructions the program takes, of which the gate fails if they rise.
+.PHONY: program test wrong-bodies instructions look install uninstall dist

@@ -33,8 +33,8 @@ lacking() {
     compiles || echo gcc libc6-dev
     parallel --version | grep -q '^GNU parallel' || echo parallel
     hash sshd ssh rsync gawk shellcheck || echo openssh-server openssh-client rsync gawk shellcheck
-    hash make mandoc man zsh fish lintian || echo make mandoc man-db zsh fish lintian
-    hash python3 || echo python3
+    hash make mandoc man zsh fish lintian valgrind || echo make mandoc man-db zsh fish lintian valgrind
+    hash python3 rustc || echo python3 rustc
 } 2>/dev/null
 
 # Installs the packages of which something is missing.
@@ -51,7 +51,8 @@ install_packages() {
 }
 
 # Checks what needs no program: that ShellCheck finds nothing in any script, that no public contract rests on a
-# definition that only private calls need, and that the page on proofs says how many there are for the headline.
+# definition that only private calls need, and that the page on proofs says how many there are for the headline. Makes what
+# the program is compared with, too.
 check_texts() {
     local scripts=(.ci/run bin/* tools/*.sh) said
     install_packages || return
@@ -59,6 +60,7 @@ check_texts() {
     said=$(tools/promises.py) || { tail -n 5 <<<"$said"; return 1; }
     said=$(tools/promises.py headline | tail -n 1)
     grep -qF "$said" docs/proofs.md || { echo "docs/proofs.md doesn't say $said"; return 1; }
+    benches/run.py make || return
     echo "$((${#scripts[@]} + 2)) passed, 0 failed"
 }
 
@@ -151,5 +153,6 @@ compared=(--program crates/nonograde/out/nonograde --library out/library)
 begin tests/texts_test.py "${compared[@]}"
 begin tests/solving_test.py "${compared[@]}"
 begin tests/program_test.py "${compared[@]}"
-take "${others[@]}" tests/texts_test.py tests/solving_test.py tests/program_test.py
+begin benches/run.py test
+take "${others[@]}" tests/texts_test.py tests/solving_test.py tests/program_test.py benches/run.py
 end_gate 0

@@ -10,7 +10,7 @@ program=$(realpath "$program")
 unset NONOGRADE MANPATH MAKEFLAGS MAKELEVEL MFLAGS
 open_room
 mkdir -p "$room/home" "$room/clone/crates/nonograde/out"
-cd "$tools/.." && cp -r Makefile ./*.md bin docs man completions puzzles tests tools "$room/clone" || exit
+cd "$tools/.." && cp -r Makefile ./*.md bin docs man completions puzzles tests benches tools "$room/clone" || exit
 cp "$program" "$room/clone/crates/nonograde/out/nonograde"
 words=$(find crates -path '*/src/*.rt' ! -path '*/nonograde_c/*' -exec grep -hoE 'FaultWord::(alone|at_line)\("[A-Za-z]+"' {} + |
     cut -d '"' -f 2 | sort -u)
