@@ -1,5 +1,5 @@
--- The values that `clap` parsed, and the definitions of commands.
-use Rattle.std.proofs.Common.{◌≡◌, ◌∙◌, ◌≤◌, ◌<◌, ◌^◌, ℕ, Bool, List, [], Option, Some, None, Result, Ok, Err, IfOk, ◌||◌, refl, ap, arith, option_map}
+-- The values that `clap` parsed, the definitions of commands, and words that give no request.
+use Rattle.std.proofs.Common.{◌≡◌, ◌∙◌, ◌≤◌, ◌<◌, ◌^◌, ℕ, Bool, List, [], Option, Some, None, Result, Ok, Err, IfOk, IsErrAnd, ◌||◌, ◌≢◌, inl, inr, true, refl, ap, arith, option_map, subst}
 use Rattle.std.specs.Prelude.{unwrap_or}
 use Rattle.std.specs.Borrow.{Bor}
 use Rattle.std.specs.Str.Parse.{ExplainsUnsignedError, HasUnsignedDigitsIfOk, ParsesUnsigned, digits_value, without_leading_plus}
@@ -14,8 +14,15 @@ use Rattle.clap.specs.Simple.{App}
 use Rattle.clap.specs.declared.builder.command.Command.{Command}
 use Rattle.clap.specs.declared.parser.matches.Found.{Found}
 use Rattle.clap.proofs.WalkLemmas.{first_value-rows, one_text-rows, raw_values-rows}
-use Rattle.command_line.specs.Words.{IsNumberIn, text_in, texts_in}
-use Rattle.command_line.specs.steps.Words.{IsArgument, IsCommand}
+use Rattle.clap.specs.Words.{HasKind, HasMatchesOf, IsAmong, app_of, fault_of, is_simple, is_simple_and_free, kind_of, subcommand_rows_of}
+use Rattle.clap.specs.declared.parser.matches.ArgMatches.{ArgMatches}
+use Rattle.clap.specs.declared.error.Error.{Error}
+use Rattle.clap.specs.declared.error.kind.ErrorKind.TheVariants.{OutOfMemory}
+use Rattle.command_line.specs.Words.{AreRefused, AsksIn, Choices, IsAsked, IsNumberIn, IsProgram, WordsGive, program_app, text_in, texts_in}
+use Rattle.command_line.specs.declared.command.CommandFault.{CommandFault}
+use Rattle.command_line.specs.declared.command.CommandFault.TheVariants.{Words, NoMemory}
+use Rattle.command_line.specs.declared.command.Request.{Request}
+use Rattle.command_line.specs.steps.Words.{IsArgument, IsCommand, Parses}
 use Rattle.std.specs.declared.alloc.AllocError.{AllocError}
 
 -- what `from_str` of an unsigned number returns
@@ -92,3 +99,51 @@ pub added_if_ok : (app : App) (rule : Rule) (old : Command) (arg : Arg) (result 
     IsCommand app old → IsArgument rule arg → IfOk result (AddsArg old arg) → IfOk result (IsCommand (with_rule app rule))
 added_if_ok app rule old arg (Ok new) command argument adds = added app rule old new arg command argument adds
 added_if_ok app rule old arg (Err _) command argument adds = tt
+
+-- `clap`'s definitions say what it makes of all words for the program
+pub program_is_simple : (formats picks : Choices)
+    → (is_simple (program_app formats picks) ≡ true) × (is_simple_and_free (program_app formats picks) ≡ true)
+program_is_simple formats picks = (refl, refl)
+
+-- what the entries that `clap` found ask for, the words ask for
+pub request_parses : (app : App) (program : Command) (words : List Text) (found : ArgMatches) (asked : Option Request)
+    → IsCommand app program → is_simple app ≡ true → HasMatchesOf (app_of program) words found
+    → IsAsked (AsksIn (subcommand_rows_of found)) asked → Parses app words (Ok asked)
+request_parses app program words found asked command simple matches is =
+    let rows = (subst (λ a. HasMatchesOf a words found) command.shape matches simple).1 in
+    subst (λ r. IsAsked (AsksIn r) asked) rows is
+
+-- what an error of `clap` becomes is a fault for which it refuses the words
+pub fault_parses : (app : App) (program : Command) (words : List Text) (error : Error) (result : Result (Option Request) CommandFault)
+    → IsCommand app program → is_simple_and_free app ≡ true
+    → (is_simple_and_free (app_of program) ≡ true → HasKind (fault_of (app_of program) words) error)
+    → IsErrAnd result (λ fault. (kind_of error ≡ OutOfMemory → fault ≡ NoMemory) × (kind_of error ≢ OutOfMemory → fault ≡ Words error))
+    → Parses app words result
+fault_parses app program words error result command simple kinds becomes =
+    by_kind result (subst (λ a. is_simple_and_free a ≡ true → HasKind (fault_of a words) error) command.shape kinds simple) becomes
+  where
+    by_kind : (result : Result (Option Request) CommandFault) → HasKind (fault_of app words) error
+        → IsErrAnd result (λ fault. (kind_of error ≡ OutOfMemory → fault ≡ NoMemory) × (kind_of error ≢ OutOfMemory → fault ≡ Words error))
+        → Parses app words result
+    by_kind (Ok asked) kind becomes = absurd becomes
+    by_kind (Err NoMemory) kind becomes = tt
+    by_kind (Err (Words other)) (inl memory) becomes =
+        let is : Words other ≡ NoMemory = becomes.0 memory in cc
+    by_kind (Err (Words other)) (inr among) becomes =
+        let is : Words other ≡ Words error = becomes.1 (λ memory. let never : Words other ≡ NoMemory = becomes.0 memory in cc) in
+        let same : error ≡ other = cc in
+        subst (λ e. IsAmong (kind_of e) (fault_of app words)) same among
+
+-- words that `clap` refuses for the program are refused
+pub refused_by_clap : (app : App) (parsed words : List Text) (fault : CommandFault) (result : Result Request CommandFault) → IsProgram app
+    → parsed ≡ words → Parses app parsed (Err fault) → IsErrAnd result (λ returned. returned ≡ fault) → WordsGive words result
+refused_by_clap app parsed words fault (Ok request) program same parses is = absurd is
+refused_by_clap app parsed words (Words error) (Err returned) program same parses is =
+    rw is (app, program, inl (subst (λ w. IsAmong (kind_of error) (fault_of app w)) same parses))
+refused_by_clap app parsed words NoMemory (Err returned) program same parses is = rw is tt
+
+-- words that ask the program for no request are refused
+pub refused_without_request : (app : App) (words : List Text) (fault : CommandFault) → IsProgram app
+    → Parses app words (Ok None) → AreRefused words fault
+refused_without_request app words (Words error) program parses = (app, program, inr parses)
+refused_without_request app words NoMemory program parses = tt

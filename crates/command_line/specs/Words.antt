@@ -1,5 +1,5 @@
 -- The command line: the commands as `clap` knows them, and what the values that it parsed ask for.
-use Rattle.std.specs.Prelude.{◌≡◌, ◌≤◌, ℕ, pos, Bool, true, false, List, [], ◌∷◌, ◌++◌, map, codes, decimal, Option, Some, None, unwrap_or, if◌then◌else◌, string_bytes}
+use Rattle.std.specs.Prelude.{◌≡◌, ◌≤◌, ◌⊎◌, ℕ, pos, Bool, true, false, List, [], ◌∷◌, ◌++◌, map, codes, decimal, Option, Some, None, Result, Ok, Err, unwrap_or, if◌then◌else◌, string_bytes}
 use Rattle.std.specs.Borrow.{Bor}
 use Rattle.std.specs.List.{find}
 use Rattle.std.specs.Str.{bytes_eq}
@@ -7,6 +7,7 @@ use Rattle.std.specs.Str.Parse.{IsNumeral, digits_value, without_leading_plus}
 use Rattle.clap.specs.Lexer.{usize_max}
 use Rattle.clap.specs.Walk.{Row, Rule, Text, all_of, first_of, one_of}
 use Rattle.clap.specs.Simple.{App, new_app, new_rule, subcommand_of}
+use Rattle.clap.specs.Words.{IsAmong, fault_of, kind_of}
 use Rattle.clap.specs.declared.builder.action.ArgAction.TheVariants.{Append, SetTrue}
 use Rattle.clap.specs.declared.builder.value_parser.ValueParser.{ValueParser}
 use Rattle.clap.specs.declared.builder.value_parser.ValueParser.TheVariants.{Names, Signed}
@@ -16,6 +17,8 @@ use Rattle.solve_core.specs.declared.picks.Pick.TheVariants.{First, Most}
 use Rattle.survey_core.specs.declared.settings.Settings.{Settings}
 use Rattle.lane_core.specs.declared.jobs.TheConstants.{MAX_GUESSES}
 use Rattle.survey_core.specs.declared.settings.TheConstants.{DEFAULT_GUESSES, DEFAULT_LANES, DEFAULT_RING, MAX_RING, MAX_LANES}
+use Rattle.command_line.specs.declared.command.CommandFault.{CommandFault}
+use Rattle.command_line.specs.declared.command.CommandFault.TheVariants.{Words, NoMemory}
 use Rattle.command_line.specs.declared.command.Request.{Request}
 use Rattle.command_line.specs.declared.command.SurveyRequest.{SurveyRequest}
 use Rattle.command_line.specs.declared.command.Request.TheVariants.{Survey, Solve, Convert, Lines}
@@ -92,9 +95,9 @@ convert_app formats = command_app (codes "convert") (to_rule formats ∷ file_ru
 abbrev pub lines_app : App
 lines_app = command_app (codes "lines") (file_rule ∷ [])
 
--- the program with the commands that grade puzzles
-abbrev pub grading_app : Choices → App
-grading_app picks = record {
+-- the program, with its four commands
+abbrev pub program_app : Choices → Choices → App
+program_app formats picks = record {
   top = record (new_app (codes "nonograde")).top {
     no_binary_name = true;
     has_version = true;
@@ -102,21 +105,8 @@ grading_app picks = record {
     subcommand_required = true;
     is_leaf = false;
   };
-  subs = (survey_app picks).top ∷ (solve_app picks).top ∷ [];
-}
-
--- the program with the commands that grade puzzles and the command `convert`
-abbrev pub converting_app : Choices → Choices → App
-converting_app formats picks = record {
-  top = (grading_app picks).top;
-  subs = (grading_app picks).subs ++ (convert_app formats).top ∷ [];
-}
-
--- the program, with its four commands
-abbrev pub program_app : Choices → Choices → App
-program_app formats picks = record {
-  top = (converting_app formats picks).top;
-  subs = (converting_app formats picks).subs ++ lines_app.top ∷ [];
+  subs = (survey_app picks).top ∷ (solve_app picks).top ∷ (convert_app formats).top
+      ∷ lines_app.top ∷ [];
 }
 
 -- if `text` is a numeral from `least` to `most`, n is its number
@@ -180,11 +170,33 @@ abbrev pub AsksIn : Option (Text × List Row) → Request → Type 0
 AsksIn None request = ⊥
 AsksIn (Some (command, rows)) request = Asks command rows request
 
--- the words after the program's name ask for this request, as `clap` parses them for the program's
--- commands
-pub record WordsAsk (words : List Text) (request : Request) : Type 0 where
+-- the request, if there is one, is asked for; if there is none, no request is
+abbrev pub IsAsked : (Request → Type 0) → Option Request → Type 0
+IsAsked asks None = (request : Request) → asks request → ⊥
+IsAsked asks (Some request) = asks request
+
+-- `app` is the program, with the words of all formats and of all guess rules
+pub record IsProgram (app : App) : Type 0 where
   pub formats : Choices
   pub picks : Choices
   pub format_words : map (λ s. s.now) formats.now ≡ map word all_formats
   pub pick_words : map (λ s. s.now) picks.now ≡ codes "first" ∷ codes "most" ∷ []
-  pub asks : AsksIn (subcommand_of (program_app formats picks) words) request
+  pub is : app ≡ program_app formats picks
+
+-- the words after the program's name ask for this request, as `clap` parses them for the program's
+-- commands
+abbrev pub WordsAsk : List Text → Request → Type 0
+WordsAsk words request = (app : App) × IsProgram app × AsksIn (subcommand_of app words) request
+
+-- why the words after the program's name give no request: an allocation failed, `clap` refuses them
+-- for the program's commands by an error of this kind, or what it accepts asks for no request
+abbrev pub AreRefused : List Text → CommandFault → Type 0
+AreRefused words (Words error) = (app : App) × IsProgram app
+    × (IsAmong (kind_of error) (fault_of app words)
+    ⊎ IsAsked (AsksIn (subcommand_of app words)) None)
+AreRefused words NoMemory = Unit {0}
+
+-- what the words after the program's name give: a request that they ask for, or why there is none
+abbrev pub WordsGive : List Text → Result Request CommandFault → Type 0
+WordsGive words (Ok request) = WordsAsk words request
+WordsGive words (Err fault) = AreRefused words fault

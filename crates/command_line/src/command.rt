@@ -1,14 +1,14 @@
 //! Parsing the command line into a request.
 
-ghost use Rattle.std.specs.Prelude.{◌≡◌, ◌≢◌, ◌≤◌, IfOk, IfSome, map, string_bytes, codes};
+ghost use Rattle.std.specs.Prelude.{◌≡◌, ◌≢◌, ◌≤◌, IfOk, IfSome, MatchOption, None, map, string_bytes, codes};
 ghost use Rattle.clap.specs.Walk.{one_of, rows_of};
-ghost use Rattle.clap.specs.Simple.{App, subcommand_of};
+ghost use Rattle.clap.specs.Simple.{App};
 ghost use Rattle.clap.specs.Words.{found_of, kind_of, subcommand_rows_of};
 ghost use Rattle.clap.specs.declared.error.kind.ErrorKind.TheVariants.{OutOfMemory};
 ghost use Rattle.command_line.specs.declared.command.CommandFault.TheVariants.{NoMemory as command_memory, Words as refused_words};
 ghost use Rattle.command_line.specs.Ranges.{HasSettingsInRange};
-ghost use Rattle.command_line.specs.Words.{AreSettingsIn, Asks, AsksIn, AsksSurvey, Choices, IsNumberIn, WordsAsk, command_app, convert_app, converting_app, file_rule, files_rule, grading_app, grading_rules, guesses_rule, lanes_rule, lines_app, pick_of_word, pick_rule, program_app, progress_rule, ring_rule, show_rule, solve_app, survey_app, text_in, texts_in, to_rule};
-ghost use Rattle.command_line.specs.steps.Words.{IsArgument, IsCommand, bare_app};
+ghost use Rattle.command_line.specs.Words.{AreSettingsIn, Asks, AsksIn, AsksSurvey, Choices, IsAsked, IsNumberIn, WordsGive, command_app, convert_app, file_rule, files_rule, grading_rules, guesses_rule, lanes_rule, lines_app, pick_of_word, pick_rule, program_app, progress_rule, ring_rule, show_rule, solve_app, survey_app, text_in, texts_in, to_rule};
+ghost use Rattle.command_line.specs.steps.Words.{IsArgument, IsCommand, Parses, bare_app, converting_app, grading_app};
 
 use clap::error::ErrorKind;
 use clap::{Arg, ArgAction, ArgMatches, Command, Error, value_parser};
@@ -402,7 +402,9 @@ fn pick_of(matches: &ArgMatches<'_>) -> Option<Pick>
 /// Returns the settings of a survey, or `None` if there is no such guess rule. `clap` has refused
 /// values out of range; they are clamped for the same reason as in `guesses_of`.
 fn settings_of(matches: &ArgMatches<'_>) -> Option<Settings>
-    ensures { IfSome result (AreSettingsIn (rows_of (found_of matches.now))) }
+    ensures { MatchOption result
+        (pick_of_word (text_in (codes "pick") (rows_of (found_of matches.now))) ≡ None)
+        (AreSettingsIn (rows_of (found_of matches.now))) }
 {
     let pick = pick_of(matches)?;
     let lanes = matches.get_one::<u16>("lanes").unwrap_or(DEFAULT_LANES);
@@ -417,10 +419,10 @@ fn settings_of(matches: &ArgMatches<'_>) -> Option<Settings>
 }
 
 /// Returns the survey that is asked for, or `None` if there is no such guess rule.
-fn survey_of(alloc: Global, matches: &ArgMatches<'_>) -> Result<Option<Request>, CommandFault>
+fn survey_of(alloc: Global, matches: &ArgMatches<'_>) -> Result<Option<Request>, NoMemory>
     ensures range { IfOk result (λ asked. IfSome asked HasSettingsInRange) }
-    ensures asked { IfOk result (λ asked.
-        IfSome asked (Asks (codes "survey") (rows_of (found_of matches.now)))) }
+    ensures asked { IfOk result
+        (IsAsked (Asks (codes "survey") (rows_of (found_of matches.now)))) }
 {
     let Some(settings) = settings_of(matches) else {
         return Ok(None);
@@ -433,10 +435,10 @@ fn survey_of(alloc: Global, matches: &ArgMatches<'_>) -> Result<Option<Request>,
 }
 
 /// Returns the solving that is asked for, or `None` if there is no such guess rule.
-fn solving_of(alloc: Global, matches: &ArgMatches<'_>) -> Result<Option<Request>, CommandFault>
+fn solving_of(alloc: Global, matches: &ArgMatches<'_>) -> Result<Option<Request>, NoMemory>
     ensures range { IfOk result (λ asked. IfSome asked HasSettingsInRange) }
-    ensures asked { IfOk result (λ asked.
-        IfSome asked (Asks (codes "solve") (rows_of (found_of matches.now)))) }
+    ensures asked { IfOk result
+        (IsAsked (Asks (codes "solve") (rows_of (found_of matches.now)))) }
 {
     let Some(pick) = pick_of(matches) else {
         return Ok(None);
@@ -447,10 +449,10 @@ fn solving_of(alloc: Global, matches: &ArgMatches<'_>) -> Result<Option<Request>
 
 /// Returns the conversion that is asked for, or `None` if no format has the name that is given,
 /// which `clap` doesn't let happen.
-fn conversion_of(alloc: Global, matches: &ArgMatches<'_>) -> Result<Option<Request>, CommandFault>
+fn conversion_of(alloc: Global, matches: &ArgMatches<'_>) -> Result<Option<Request>, NoMemory>
     ensures range { IfOk result (λ asked. IfSome asked HasSettingsInRange) }
-    ensures asked { IfOk result (λ asked.
-        IfSome asked (Asks (codes "convert") (rows_of (found_of matches.now)))) }
+    ensures asked { IfOk result
+        (IsAsked (Asks (codes "convert") (rows_of (found_of matches.now)))) }
 {
     let Some(format) = Format::from_word(text_in(matches, "to")) else {
         return Ok(None);
@@ -463,10 +465,9 @@ fn request_of(
     alloc: Global,
     name: &str,
     matches: &ArgMatches<'_>,
-) -> Result<Option<Request>, CommandFault>
+) -> Result<Option<Request>, NoMemory>
     ensures range { IfOk result (λ asked. IfSome asked HasSettingsInRange) }
-    ensures asked { IfOk result (λ asked.
-        IfSome asked (Asks name.now (rows_of (found_of matches.now)))) }
+    ensures asked { IfOk result (IsAsked (Asks name.now (rows_of (found_of matches.now)))) }
 {
     match name {
         "survey" => survey_of(alloc, matches),
@@ -484,9 +485,9 @@ fn missing_command(command: &mut Command<'_>) -> Result<CommandFault, NoMemory> 
 }
 
 /// Returns what the command that `clap` found asks for, or `None` if there is no such command.
-fn request_in(alloc: Global, matches: &ArgMatches<'_>) -> Result<Option<Request>, CommandFault>
+fn request_in(alloc: Global, matches: &ArgMatches<'_>) -> Result<Option<Request>, NoMemory>
     ensures range { IfOk result (λ asked. IfSome asked HasSettingsInRange) }
-    ensures asked { IfOk result (λ asked. IfSome asked (AsksIn (subcommand_rows_of matches.now))) }
+    ensures asked { IfOk result (IsAsked (AsksIn (subcommand_rows_of matches.now))) }
 {
     match matches.subcommand() {
         Some((name, found)) => request_of(alloc, name, found),
@@ -501,19 +502,18 @@ fn request_by<'a>(
     words: &'a [String],
 ) -> Result<Option<Request>, CommandFault>
     ensures range { IfOk result (λ asked. IfSome asked HasSettingsInRange) }
-    ensures asked { (formats picks : Choices) → IsCommand (program_app formats picks) program.old
-        → IfOk result (λ asked. IfSome asked (AsksIn
-        (subcommand_of (program_app formats picks) (map string_bytes words.now)))) }
+    ensures parsed { (formats picks : Choices) → IsCommand (program_app formats picks) program.old
+        → Parses (program_app formats picks) (map string_bytes words.now) result }
 {
     let matches = program.try_get_matches_from_mut(words)?;
-    request_in(alloc, &matches)
+    Ok(request_in(alloc, &matches)?)
 }
 
 /// Parses the words after the program's name. An error holds `clap`'s message, which is help or the
 /// version if that is asked for.
 pub fn parse_words(alloc: Global, words: Vec<String>) -> Result<Request, CommandFault>
     ensures range { IfOk result HasSettingsInRange }
-    ensures asked { IfOk result (WordsAsk (map string_bytes words.items)) }
+    ensures given { WordsGive (map string_bytes words.items) result }
 {
     let formats = Format::words();
     let picks = ["first", "most"];

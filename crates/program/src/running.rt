@@ -8,7 +8,7 @@ ghost use Rattle.streams.specs.Counted.{fault_count};
 ghost use Rattle.command_line.specs.Ranges.{HasSettingsInRange};
 ghost use Rattle.program.specs.Printing.{IsUnwritten, Prints, stream};
 ghost use Rattle.program.specs.Stop.{stop_line};
-ghost use Rattle.command_line.specs.Words.{WordsAsk};
+ghost use Rattle.command_line.specs.Words.{WordsGive};
 ghost use Rattle.program.specs.Ending.{EndsAfter, EndsBy, EndsByWords, Stops};
 
 use crate::performing::{perform, print_text};
@@ -174,7 +174,7 @@ where
     requires telling { fault_count errors.old < 2 ^ 32 - 1 }
     ensures status { result ≤ 2 }
     ensures ends { (asked : Result Request CommandFault)
-        × IfOk asked (WordsAsk (map string_bytes words.items))
+        × WordsGive (map string_bytes words.items) asked
         × EndsBy asked (stream I.remaining input.old input.new) result
         (stream O.contents output.old output.new) (stream E.contents errors.old errors.new) }
 {

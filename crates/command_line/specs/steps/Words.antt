@@ -1,10 +1,15 @@
--- Commands and arguments as values of `clap`.
-use Rattle.std.specs.Prelude.{◌≡◌, false, true, [], codes}
-use Rattle.clap.specs.Walk.{Rule, rule_of}
-use Rattle.clap.specs.Simple.{App, app_of, new_app}
+-- Commands and arguments as values of `clap`, and what parsing by them results in.
+use Rattle.std.specs.Prelude.{◌≡◌, false, true, List, [], codes, Option, Result, Ok, Err}
+use Rattle.clap.specs.Walk.{Rule, Text, rule_of}
+use Rattle.clap.specs.Simple.{App, app_of, new_app, subcommand_of, with_subcommand}
+use Rattle.clap.specs.Words.{IsAmong, fault_of, kind_of}
 use Rattle.clap.specs.declared.builder.arg.Arg.{Arg}
 use Rattle.clap.specs.declared.builder.command.Command.{Command}
 use Rattle.clap.specs.declared.builder.command.Command.TheViews.{out-Command}
+use Rattle.command_line.specs.Words.{AsksIn, Choices, IsAsked, convert_app, solve_app, survey_app}
+use Rattle.command_line.specs.declared.command.CommandFault.{CommandFault}
+use Rattle.command_line.specs.declared.command.CommandFault.TheVariants.{Words, NoMemory}
+use Rattle.command_line.specs.declared.command.Request.{Request}
 
 -- the command has the definition `app`, and no argument of it applies to other commands
 pub record IsCommand (app : App) (command : Command) : Type 0 where
@@ -27,3 +32,19 @@ bare_app = record {
   };
   subs = [];
 }
+
+-- the program with the commands that grade puzzles
+abbrev pub grading_app : Choices → App
+grading_app picks =
+    with_subcommand (with_subcommand bare_app (survey_app picks).top) (solve_app picks).top
+
+-- the program with the commands that grade puzzles and the command `convert`
+abbrev pub converting_app : Choices → Choices → App
+converting_app formats picks = with_subcommand (grading_app picks) (convert_app formats).top
+
+-- what parsing the words by `clap` results in: a request that they ask for, none if they ask for
+-- none, or the fault for which `clap` refuses them
+abbrev pub Parses : App → List Text → Result (Option Request) CommandFault → Type 0
+Parses app words (Ok asked) = IsAsked (AsksIn (subcommand_of app words)) asked
+Parses app words (Err (Words error)) = IsAmong (kind_of error) (fault_of app words)
+Parses app words (Err NoMemory) = Unit {0}
