@@ -24,6 +24,12 @@ done
 cd "$room" || exit
 RT_JOBS=${RT_JOBS:-$(lanes)} rt ci "$@" >tried 2>&1
 proved=$?
+if [ $# != 0 ] && [ $proved = 2 ]; then
+    # This kit's `rt ci` takes no names. `rt must-fail` does, and builds on what `rt check` has proved.
+    (cd "$tools/.." && tar -c crates/*/out/rlib 2>"$room/said") | tar -x
+    rt must-fail "$@" >tried 2>&1
+    proved=$?
+fi
 "$tools/edits.py" <tried >said
 tried=$?
 [ $proved = 0 ] || [ $tried != 0 ] || { tail -n 20 tried; stop Proof; }
