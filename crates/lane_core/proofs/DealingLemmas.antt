@@ -1,6 +1,6 @@
 -- Lemmas on a collector's turn at a lane: what its loops keep, and how its three parts make up a turn.
 use Rattle.lane_core.proofs.Names.{Finish, rules, ◌≡◌, ◌⊎◌, inl, inr, ℕ, List, [], ◌∷◌, ◌++◌, length, ◌∙◌, append_assoc, length-append, arith, IsPrefix, jobs_of, has_finish, FrontLists, PutsMessage, MayRefuse, Deals, Grows, Job, Answer, Message, NewJob}
-use Rattle.lane_core.specs.steps.Dealing.{Sends, Asks, Takes}
+use Rattle.lane_core.specs.steps.Dealing.{Sends, SendsFinish, Takes}
 use Rattle.lane_core.proofs.MessagesLemmas.{jobs_of-append, jobs_of-push_finish, has_finish-push_new_job, has_finish-push_finish}
 use Rattle.lane_core.proofs.LaneLemmas.{prefix_more}
 
@@ -34,7 +34,7 @@ refused_or_asked capacity front left (inr may) asks = may
 
 -- the three parts of a turn, one after another, do what a call of `deal` does
 pub Deals-made : (capacity capacity' : ℕ) (old mid asked new : FrontLists) (waiting left : List Job) (got got' : List Answer) →
-    capacity' ≡ capacity → Sends capacity old mid waiting left → Asks capacity' mid asked left → Takes asked new got got'
+    capacity' ≡ capacity → Sends capacity old mid waiting left → SendsFinish capacity' mid asked left → Takes asked new got got'
     → Deals capacity old new waiting left got got'
 Deals-made capacity capacity' old mid asked new waiting left got got' same s (inl a) t =
     let sent = t.sent ∙ a.1.sent in

@@ -1,5 +1,5 @@
 -- What holds of a lane after any events, and that each step of its back keeps its answers in order.
-use Rattle.lane_core.proofs.Names.{arith, rules, ◌≡◌, inl, inr, ℕ, true, List, [], ◌∷◌, ◌++◌, refl, ap, sym, ◌∙◌, append_assoc, append-nil, Option, Some, None, option_to_list, IsPrefix, jobs_of, finish_is_last, IsAnswerTo, AreAnswersTo, BackLists, Lane, Event, Put_message, Take_message, Put_answer, Receive_answer, IsHeldFor, TakesMessage, Happens, Run, initial_lane, IsAnswered, StepsBeforeFinish, Job, Answer, Message, NewJob, Step, Graded, Waiting}
+use Rattle.lane_core.proofs.Names.{arith, rules, ◌≡◌, inl, inr, ℕ, true, List, [], ◌∷◌, ◌++◌, refl, ap, sym, ◌∙◌, append_assoc, append-nil, Option, Some, None, option_to_list, IsPrefix, jobs_of, finish_is_last, IsAnswerTo, AreAnswersTo, BackLists, Lane, LaneEvent, Put_message, Take_message, Put_answer, Receive_answer, IsHeldFor, TakesMessage, Happens, Run, initial_lane, IsAnswered, StepsBeforeFinish, Job, Answer, Message, NewJob, Step, Graded, Waiting}
 use Rattle.lane_core.specs.steps.PutOrHold.{IsPutOrHeld}
 use Rattle.lane_core.proofs.MessagesLemmas.{jobs_of-append, jobs_of-push_finish, finish_is_last-push}
 use Rattle.lane_core.proofs.AnswersLemmas.{AreAnswersTo-push}
@@ -29,7 +29,7 @@ pub prefix_more : {A : Type 0} (xs ys zs : List A) → IsPrefix xs ys → IsPref
 prefix_more xs ys zs h = (h.0 ++ zs, sym (append_assoc xs h.0 zs) ∙ ap (λ l. l ++ zs) h.1)
 
 -- each event keeps `IsLawful`
-IsLawful-happens : (event : Event) (old new : Lane) → IsLawful old → Happens event old new → IsLawful new
+IsLawful-happens : (event : LaneEvent) (old new : Lane) → IsLawful old → Happens event old new → IsLawful new
 IsLawful-happens (Put_message message) old new l h =
     let taken = prefix_more old.back.taken old.front.sent (message ∷ []) l.taken in
     search (rules, h.3, h.2.sent, h.2.received, finish_is_last-push, l.answered, l.received)
@@ -43,12 +43,12 @@ IsLawful-happens (Receive_answer answer) old new l h =
     search (rules, h.2, h.1.sent, h.1.received, h.0, l.answered, l.taken, l.last)
 
 -- events one after another keep `IsLawful`
-IsLawful-after : (events : List Event) (old new : Lane) → IsLawful old → Run old events new → IsLawful new
+IsLawful-after : (events : List LaneEvent) (old new : Lane) → IsLawful old → Run old events new → IsLawful new
 IsLawful-after [] old new l r = rw r l
 IsLawful-after (event ∷ events) old new l r = IsLawful-after events r.0 new (IsLawful-happens event old r.0 l r.1) r.2
 
 -- `IsLawful` holds after any events from a newly opened lane
-pub IsLawful-run : (capacity : ℕ) (events : List Event) (lane : Lane) → Run (initial_lane capacity) events lane → IsLawful lane
+pub IsLawful-run : (capacity : ℕ) (events : List LaneEvent) (lane : Lane) → Run (initial_lane capacity) events lane → IsLawful lane
 IsLawful-run capacity events lane =
     IsLawful-after events (initial_lane capacity) lane
     (record { answered = tt; taken = ([], refl); received = ([], refl); last = refl })

@@ -8,7 +8,7 @@ pub use mathlib.Core.List.{IsPrefix}
 pub use Rattle.lane_core.specs.Answers.{AreAnswersTo, IsAnswerTo}
 pub use Rattle.lane_core.specs.Dealing.{Deals, Grows, MayRefuse}
 pub use Rattle.lane_core.specs.Ends.{SameBack-trans, SameFront-trans, back_capacity, back_lists, front_lists}
-pub use Rattle.lane_core.specs.Lane.{BackLists, Event, FrontLists, Happens, IsAnswered, IsDrained, IsFinished, IsHeldFor, Lane, Put_answer, Put_message, PutsMessage, Receive_answer, Run, Take_message, TakesMessage, initial_lane}
+pub use Rattle.lane_core.specs.Lane.{BackLists, FrontLists, Happens, IsAnswered, IsDrained, IsFinished, IsHeldFor, Lane, LaneEvent, Put_answer, Put_message, PutsMessage, Receive_answer, Run, Take_message, TakesMessage, initial_lane}
 pub use Rattle.lane_core.specs.Messages.{finish_is_last, has_finish, jobs_of}
 pub use Rattle.lane_core.specs.Stepping.{IsWorkDone, StepRun, Steps, StepsBeforeFinish, Works}
 pub use Rattle.lane_core.specs.declared.answers.Answer.{Answer}

@@ -69,14 +69,14 @@ pub record PutsAnswer (answer : Answer) (old new : BackLists) : Type 0 where
 
 -- an event of a lane: the front sends a message or receives an answer, or the back takes a message
 -- or puts an answer
-pub data Event : Type 0 where
-  Put_message : (message : Message) → Event
-  Take_message : (message : Message) → Event
-  Put_answer : (answer : Answer) → Event
-  Receive_answer : (answer : Answer) → Event
+pub data LaneEvent : Type 0 where
+  Put_message : (message : Message) → LaneEvent
+  Take_message : (message : Message) → LaneEvent
+  Put_answer : (answer : Answer) → LaneEvent
+  Receive_answer : (answer : Answer) → LaneEvent
 
 -- an event can happen in the state `old`, and leads to the state `new`
-abbrev pub Happens : Event → Lane → Lane → Type 0
+abbrev pub Happens : LaneEvent → Lane → Lane → Type 0
 -- no finish was sent, and the ring is not full
 Happens (Put_message message) old new =
     (has_finish old.front.sent ≡ false)
@@ -100,7 +100,7 @@ Happens (Receive_answer answer) old new =
     × (new.back ≡ old.back) × (new.capacity ≡ old.capacity)
 
 -- the events can happen one after another from the state `old`, and lead to the state `new`
-abbrev pub Run : Lane → List Event → Lane → Type 0
+abbrev pub Run : Lane → List LaneEvent → Lane → Type 0
 Run old [] new = new ≡ old
 Run old (event ∷ events) new = (mid : Lane) × Happens event old mid × Run mid events new
 

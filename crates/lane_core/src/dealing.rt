@@ -5,7 +5,7 @@ ghost use Rattle.std.specs.VecDeque.{deque_capacity, deque_len};
 ghost use mathlib.Core.List.{IsPrefix};
 ghost use Rattle.lane_core.specs.Messages.{has_finish, jobs_of};
 ghost use Rattle.lane_core.specs.Dealing.{Deals, Grows};
-ghost use Rattle.lane_core.specs.steps.Dealing.{Asks, Sends, Takes};
+ghost use Rattle.lane_core.specs.steps.Dealing.{Sends, SendsFinish, Takes};
 
 use crate::answers::Answer;
 use crate::faults::SendFault;
@@ -66,7 +66,7 @@ fn send_waiting<L: Lane>(lane: &mut L, waiting: &mut VecDeque<Job, Global>) -> b
 /// Sends the finish if no job waits. Returns whether it was accepted.
 fn ask_finish<L: Lane>(lane: &mut L, waiting: &VecDeque<Job, Global>) -> bool
     ensures lane { L.same_lane lane.old lane.new }
-    ensures asked { Asks (L.capacity lane.old) (L.lists lane.old) (L.lists lane.new)
+    ensures asked { SendsFinish (L.capacity lane.old) (L.lists lane.old) (L.lists lane.new)
         waiting.now.items }
     ensures moved { IsTrue result ↔ Grows (L.lists lane.old) (L.lists lane.new) }
 {

@@ -5,7 +5,7 @@ ghost use Rattle.std.specs.Prelude.{◌≡◌, ℕ, List, length, take, true};
 ghost use mathlib.Core.List.{IsPrefix};
 ghost use Rattle.lane_core.specs.Messages.{jobs_of, finish_is_last};
 ghost use Rattle.lane_core.specs.Answers.{AreAnswersTo};
-ghost use Rattle.lane_core.specs.Lane.{Lane, Event, Run, initial_lane, IsAnswered, IsFinished, IsDrained};
+ghost use Rattle.lane_core.specs.Lane.{Lane, LaneEvent, Run, initial_lane, IsAnswered, IsFinished, IsDrained};
 ghost use Rattle.lane_core.specs.Ends.{front_lists, back_lists};
 ghost use Rattle.lane_core.specs.declared.fronts.LaneFront.{LaneFront};
 ghost use Rattle.lane_core.specs.declared.backs.LaneBack.{LaneBack};
@@ -19,19 +19,19 @@ ghost use Rattle.lane_core.specs.declared.dealing.TheConstants.{MAX_TAKEN};
 /// are answers. No message follows the finish.
 #[tactic(auto, using(crate::proofs::SettlingLemmas::lawful))]
 pub fn answers_in_order()
-    ensures answered { (capacity : ℕ) (events : List Event) (lane : Lane)
+    ensures answered { (capacity : ℕ) (events : List LaneEvent) (lane : Lane)
         → Run (initial_lane capacity) events lane
         → IsAnswered lane.back }
-    ensures taken { (capacity : ℕ) (events : List Event) (lane : Lane)
+    ensures taken { (capacity : ℕ) (events : List LaneEvent) (lane : Lane)
         → Run (initial_lane capacity) events lane
         → IsPrefix lane.back.taken lane.front.sent }
-    ensures received { (capacity : ℕ) (events : List Event) (lane : Lane)
+    ensures received { (capacity : ℕ) (events : List LaneEvent) (lane : Lane)
         → Run (initial_lane capacity) events lane
         → IsPrefix lane.front.received lane.back.put }
-    ensures last { (capacity : ℕ) (events : List Event) (lane : Lane)
+    ensures last { (capacity : ℕ) (events : List LaneEvent) (lane : Lane)
         → Run (initial_lane capacity) events lane
         → finish_is_last lane.front.sent ≡ true }
-    ensures so_far { (capacity : ℕ) (events : List Event) (lane : Lane)
+    ensures so_far { (capacity : ℕ) (events : List LaneEvent) (lane : Lane)
         → Run (initial_lane capacity) events lane
         → AreAnswersTo (take (length lane.front.received) (jobs_of lane.front.sent))
         lane.front.received }
@@ -41,7 +41,7 @@ pub fn answers_in_order()
 /// each and in the same order.
 #[tactic(auto, using(crate::proofs::SettlingLemmas::lawful))]
 pub fn drained_lanes_are_answered()
-    ensures { (capacity : ℕ) (events : List Event) (lane : Lane)
+    ensures { (capacity : ℕ) (events : List LaneEvent) (lane : Lane)
         → Run (initial_lane capacity) events lane
         → IsFinished lane.back → IsDrained lane.front lane.back
         → AreAnswersTo (jobs_of lane.front.sent) lane.front.received }

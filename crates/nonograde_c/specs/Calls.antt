@@ -22,22 +22,22 @@ use Rattle.nonograde_c.specs.declared.faults.Status.TheVariants as status
 use Rattle.nonograde_c.specs.declared.replies.Reply.{Reply}
 
 -- the number of a status
-abbrev pub number_of : Status → ℕ
-number_of status.Answered = 0
-number_of status.RoomTooSmall = 1
-number_of status.BadSetting = 2
-number_of status.UnknownFormat = 3
-number_of status.TooLong = 4
-number_of status.NoSize = 5
-number_of status.BadSize = 6
-number_of status.NoSection = 7
-number_of status.BadLine = 8
-number_of status.Twice = 9
-number_of status.BadCount = 10
-number_of status.BadNumber = 11
-number_of status.BadGoal = 12
-number_of status.Ambiguous = 13
-number_of status.NoMemory = 14
+abbrev pub status_number : Status → ℕ
+status_number status.Answered = 0
+status_number status.RoomTooSmall = 1
+status_number status.BadSetting = 2
+status_number status.UnknownFormat = 3
+status_number status.TooLong = 4
+status_number status.NoSize = 5
+status_number status.BadSize = 6
+status_number status.NoSection = 7
+status_number status.BadLine = 8
+status_number status.Twice = 9
+status_number status.BadCount = 10
+status_number status.BadNumber = 11
+status_number status.BadGoal = 12
+status_number status.Ambiguous = 13
+status_number status.NoMemory = 14
 
 -- the status of a fault of a puzzle's text
 abbrev pub status_of_text : TextFault → Status
@@ -143,13 +143,13 @@ pub record FillsBuffer (number : ℕ) (bytes : List ℕ) (reply : Reply)
   pub fitting : length bytes ≤ length old →
       (reply.status ≡ number) × (new ≡ bytes ++ drop (length bytes) old)
   pub refused : length old < length bytes →
-      (reply.status ≡ number_of status.RoomTooSmall) × (new ≡ old)
+      (reply.status ≡ status_number status.RoomTooSmall) × (new ≡ old)
 
 -- an answer is written to a buffer: the text, or the fault word
 abbrev pub Fills : Result (List ℕ) Fault → Reply → List ℕ → List ℕ → Type 0
-Fills (Ok text) reply old new = FillsBuffer (number_of status.Answered) text reply old new
+Fills (Ok text) reply old new = FillsBuffer (status_number status.Answered) text reply old new
 Fills (Err fault) reply old new =
-    FillsBuffer (number_of (status_of fault)) (fault_word fault) reply old new
+    FillsBuffer (status_number (status_of fault)) (fault_word fault) reply old new
 
 -- a call writes this answer, or `NoMemory` in its place, to the buffer
 abbrev pub Answers : Result (List ℕ) Fault → Reply → List ℕ → List ℕ → Type 0

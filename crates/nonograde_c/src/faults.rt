@@ -2,7 +2,7 @@
 
 ghost use Rattle.std.specs.Prelude.{◌≡◌};
 ghost use Rattle.puzzle_text.specs.Words.{word_text};
-ghost use Rattle.nonograde_c.specs.Calls.{fault_word, number_of, status_of, status_of_text};
+ghost use Rattle.nonograde_c.specs.Calls.{fault_word, status_number, status_of, status_of_text};
 
 use puzzle_text::{EntryFault, FaultWord, TextFault};
 
@@ -44,7 +44,7 @@ pub enum Status {
 impl Status {
     /// Returns the number of a status.
     pub fn number(self) -> u32
-        ensures { result ≡ number_of self }
+        ensures { result ≡ status_number self }
     {
         self as u32
     }

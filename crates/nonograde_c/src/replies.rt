@@ -2,7 +2,7 @@
 
 ghost use Rattle.std.specs.Prelude.{◌≡◌, ◌+◌, ◌++◌, ◌≤◌, length, take, drop, Ok, Err};
 ghost use Rattle.puzzle_text.specs.Words.{at_line};
-ghost use Rattle.nonograde_c.specs.Calls.{Fills, FillsBuffer, number_of};
+ghost use Rattle.nonograde_c.specs.Calls.{Fills, FillsBuffer, status_number};
 ghost use Rattle.nonograde_c.specs.steps.Answers.{shown};
 
 use crate::faults::{Fault, Status};
@@ -22,7 +22,7 @@ pub struct Reply {
 impl Reply {
     /// Returns the reply for an answer of `length` bytes that fits into the caller's buffer.
     fn fitting(status: Status, length: usize) -> Reply
-        ensures { result ≡ record { status = number_of status; length = length } }
+        ensures { result ≡ record { status = status_number status; length = length } }
     {
         Reply {
             status: status.number(),
@@ -33,7 +33,7 @@ impl Reply {
     /// Returns the reply for an answer of `length` bytes that doesn't fit into the caller's
     /// buffer.
     fn too_small(length: usize) -> Reply
-        ensures { result ≡ record { status = number_of Status.RoomTooSmall; length = length } }
+        ensures { result ≡ record { status = status_number Status.RoomTooSmall; length = length } }
     {
         let status = Status::RoomTooSmall.number();
         Reply { status, length }
@@ -51,7 +51,7 @@ fn put(buffer: &mut [u8], place: usize, bytes: &[u8])
 
 /// Writes `bytes` to the start of the buffer, or nothing if they don't fit.
 fn fill_bytes(buffer: &mut [u8], status: Status, bytes: &[u8]) -> Reply
-    ensures { FillsBuffer (number_of status) bytes.now result buffer.old buffer.new }
+    ensures { FillsBuffer (status_number status) bytes.now result buffer.old buffer.new }
 {
     let length = bytes.len();
     if buffer.len() < length {
@@ -64,7 +64,7 @@ fn fill_bytes(buffer: &mut [u8], status: Status, bytes: &[u8]) -> Reply
 /// Writes `bytes`, a colon and `number` to the start of the buffer, or nothing if they don't
 /// fit.
 fn fill_at_line(buffer: &mut [u8], status: Status, bytes: &[u8], number: u32) -> Reply
-    ensures { FillsBuffer (number_of status) (at_line bytes.now number) result buffer.old
+    ensures { FillsBuffer (status_number status) (at_line bytes.now number) result buffer.old
         buffer.new }
 {
     let mut digit_buffer = Buffer::new();

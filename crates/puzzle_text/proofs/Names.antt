@@ -25,7 +25,7 @@ pub use Rattle.puzzle_text.specs.Answers.{Gives, each, each_some, or_fault, ◌>
 pub use Rattle.puzzle_text.specs.ClueLines.{clue_of, clue_of_numbers, clues_of, numbers_within}
 pub use Rattle.puzzle_text.specs.Collections.{Entry, body_of, entries_of, first_stray, is_marker, is_stray, name_of}
 pub use Rattle.puzzle_text.specs.Keywords.{after_quote, all_fields, before_quote, field_word, first_with, is_keyword_line, keyword, keyword_argument, quoted_text, with_keyword}
-pub use Rattle.puzzle_text.specs.Lines.{TextLine, is_blank, is_blank_line, is_empty, is_non_blank, is_hash, lines, numbered_from, raw_lines, strip_last, trim, trim_end, trim_start, without_ending}
+pub use Rattle.puzzle_text.specs.Lines.{TextLine, is_space_or_tab, is_blank_line, is_empty, is_non_blank, is_hash, lines, numbered_from, raw_lines, strip_last, trim, trim_end, trim_start, without_ending}
 pub use Rattle.puzzle_text.specs.Mk.{at_hash, before_hash, mk_of, or_else, puzzle_of, read_mk}
 pub use Rattle.puzzle_text.specs.Nin.{nin_of, read_nin}
 pub use Rattle.puzzle_text.specs.Non.{Sections, bad_line, both_clues, cell_of, check_lines, field_text, goal_cells, goal_of, is_content, last_keyword, least, least_of, long_text, non_of, number_of_line, outline_of, placed, puzzle_of_clues, build_puzzle, read_non, rows_first, section, sections_of, sizes_of, texts_of}

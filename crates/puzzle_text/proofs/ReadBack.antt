@@ -1,5 +1,5 @@
 -- Lines, numbers and clues that are written are read again as they were, and how long they are.
-use Rattle.puzzle_text.proofs.Names.{rules, ◌≡◌, true, ℕ, ◌+◌, ◌-◌, ◌<◌, ◌≤◌, false, eqb, List, [], ◌∷◌, ◌++◌, length, get_or, refl, append_assoc, arith, list_all, flat_map, AllByRecursion, leb-true, cond-false, ne_eqb, eq-eqb, take_at, get_or_at, get_or-reverse, length-append, reverse-reverse, nat_tests, All-from_recursion, All-get_or, TextLine, raw_lines, numbered_from, trim, trim_start, strip_last, without_ending, is_blank, ◌^◌, not, map, All, ap, Some, decimal, slice_split, is_ascii_digit, AllDigits, and_parts, inr, IsSeparator, le-leb, append-nil, get_or_default, slice_split_none, slice_split_at, digit_at, digit_from_value, decimal_is_IsNumeral, decimal_nonempty, is_clue, is_empty, is_separator, pieces, numbers_within, clue_of, clue_text, ◌*◌, Ok, get_or_append_left, get_or-append_right, length-decimal-le, size_of, two_sizes, clue_line, clue_lines, two_numbers, all-weaker, all_pass, all-map, filter_all, all-append}
+use Rattle.puzzle_text.proofs.Names.{rules, ◌≡◌, true, ℕ, ◌+◌, ◌-◌, ◌<◌, ◌≤◌, false, eqb, List, [], ◌∷◌, ◌++◌, length, get_or, refl, append_assoc, arith, list_all, flat_map, AllByRecursion, leb-true, cond-false, ne_eqb, eq-eqb, take_at, get_or_at, get_or-reverse, length-append, reverse-reverse, nat_tests, All-from_recursion, All-get_or, TextLine, raw_lines, numbered_from, trim, trim_start, strip_last, without_ending, is_space_or_tab, ◌^◌, not, map, All, ap, Some, decimal, slice_split, is_ascii_digit, AllDigits, and_parts, inr, IsSeparator, le-leb, append-nil, get_or_default, slice_split_none, slice_split_at, digit_at, digit_from_value, decimal_is_IsNumeral, decimal_nonempty, is_clue, is_empty, is_separator, pieces, numbers_within, clue_of, clue_text, ◌*◌, Ok, get_or_append_left, get_or-append_right, length-decimal-le, size_of, two_sizes, clue_line, clue_lines, two_numbers, all-weaker, all_pass, all-map, filter_all, all-append}
 use Rattle.puzzle_text.proofs.ParsedLines.{ReadsAll}
 
 -- the text of a written line: no byte is less than a space, and neither end is blank
@@ -28,7 +28,7 @@ strip_last_is byte text = search (rules, length-append, get_or_at, eq-eqb, take_
 
 trim_start_is : (text : List ℕ) → 33 ≤ get_or text 0 0 → trim_start text ≡ text
 trim_start_is [] h = refl
-trim_start_is (byte ∷ bytes) h = cond-false (is_blank byte) (trim_start bytes) (byte ∷ bytes) (grind (arith, nat_tests))
+trim_start_is (byte ∷ bytes) h = cond-false (is_space_or_tab byte) (trim_start bytes) (byte ∷ bytes) (grind (arith, nat_tests))
 
 -- A text that begins with a byte over the space is not empty.
 pub some_byte : (text : List ℕ) → 33 ≤ get_or text 0 0 → 0 < length text

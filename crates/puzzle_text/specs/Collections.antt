@@ -5,7 +5,7 @@ use Rattle.std.specs.Option.{option_map}
 use Rattle.puzzle_text.specs.declared.faults.CollectionFault.{CollectionFault}
 use Rattle.puzzle_text.specs.declared.faults.CollectionFault.TheVariants.{TooLong, Stray, TooMany, NoMemory}
 use Rattle.puzzle_text.specs.declared.limits.TheConstants.{MAX_COLLECTION_LEN, MAX_ENTRIES}
-use Rattle.puzzle_text.specs.Lines.{raw_lines, without_ending, trim, is_blank, is_empty}
+use Rattle.puzzle_text.specs.Lines.{raw_lines, without_ending, trim, is_space_or_tab, is_empty}
 
 -- an entry of a collection: the name and the text of a puzzle
 pub record Entry : Type 0 where
@@ -17,7 +17,7 @@ pub record Entry : Type 0 where
 abbrev pub is_marker_text : List ℕ → Bool
 is_marker_text [] = false
 is_marker_text (first ∷ []) = first == 64
-is_marker_text (first ∷ second ∷ others) = first == 64 && is_blank second
+is_marker_text (first ∷ second ∷ others) = first == 64 && is_space_or_tab second
 
 -- `raw`, a line with its line ending, is a marker line and so begins an entry
 abbrev pub is_marker : List ℕ → Bool

@@ -22,14 +22,14 @@ abbrev pub formats : List Format
 formats = Non ∷ Mk ∷ Nin ∷ []
 
 -- the ending, in lower case, of the name of a text in `format`
-abbrev pub ending : Format → List ℕ
-ending Non = codes ".non"
-ending Mk = codes ".mk"
-ending Nin = codes ".nin"
+abbrev pub name_ending : Format → List ℕ
+name_ending Non = codes ".non"
+name_ending Mk = codes ".mk"
+name_ending Nin = codes ".nin"
 
 -- the word that names `format`: its ending without the dot
 abbrev pub word : Format → List ℕ
-word format = drop 1 (ending format)
+word format = drop 1 (name_ending format)
 
 -- the puzzle of a text in a format, or the text's first fault
 abbrev pub read_as : Format → ℕ → List ℕ → Result Nonogram TextFault
@@ -51,7 +51,7 @@ has_ending ending name =
 
 -- the format that the ending of `name` determines, if it is the ending of a format
 abbrev pub format_of : List ℕ → Option Format
-format_of name = find (λ format. has_ending (ending format) name) formats
+format_of name = find (λ format. has_ending (name_ending format) name) formats
 
 -- `name` ends in the ending of a format
 abbrev pub is_format : List ℕ → Bool

@@ -10,13 +10,13 @@ raw_lines (byte ∷ bytes) =
     if byte == 10 then (byte ∷ []) ∷ others else onto_first byte others
 
 -- `byte` is a space or a tab
-abbrev pub is_blank : ℕ → Bool
-is_blank byte = byte == 32 || byte == 9
+abbrev pub is_space_or_tab : ℕ → Bool
+is_space_or_tab byte = byte == 32 || byte == 9
 
 -- the bytes without the spaces and tabs at their start
 abbrev pub trim_start : List ℕ → List ℕ
 trim_start [] = []
-trim_start (byte ∷ bytes) = if is_blank byte then trim_start bytes else byte ∷ bytes
+trim_start (byte ∷ bytes) = if is_space_or_tab byte then trim_start bytes else byte ∷ bytes
 
 -- the bytes without the spaces and tabs at their end
 abbrev pub trim_end : List ℕ → List ℕ

@@ -13,13 +13,13 @@ abbrev pub at_line : List ℕ → ℕ → List ℕ
 at_line word number = word ++ codes ":" ++ decimal number
 
 -- a fault word with the number of its line after a colon, if it has one
-abbrev pub with_line : List ℕ → Option ℕ → List ℕ
-with_line word None = word
-with_line word (Some number) = at_line word number
+abbrev pub numbered_word : List ℕ → Option ℕ → List ℕ
+numbered_word word None = word
+numbered_word word (Some number) = at_line word number
 
 -- the printed text of a fault word
 abbrev pub word_text : FaultWord → List ℕ
-word_text word = with_line word.name.now word.line
+word_text word = numbered_word word.name.now word.line
 
 -- the printed word of a fault of a puzzle's text
 abbrev pub word_of_text : TextFault → List ℕ

@@ -2,7 +2,7 @@
 
 ghost use Rattle.std.specs.Prelude.{ℕ, ◌≡◌, ◌==◌, ◌+◌, ◌^◌, ◌<◌, ◌≤◌, ◌∷◌, [], ◌++◌, reverse, length, map, IfOk};
 ghost use Rattle.std.specs.List.{position};
-ghost use Rattle.puzzle_text.specs.Lines.{is_blank, is_hash, lines, numbered_from, raw_lines, strip_last, trim, trim_end, trim_start, without_ending};
+ghost use Rattle.puzzle_text.specs.Lines.{is_space_or_tab, is_hash, lines, numbered_from, raw_lines, strip_last, trim, trim_end, trim_start, without_ending};
 ghost use Rattle.puzzle_text.specs.steps.Shown.{shown_line};
 
 use grid_core::NoMemory;
@@ -38,8 +38,8 @@ pub(crate) fn split_line(bytes: &[u8]) -> (&[u8], &[u8])
     }
 }
 
-fn is_blank(byte: u8) -> bool
-    ensures { result ≡ is_blank byte }
+fn is_space_or_tab(byte: u8) -> bool
+    ensures { result ≡ is_space_or_tab byte }
 {
     byte == b' ' || byte == b'\t'
 }
@@ -48,7 +48,7 @@ fn trim_start(mut bytes: &[u8]) -> &[u8]
     ensures { result.now ≡ trim_start bytes.entry.now }
 {
     while let [first, rest @ ..] = bytes {
-        if !is_blank(*first) {
+        if !is_space_or_tab(*first) {
             break;
         }
         bytes = rest;
@@ -60,7 +60,7 @@ fn trim_end(mut bytes: &[u8]) -> &[u8]
     ensures { result.now ≡ trim_end bytes.entry.now }
 {
     while let [rest @ .., last] = bytes {
-        if !is_blank(*last) {
+        if !is_space_or_tab(*last) {
             break;
         }
         bytes = rest;

@@ -4,7 +4,7 @@
 ghost use Rattle.std.specs.Prelude.{◌≡◌, ◌≤◌, ◌+◌, ◌++◌, ℕ, List, length, map, IfOk};
 ghost use Rattle.puzzle_text.specs.Shown.{shown_entry};
 ghost use Rattle.puzzle_text.specs.declared.collections.Entry.{Entry};
-ghost use Rattle.survey_text.specs.Chunks.{AreChunks, text_of};
+ghost use Rattle.survey_text.specs.Chunks.{AreChunks, whole_text};
 ghost use Rattle.survey_text.specs.Survey.{survey_of_list};
 ghost use Rattle.survey_core.specs.GuessSettings.{guess_settings};
 ghost use Rattle.survey_core.specs.steps.Graded.{AreAnswersAt, graded_of, puzzle_count};
@@ -90,7 +90,7 @@ pub(crate) fn survey_text<H: Threads + Wait + Sync, G: Gate + Sync>(
     gate: &G,
 ) -> Result<SurveyText, CollectFault>
     requires { length entries.now ≤ MAX_ENTRIES }
-    ensures { IfOk result (λ survey. text_of survey
+    ensures { IfOk result (λ survey. whole_text survey
         ≡ survey_of_list (guess_settings settings.now) settings.now.show
         (map shown_entry entries.now)) }
 {

@@ -4,7 +4,7 @@ ghost use Rattle.std.specs.Prelude.{◌≡◌, ◌+◌, ◌-◌, ◌^◌, ◌<�
 ghost use Rattle.std.specs.Io.KnownBytes.{IsAtEnd, Keeps};
 ghost use Rattle.puzzle_text.specs.Shown.{shown_entry};
 ghost use Rattle.survey_core.specs.GuessSettings.{guess_settings};
-ghost use Rattle.survey_text.specs.Chunks.{text_of};
+ghost use Rattle.survey_text.specs.Chunks.{whole_text};
 ghost use Rattle.streams.specs.Counted.{fault_count};
 ghost use Rattle.streams.specs.Reading.{ReadsWithin};
 ghost use Rattle.survey_text.specs.Survey.{survey_of, survey_of_entries, survey_of_list};
@@ -32,7 +32,7 @@ fn graded<H: Threads + Wait + Sync, G: Gate + Sync>(
     gate: &G,
 ) -> Result<SurveyText, CollectFault>
     requires { length entries.now ≤ MAX_ENTRIES }
-    ensures { IfOk result (λ survey. text_of survey
+    ensures { IfOk result (λ survey. whole_text survey
         ≡ survey_of_list (guess_settings settings.now) settings.now.show
         (map shown_entry entries.now)) }
 {

@@ -36,5 +36,5 @@ pub record AreChunks (show : Bool) (first : ℕ) (chunks : ChunkTexts) (entries 
   pub totals : IsTotals chunks.totals entries
 
 -- the whole text of `survey`
-abbrev pub text_of : SurveyText → List ℕ
-text_of survey = joined survey.front.items ++ survey.last.items
+abbrev pub whole_text : SurveyText → List ℕ
+whole_text survey = joined survey.front.items ++ survey.last.items

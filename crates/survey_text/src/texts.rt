@@ -30,7 +30,7 @@ impl ChunkTexts {
     ghost use Rattle.survey_text.specs.Entries.{GradedEntry};
     ghost use Rattle.survey_text.specs.Listings.{answered};
     ghost use Rattle.survey_text.specs.Survey.{survey_text};
-    ghost use Rattle.survey_text.specs.Chunks.{AreChunks, text_of};
+    ghost use Rattle.survey_text.specs.Chunks.{AreChunks, whole_text};
 
     /// Prints the entries of `listing` as one chunk, numbered from `first`, with their solutions if
     /// `show` is set. Fails with `NoMemory` if an answer did, or if an allocation fails.
@@ -92,7 +92,7 @@ impl ChunkTexts {
     /// totals. Fails with `NoMemory` if an allocation does, or if a `u64` can't count the bytes.
     pub fn finish(self) -> Result<SurveyText, NoMemory>
         ensures { (show : Bool) (entries : List GradedEntry) → AreChunks show 1 self entries
-            → IfOk result (λ survey. text_of survey ≡ survey_text show entries) }
+            → IfOk result (λ survey. whole_text survey ≡ survey_text show entries) }
     {
         let mut last = self.last;
         let printed = last.len();
@@ -122,7 +122,7 @@ impl SurveyText {
     ghost use Rattle.std.specs.Prelude.{◌-◌, ◌^◌, ◌<◌, ◌≤◌, ◌↔◌, length, take, IfErr, IsErr, OnOk};
     ghost use Rattle.std.specs.Io.KnownBytes.{Appends};
     ghost use Rattle.streams.specs.Counted.{fault_count};
-    ghost use Rattle.survey_text.specs.Chunks.{text_of};
+    ghost use Rattle.survey_text.specs.Chunks.{whole_text};
 
     /// Writes the text to `writer` and flushes it. If the writer fails, the error is the number of
     /// bytes of the text that were sent.
@@ -130,11 +130,11 @@ impl SurveyText {
         requires { fault_count writer.old < 2 ^ 32 - 1 }
         ensures ok { OnOk result
             (Appends (W.contents writer.old.inner) (W.contents writer.new.inner)
-            (text_of self.now)) }
-        ensures front { IfErr result (λ sent. sent ≤ length (text_of self.now)) }
+            (whole_text self.now)) }
+        ensures front { IfErr result (λ sent. sent ≤ length (whole_text self.now)) }
         ensures sent { IfErr result (λ sent.
             Appends (W.contents writer.old.inner) (W.contents writer.new.inner)
-            (take sent (text_of self.now))) }
+            (take sent (whole_text self.now))) }
         ensures failed { IsErr result ↔ (fault_count writer.old < fault_count writer.new) }
     {
         write_texts(writer, &self.front, &self.last)

@@ -18,8 +18,8 @@ pub record Sends (capacity : ℕ) (old new : FrontLists) (waiting waiting' : Lis
   pub refused : (waiting' ≡ []) ⊎ MayRefuse capacity new
 
 -- sending the finish if no job waits leads from `old` to `new`
-abbrev pub Asks : ℕ → FrontLists → FrontLists → List Job → Type 0
-Asks capacity old new waiting =
+abbrev pub SendsFinish : ℕ → FrontLists → FrontLists → List Job → Type 0
+SendsFinish capacity old new waiting =
     ((waiting ≡ []) × PutsMessage Finish old new)
     ⊎ ((new ≡ old) × ((waiting ≡ []) → MayRefuse capacity new))
 
