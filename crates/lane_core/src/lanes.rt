@@ -1,10 +1,9 @@
 //! The interface of a lane to its collector.
 
-ghost use Rattle.std.specs.Prelude.{◌≡◌, ◌↔◌, ◌≤◌, ℕ, List, length, true, OnOk, OnErr, IfErr, IfSome, IfNone};
+ghost use Rattle.std.specs.Prelude.{◌≡◌, ◌↔◌, ◌≤◌, ℕ, List, length, true, false, OnOk, OnErr, IfErr, IfSome, IfNone};
 ghost use Rattle.lane_core.specs.declared.answers.Answer.{Answer};
 ghost use Rattle.lane_core.specs.Messages.{has_finish};
 ghost use Rattle.lane_core.specs.Lane.{FrontLists, PutsMessage, ReceivesAnswer};
-ghost use Rattle.lane_core.specs.Sending.{IsRefusal};
 
 use crate::answers::Answer;
 use crate::faults::{FinishFault, SendFault};
@@ -35,10 +34,10 @@ pub trait Lane {
         ensures ok { OnOk result
             (PutsMessage (Message.NewJob job) (lists self.old) (lists self.new)) }
         ensures err { OnErr result (lists self.new ≡ lists self.old) }
-        ensures refused { IfErr result
-            (λ fault. IsRefusal (capacity self.old) (lists self.old) job fault) }
-        ensures finished { has_finish (lists self.old).sent ≡ true
-            → result ≡ Err (SendFault.Finished job) };
+        ensures finished { (result ≡ Err (SendFault.Finished job))
+            ↔ (has_finish (lists self.old).sent ≡ true) }
+        ensures full { IfErr result (λ fault. has_finish (lists self.old).sent ≡ false
+            → (fault ≡ SendFault.Full job) × (capacity self.old ≤ length (lists self.old).sent)) };
 
     /// Sends the finish, after which no job is accepted. Fails with `Finished` exactly if it was
     /// sent before, and otherwise with `Full`, which occurs only once the lane has accepted at
@@ -49,8 +48,8 @@ pub trait Lane {
         ensures err { OnErr result (lists self.new ≡ lists self.old) }
         ensures finished { (result ≡ Err FinishFault.Finished)
             ↔ (has_finish (lists self.old).sent ≡ true) }
-        ensures full_only_at_capacity { result ≡ Err FinishFault.Full
-            → capacity self.old ≤ length (lists self.old).sent };
+        ensures full { IfErr result (λ fault. has_finish (lists self.old).sent ≡ false
+            → (fault ≡ FinishFault.Full) × (capacity self.old ≤ length (lists self.old).sent)) };
 
     /// Receives the oldest answer that was put and not yet received. Returns `None` if this end
     /// sees none.
