@@ -7,7 +7,7 @@ use Rattle.grid_core.specs.contracts.puzzles.Puzzle.{the_row as puzzle_row}
 use Rattle.solve_core.specs.Picks.{picked}
 use Rattle.solve_core.specs.declared.picks.Pick.{Pick}
 use Rattle.solve_core.specs.contracts.picks.Pick.{the_row as pick_row}
-use Rattle.solve_core.specs.Report.{report_of}
+use Rattle.solve_core.specs.Report.{findings_of}
 use Rattle.solve_core.specs.Verdicts.{Holds}
 use Rattle.solve_core.specs.declared.findings.Findings.{Findings}
 use Rattle.solve_core.specs.contracts.findings.Findings.{the_row}
@@ -49,7 +49,7 @@ AreAnswersTo-front jobs more answers rest h = absurd h
 
 -- the findings in an answer are the report of its puzzle, limit and pick
 pub found_is_report : (answer : Answer) (found : Findings) → answer.outcome ≡ Ok found
-    → found ≡ report_of (picked answer.pick answer.puzzle.width) answer.puzzle answer.guesses
+    → found ≡ findings_of answer.pick answer.puzzle answer.guesses
 found_is_report answer found is = ∥∥₁_elim answer.reported (Coded-set the_row.coded _ _) (λ o. rw is at o)
 
 -- the verdict of the findings in an answer is true of all grids

@@ -3,7 +3,7 @@
 ghost use Rattle.std.specs.Prelude.{◌≡◌, MatchResult, IfOk};
 ghost use Rattle.grid_core.specs.Nonogram.{IsNonogram};
 ghost use Rattle.solve_core.specs.Picks.{picked};
-ghost use Rattle.solve_core.specs.Report.{report_of};
+ghost use Rattle.solve_core.specs.Report.{findings_of};
 ghost use Rattle.solve_core.specs.Verdicts.{Holds};
 ghost use Rattle.lane_core.specs.Outcome.{IsOutcome};
 
@@ -98,8 +98,7 @@ impl Answer {
             (λ found. self.now.outcome ≡ Ok found.now)
             (λ refused. self.now.outcome ≡ Err refused) }
         ensures report { IfOk result (λ found. found.now
-            ≡ report_of (picked self.now.pick self.now.puzzle.width)
-            self.now.puzzle self.now.guesses) }
+            ≡ findings_of self.now.pick self.now.puzzle self.now.guesses) }
         ensures holds { IfOk result (λ found.
             Holds (picked self.now.pick self.now.puzzle.width)
             self.now.puzzle self.now.guesses found.now.verdict) }

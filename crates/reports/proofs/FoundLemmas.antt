@@ -8,8 +8,7 @@ use Rattle.lane_core.specs.Answers.{IsAnswerTo}
 use Rattle.lane_core.specs.Outcome.{IsOutcome}
 use Rattle.lane_core.specs.declared.answers.Answer.{Answer}
 use Rattle.lane_core.specs.declared.jobs.Job.{Job}
-use Rattle.solve_core.specs.Picks.{picked}
-use Rattle.solve_core.specs.Report.{report_of}
+use Rattle.solve_core.specs.Report.{findings_of}
 use Rattle.solve_core.specs.declared.findings.Findings.{Findings}
 use Rattle.solve_core.specs.declared.picks.Pick.{Pick}
 use Rattle.puzzle_text.specs.declared.faults.EntryFault.{EntryFault}
@@ -18,8 +17,7 @@ use Rattle.reports.specs.Reports.{solve_text}
 
 -- if the outcome of a puzzle is not a failure, its findings are the report on the puzzle
 found_is : (limit : ℕ) (pick : Pick) (p q : Nonogram) (outcome : Result Findings NoMemory) → q ≡ p →
-    IsOutcome p limit pick outcome → IsOk outcome
-    → found_of q outcome ≡ Ok (p, report_of (picked pick p.width) p limit)
+    IsOutcome p limit pick outcome → IsOk outcome → found_of q outcome ≡ Ok (p, findings_of pick p limit)
 found_is limit pick p q (Err refused) e is_outcome ok = let bad : false ≡ true = ok in cc
 found_is limit pick p q (Ok findings) e is_outcome ok =
     ap (λ (r : Nonogram). found_of r (Ok findings)) e ∙ ap (λ (found : Findings). found_of p (Ok found)) is_outcome

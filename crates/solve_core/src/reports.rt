@@ -10,7 +10,7 @@ ghost use Rattle.solve_core.specs.steps.Worklist.{IsAtFixpoint};
 ghost use Rattle.solve_core.specs.Closure.{if_alive};
 ghost use Rattle.solve_core.specs.Trials.{trials as trials_of};
 ghost use Rattle.solve_core.specs.Sizes.{IsSizeOf};
-ghost use Rattle.solve_core.specs.Report.{report_of, grade_by, unknown_grid};
+ghost use Rattle.solve_core.specs.Report.{findings_of, grade_by, unknown_grid};
 ghost use Rattle.solve_core.specs.steps.TrialState.{HasRoomFor};
 ghost use Rattle.solve_core.specs.Verdicts.{Holds};
 ghost use Rattle.solve_core.specs.steps.Widths.{FitsIn};
@@ -90,7 +90,7 @@ fn findings<W: LineBits>(
     requires branches { branches.old.items ≡ [] }
     requires found { solutions.grids ≡ [] }
     requires capacity { length board.old.cells ≤ vec_capacity branches.old }
-    ensures { result ≡ report_of (picked pick puzzle.now.width) puzzle.now guesses }
+    ensures { result ≡ findings_of pick puzzle.now guesses }
 {
     if !board.close(&mut trials.propagator, puzzle) {
         return Findings {
@@ -157,8 +157,7 @@ fn report_within<W: LineBits>(
     pick: Pick,
 ) -> Result<Findings, NoMemory>
     requires { FitsIn W.WIDTH puzzle.now }
-    ensures findings { IfOk result (λ findings.
-        findings ≡ report_of (picked pick puzzle.now.width) puzzle.now guesses) }
+    ensures findings { IfOk result (λ findings. findings ≡ findings_of pick puzzle.now guesses) }
     ensures holds { IfOk result (λ findings.
         Holds (picked pick puzzle.now.width) puzzle.now guesses findings.verdict) }
     ensures spent { IfOk result (λ findings. findings.spent ≤ guesses) }
@@ -225,7 +224,7 @@ impl Reporter {
         pick: Pick,
     ) -> Result<Findings, NoMemory>
         ensures findings { IfOk result (λ findings.
-            findings ≡ report_of (picked pick puzzle.now.width) puzzle.now guesses) }
+            findings ≡ findings_of pick puzzle.now guesses) }
         ensures holds { IfOk result (λ findings.
             Holds (picked pick puzzle.now.width) puzzle.now guesses findings.verdict) }
         ensures spent { IfOk result (λ findings. findings.spent ≤ guesses) }
@@ -247,8 +246,7 @@ pub fn report(
     guesses: u32,
     pick: Pick,
 ) -> Result<Findings, NoMemory>
-    ensures findings { IfOk result (λ findings.
-        findings ≡ report_of (picked pick puzzle.now.width) puzzle.now guesses) }
+    ensures findings { IfOk result (λ findings. findings ≡ findings_of pick puzzle.now guesses) }
     ensures holds { IfOk result (λ findings.
         Holds (picked pick puzzle.now.width) puzzle.now guesses findings.verdict) }
     ensures spent { IfOk result (λ findings. findings.spent ≤ guesses) }

@@ -3,8 +3,7 @@ use Rattle.std.specs.Prelude.{ℕ, Bool, List, ◌++◌, map, length, nat_lt, if
 use Rattle.std.specs.List.{enumerate_from, flat_map}
 use Rattle.grid_core.specs.Nonogram.{Nonogram}
 use Rattle.grid_core.specs.declared.limits.TheConstants.{MAX_SIDE}
-use Rattle.solve_core.specs.Picks.{picked}
-use Rattle.solve_core.specs.Report.{report_of}
+use Rattle.solve_core.specs.Report.{findings_of}
 use Rattle.solve_core.specs.declared.findings.Findings.{Findings}
 use Rattle.solve_core.specs.declared.picks.Pick.{Pick}
 use Rattle.puzzle_text.specs.Collections.{Entry, cut}
@@ -34,7 +33,7 @@ pub record GuessSettings : Type 0 where
 -- the puzzle with the findings of its report, or the fault
 abbrev pub reported :
     GuessSettings → Result Nonogram EntryFault → Result (Nonogram × Findings) EntryFault
-reported guesses (Ok p) = Ok (p, report_of (picked guesses.pick p.width) p guesses.limit)
+reported guesses (Ok p) = Ok (p, findings_of guesses.pick p guesses.limit)
 reported guesses (Err fault) = Err fault
 
 -- `entry` with its puzzle and the findings of the report on that, or with its fault
