@@ -120,6 +120,34 @@ int pthread_create(pthread_t *thread, const pthread_attr_t *how, void *(*start)(
 END
 }
 
+# A library that writes a line to file descriptor 9 for each time that a worker wakes the collector, which then has
+# 5 ms to do its work and to park again.
+make_wakes() {
+    cc -O2 -shared -fPIC -x c -o wakes.so - -ldl <<'END'
+#define _GNU_SOURCE
+#include <dlfcn.h>
+#include <linux/futex.h>
+#include <stdarg.h>
+#include <sys/syscall.h>
+#include <unistd.h>
+
+long syscall(long number, ...) {
+    long (*real)(long, ...) = dlsym(RTLD_NEXT, "syscall");
+    va_list given;
+    va_start(given, number);
+    long place = va_arg(given, long), how = va_arg(given, long), value = va_arg(given, long);
+    long time = va_arg(given, long), other = va_arg(given, long), mask = va_arg(given, long);
+    va_end(given);
+    long done = real(number, place, how, value, time, other, mask);
+    if (number == SYS_futex && (how & FUTEX_CMD_MASK) == FUTEX_WAKE && gettid() != getpid()) {
+        (void)!write(9, "wake\n", 5);
+        usleep(5000);
+    }
+    return done;
+}
+END
+}
+
 # A library under which opening failing.non fails with the error ERROR.
 make_opens() {
     cc -O2 -shared -fPIC -x c -o opens.so - <<'END'
@@ -340,6 +368,15 @@ starts() {
     return $status
 }
 
+# Workers have to wake the collector at least COUNT times.
+wakes() {
+    local limits=(env LD_PRELOAD=./wakes.so) status
+    ordinary "${@:2}" 9>woken
+    status=$?
+    [ "$(wc -l <woken)" -ge "$1" ] || echo "(they woke it $(wc -l <woken) times)" >>said
+    return $status
+}
+
 # The program may have SIZE KiB of addresses.
 memory() {
     local limits=(sh -c 'ulimit -v "$0" && exec "$@"' "$1")
@@ -457,6 +494,7 @@ two_lines=$'two\nlines.non'
 make_writes
 make_reads
 make_starts
+make_wakes
 make_opens
 make_files
 make_texts
@@ -590,6 +628,10 @@ try starts:6 - surveyed_64 survey --lanes 2 $(lines 64 heart.non)
 try starts:9 - surveyed_96 survey --lanes 3 $(lines 96 heart.non)
 try starts:12 - surveyed_300 survey --lanes 4 $(lines 300 heart.non)
 try starts:34 - surveyed_300 survey --lanes 16 $(lines 300 heart.non)
+
+# A worker wakes the collector whenever half of its ring is full of answers: here 75 times, or a few times fewer if the
+# collector hasn't parked again yet.
+try wakes:60 - surveyed_300 survey --lanes 1 $(lines 300 heart.non)
 
 # Little room for addresses.
 try_little_room 10000 closed_full lines full.non
