@@ -44,7 +44,8 @@ pub struct LaneBack {
     pub(crate) answers: Producer<Answer>,
     pub(crate) held: Option<Answer>,
     pub(crate) finished: bool,
-    pub(crate) reporter: Reporter,
+    // On the heap, since an end of a lane is moved by value.
+    pub(crate) reporter: Box<Reporter>,
     pub ghost noted: { finished ≡ has_finish (received messages) },
     pub ghost free: { finished ≡ true → is_none held ≡ true },
     pub ghost answered: { ∥ AreAnswersTo (jobs_of (received messages))

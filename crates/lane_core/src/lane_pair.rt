@@ -46,7 +46,7 @@ pub(crate) fn open_ends(alloc: Global, capacity: usize) -> Result<(LaneFront, La
         answers: to_front,
         held: None,
         finished: false,
-        reporter: Reporter::new(),
+        reporter: Box::new(alloc, Reporter::new())?,
     };
     Ok((front, back))
 }
