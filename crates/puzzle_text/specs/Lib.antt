@@ -16,4 +16,6 @@ pub mod Words
 pub mod Written
 pub mod Formats
 pub mod Laws
+pub mod Forms
+pub mod Diagnosis
 pub mod steps

@@ -4,11 +4,13 @@
 mod clue_lines;
 mod collections;
 mod descriptions;
+mod diagnosis;
 mod fast_lines;
 mod fast_sections;
 mod faults;
 mod fitting;
 mod formats;
+mod forms;
 mod goals;
 mod keyword_line;
 mod keywords;
@@ -31,8 +33,10 @@ mod words;
 mod writing;
 
 pub use collections::{Entry, entries};
+pub use diagnosis::{TextDiagnosis, diagnose_text};
 pub use faults::{CollectionFault, EntryFault, TextFault, WriteFault};
 pub use formats::{Format, read_entry};
+pub use forms::TextForm;
 pub use limits::{MAX_COLLECTION_LEN, MAX_ENTRIES, MAX_PUZZLE_LEN};
 pub use mk::plain_mk;
 pub use nin::plain_nin;

@@ -4,6 +4,8 @@
 #[cfg(test)]
 mod tests;
 #[cfg(test)]
+mod tests_diagnosis;
+#[cfg(test)]
 mod tests_quick;
 #[cfg(test)]
 mod tests_refused;

@@ -1,0 +1,91 @@
+//! Tells what is wrong with a refused text, and where.
+
+ghost use Rattle.std.specs.Prelude.{◌≡◌, map, IfOk};
+ghost use Rattle.std.specs.Option.{option_map};
+ghost use Rattle.puzzle_text.specs.Diagnosis.{line_number, named_line, readable_lines, text_of_line};
+ghost use Rattle.puzzle_text.specs.Forms.{form_of_bytes};
+ghost use Rattle.puzzle_text.specs.steps.Shown.{shown_line};
+
+use crate::faults::TextFault;
+use crate::forms::{TextForm, form_of_bytes};
+use crate::limits::MAX_PUZZLE_LEN;
+use crate::lines::{TextLine, all_lines};
+use grid_core::NoMemory;
+use std::alloc::Global;
+
+/// What is wrong with a refused text, and where.
+#[derive(Clone, Copy, Debug, PartialEq, Eq)]
+pub struct TextDiagnosis<'a> {
+    /// The fault that the reader returned.
+    pub fault: TextFault,
+    /// The line that the fault names, if it names one, without spaces and tabs at both ends.
+    pub line: Option<&'a [u8]>,
+    /// The form of the text that explains the fault, if one is recognized.
+    pub form: Option<TextForm>,
+}
+
+impl TextFault {
+    /// Returns the number of the line that the fault names, if it names one.
+    pub fn line_number(self) -> Option<u32>
+        ensures { result ≡ line_number self }
+    {
+        match self {
+            TextFault::BadLine(number)
+            | TextFault::Twice(number)
+            | TextFault::BadNumber(number)
+            | TextFault::BadGoal(number) => Some(number),
+            _ => None,
+        }
+    }
+}
+
+/// Returns the lines of a text; none if it is too long to be read.
+fn readable_lines(alloc: Global, bytes: &[u8]) -> Result<Vec<TextLine<'_>>, NoMemory>
+    ensures { IfOk result (λ found. map shown_line found.items ≡ readable_lines bytes.now) }
+{
+    if bytes.len() > MAX_PUZZLE_LEN {
+        return Ok(Vec::new(alloc));
+    }
+    all_lines(alloc, bytes)
+}
+
+/// Returns the text of the line with this number, if there is such a line.
+fn text_of_line<'a>(number: u32, lines: &[TextLine<'a>]) -> Option<&'a [u8]>
+    ensures { option_map (λ text. text.now) result
+        ≡ text_of_line number (map shown_line lines.now) }
+{
+    let mut rest = lines;
+    while let [line, others @ ..] = rest {
+        if line.number == number {
+            return Some(line.text);
+        }
+        rest = others;
+    }
+    None
+}
+
+/// Returns the text of the line that a fault names, if it names one.
+fn named_line<'a>(fault: TextFault, lines: &[TextLine<'a>]) -> Option<&'a [u8]>
+    ensures { option_map (λ text. text.now) result ≡ named_line fault (map shown_line lines.now) }
+{
+    text_of_line(fault.line_number()?, lines)
+}
+
+/// Tells what is wrong with a text that a reader refused with `fault`.
+pub fn diagnose_text<'a>(
+    alloc: Global,
+    bytes: &'a [u8],
+    fault: TextFault,
+) -> Result<TextDiagnosis<'a>, NoMemory>
+    ensures fault { IfOk result (λ found. found.fault ≡ fault) }
+    ensures line { IfOk result (λ found. option_map (λ text. text.now) found.line
+        ≡ named_line fault (readable_lines bytes.now)) }
+    ensures form { IfOk result (λ found. found.form ≡ form_of_bytes bytes.now) }
+{
+    let lines = readable_lines(alloc, bytes)?;
+    Ok(TextDiagnosis {
+        fault,
+        line: named_line(fault, &lines),
+        form: form_of_bytes(bytes),
+    })
+}

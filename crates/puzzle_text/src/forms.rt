@@ -1,0 +1,57 @@
+//! Recognizes forms of a text that explain why it is refused.
+
+ghost use Rattle.std.specs.Prelude.{◌≡◌, ◌==◌};
+ghost use Rattle.std.specs.List.{list_any};
+ghost use Rattle.puzzle_text.specs.Forms.{form_of_bytes, has_byte_order_mark, has_lone_returns, is_utf16};
+
+/// A form of a text that explains why it is refused. Of several, the first in the order of this
+/// list is reported.
+#[derive(Clone, Copy, Debug, PartialEq, Eq)]
+pub enum TextForm {
+    /// The text begins with the byte order mark of UTF-8, EF BB BF.
+    ByteOrderMark,
+    /// The text begins with a byte order mark of UTF-16, FE FF or FF FE.
+    Utf16,
+    /// The text has carriage returns but no line feed, so that it is a single line.
+    LoneReturns,
+}
+
+fn has_byte_order_mark(bytes: &[u8]) -> bool
+    ensures { result ≡ has_byte_order_mark bytes.now }
+{
+    bytes.starts_with(b"\xEF\xBB\xBF")
+}
+
+fn is_utf16(bytes: &[u8]) -> bool
+    ensures { result ≡ is_utf16 bytes.now }
+{
+    bytes.starts_with(b"\xFE\xFF") || bytes.starts_with(b"\xFF\xFE")
+}
+
+fn contains(bytes: &[u8], wanted: u8) -> bool
+    ensures { result ≡ list_any (λ byte. byte == wanted) bytes.now }
+{
+    bytes.iter().any(|byte| *byte == wanted)
+}
+
+fn has_lone_returns(bytes: &[u8]) -> bool
+    ensures { result ≡ has_lone_returns bytes.now }
+{
+    contains(bytes, b'\r') && !contains(bytes, b'\n')
+}
+
+/// Returns the form that a text's bytes have, if it is one of the first three of `TextForm`.
+pub(crate) fn form_of_bytes(bytes: &[u8]) -> Option<TextForm>
+    ensures { result ≡ form_of_bytes bytes.now }
+{
+    if has_byte_order_mark(bytes) {
+        return Some(TextForm::ByteOrderMark);
+    }
+    if is_utf16(bytes) {
+        return Some(TextForm::Utf16);
+    }
+    if has_lone_returns(bytes) {
+        return Some(TextForm::LoneReturns);
+    }
+    None
+}

@@ -1,0 +1,91 @@
+//! Tests of what a diagnosis says of refused texts.
+
+use puzzle_text::*;
+use std::alloc::Global;
+use std::test::Fail;
+
+/// Returns the diagnosis of a text that the format's reader refuses, or `None` if it accepts it.
+fn diagnosis_of<'a>(
+    alloc: Global,
+    format: Format,
+    text: &'a [u8],
+) -> Result<Option<TextDiagnosis<'a>>, Fail> {
+    match format.read(alloc, text) {
+        Ok(_) => Ok(None),
+        Err(fault) => Ok(Some(diagnose_text(alloc, text, fault)?)),
+    }
+}
+
+/// Refused texts, each with its fault, the text of the line that this names, and its form.
+static REFUSED: [(Format, &[u8], TextFault, Option<&[u8]>, Option<TextForm>); 9] = [
+    (
+        Format::Mk,
+        b"\xEF\xBB\xBF1 1\n1\n#\n1\n",
+        TextFault::BadSize,
+        None,
+        Some(TextForm::ByteOrderMark),
+    ),
+    (
+        Format::Nin,
+        b"\xFF\xFE1\0 \x001\0\n\0",
+        TextFault::BadSize,
+        None,
+        Some(TextForm::Utf16),
+    ),
+    (
+        Format::Nin,
+        b"\xFE\xFF\x001\0 \x001\0\n",
+        TextFault::BadSize,
+        None,
+        Some(TextForm::Utf16),
+    ),
+    (
+        Format::Mk,
+        b"1 1\r1\r#\r1\r",
+        TextFault::BadSize,
+        None,
+        Some(TextForm::LoneReturns),
+    ),
+    (
+        Format::Mk,
+        b"1 1\r\n2 x\t\r\n#\r\n1\r\n",
+        TextFault::BadNumber(2),
+        Some(b"2 x"),
+        None,
+    ),
+    (
+        Format::Non,
+        b"\n  7\nwidth 1\nheight 1\nrows\n1\ncolumns\n1\n",
+        TextFault::BadLine(2),
+        Some(b"7"),
+        None,
+    ),
+    (
+        Format::Non,
+        b"width 1\nheight 1\nrows\n1\ncolumns\n1\nWidth 2",
+        TextFault::Twice(7),
+        Some(b"Width 2"),
+        None,
+    ),
+    (
+        Format::Non,
+        b"width 1\nheight 1\nrows\n1\ncolumns\n1\ngoal x\n",
+        TextFault::BadGoal(7),
+        Some(b"goal x"),
+        None,
+    ),
+    (Format::Nin, b"1 1\n1\n", TextFault::BadCount, None, None),
+];
+
+#[test]
+fn a_diagnosis_has_the_named_line_and_the_form(rt: HostRuntime) -> Result<(), Fail> {
+    for (format, text, fault, line, form) in REFUSED {
+        let Some(found) = diagnosis_of(rt.alloc(), format, text)? else {
+            panic!(rt; "{fault} is not reported");
+        };
+        assert_eq!(rt; found.fault, fault);
+        assert_eq!(rt; found.line, line);
+        assert_eq!(rt; found.form, form);
+    }
+    Ok(())
+}
