@@ -4,6 +4,7 @@ pub mod AllLemmas
 pub mod LinesLemmas
 pub mod NumbersLemmas
 pub mod SectionsLemmas
+pub mod CountsLemmas
 pub mod ParsedLines
 pub mod ReadBack
 pub mod ReadMk

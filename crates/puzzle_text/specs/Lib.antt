@@ -16,6 +16,7 @@ pub mod Words
 pub mod Written
 pub mod Formats
 pub mod Laws
+pub mod Counts
 pub mod Forms
 pub mod Diagnosis
 pub mod steps

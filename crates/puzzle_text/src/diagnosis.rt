@@ -2,15 +2,18 @@
 
 ghost use Rattle.std.specs.Prelude.{◌≡◌, map, IfOk};
 ghost use Rattle.std.specs.Option.{option_map};
+ghost use Rattle.puzzle_text.specs.Counts.{counts_of};
 ghost use Rattle.puzzle_text.specs.Diagnosis.{line_number, named_line, readable_lines, text_of_line};
 ghost use Rattle.puzzle_text.specs.Forms.{form_of_bytes};
 ghost use Rattle.puzzle_text.specs.steps.Shown.{shown_line};
 
+use crate::counts::{TextCounts, counts_of};
 use crate::faults::TextFault;
+use crate::formats::Format;
 use crate::forms::{TextForm, form_of_bytes};
 use crate::limits::MAX_PUZZLE_LEN;
 use crate::lines::{TextLine, all_lines};
-use grid_core::NoMemory;
+use grid_core::{MAX_SIDE, NoMemory};
 use std::alloc::Global;
 
 /// What is wrong with a refused text, and where.
@@ -20,6 +23,9 @@ pub struct TextDiagnosis<'a> {
     pub fault: TextFault,
     /// The line that the fault names, if it names one, without spaces and tabs at both ends.
     pub line: Option<&'a [u8]>,
+    /// What the text has and should have, if the fault is a wrong number of clue lines or a wrong
+    /// goal.
+    pub counts: Option<TextCounts>,
     /// The form of the text that explains the fault, if one is recognized.
     pub form: Option<TextForm>,
 }
@@ -71,21 +77,25 @@ fn named_line<'a>(fault: TextFault, lines: &[TextLine<'a>]) -> Option<&'a [u8]>
     text_of_line(fault.line_number()?, lines)
 }
 
-/// Tells what is wrong with a text that a reader refused with `fault`.
+/// Tells what is wrong with a text that the reader of `format` refused with `fault`.
 pub fn diagnose_text<'a>(
     alloc: Global,
+    format: Format,
     bytes: &'a [u8],
     fault: TextFault,
 ) -> Result<TextDiagnosis<'a>, NoMemory>
     ensures fault { IfOk result (λ found. found.fault ≡ fault) }
     ensures line { IfOk result (λ found. option_map (λ text. text.now) found.line
         ≡ named_line fault (readable_lines bytes.now)) }
+    ensures counts { IfOk result (λ found. found.counts
+        ≡ counts_of MAX_SIDE format fault (readable_lines bytes.now)) }
     ensures form { IfOk result (λ found. found.form ≡ form_of_bytes bytes.now) }
 {
     let lines = readable_lines(alloc, bytes)?;
     Ok(TextDiagnosis {
         fault,
         line: named_line(fault, &lines),
+        counts: counts_of(alloc, format, fault, &lines)?,
         form: form_of_bytes(bytes),
     })
 }

@@ -3,6 +3,7 @@
 
 mod clue_lines;
 mod collections;
+mod counts;
 mod descriptions;
 mod diagnosis;
 mod fast_lines;
@@ -33,6 +34,7 @@ mod words;
 mod writing;
 
 pub use collections::{Entry, entries};
+pub use counts::{Count, TextCounts};
 pub use diagnosis::{TextDiagnosis, diagnose_text};
 pub use faults::{CollectionFault, EntryFault, TextFault, WriteFault};
 pub use formats::{Format, read_entry};

@@ -28,7 +28,9 @@ fn hash_place(lines: &[TextLine<'_>]) -> Option<usize>
 /// Returns the lines before and the lines after the first one that begins with `#`, or `None` if
 /// there is none.
 #[tactic(auto, using(crate::proofs::ParsedLines::at_hash_found, crate::proofs::ParsedLines::at_hash_none))]
-fn at_hash<'a, 'b>(lines: &'b [TextLine<'a>]) -> Option<(&'b [TextLine<'a>], &'b [TextLine<'a>])>
+pub(crate) fn at_hash<'a, 'b>(
+    lines: &'b [TextLine<'a>],
+) -> Option<(&'b [TextLine<'a>], &'b [TextLine<'a>])>
     ensures { option_map (λ parts. (map shown_line parts.0.now, map shown_line parts.1.now)) result
         ≡ at_hash (map shown_line lines.now) }
 {
@@ -39,7 +41,7 @@ fn at_hash<'a, 'b>(lines: &'b [TextLine<'a>]) -> Option<(&'b [TextLine<'a>], &'b
 }
 
 #[tactic(auto, using(crate::proofs::ParsedLines::before_hash_found, crate::proofs::ParsedLines::before_hash_none))]
-fn before_hash<'a, 'b>(lines: &'b [TextLine<'a>]) -> &'b [TextLine<'a>]
+pub(crate) fn before_hash<'a, 'b>(lines: &'b [TextLine<'a>]) -> &'b [TextLine<'a>]
     ensures { map shown_line result.now ≡ before_hash (map shown_line lines.now) }
 {
     match hash_place(lines) {

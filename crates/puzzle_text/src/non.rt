@@ -1,6 +1,7 @@
 //! The general reader for the format `.non`.
 
 ghost use Rattle.std.specs.Prelude.{◌≡◌, ◌<◌, map, length, Err, IfOk, OnOk};
+ghost use Rattle.std.specs.Result.{result_ok};
 ghost use Rattle.std.specs.Str.{str_to_ascii_lowercase};
 ghost use Rattle.grid_core.specs.Description.{IsDescription};
 ghost use Rattle.grid_core.specs.Nonogram.{HasClueForEachLine};
@@ -22,7 +23,7 @@ use crate::lines::TextLine;
 use crate::parts::puzzle_from_parts;
 use crate::section_split::{Sections, clue_lines_of, sections_of};
 use crate::sizes::{size_of, text_lines};
-use grid_core::{Clue, MAX_SIDE, Puzzle};
+use grid_core::{Clue, MAX_SIDE, NoMemory, Puzzle};
 use std::alloc::Global;
 
 /// Returns the lesser of two numbers, of which a missing one is ignored; `None` if both are
@@ -216,4 +217,17 @@ pub fn plain_non(alloc: Global, bytes: &[u8]) -> Result<Puzzle, TextFault>
 {
     let lines = text_lines(alloc, bytes)?;
     non_of(alloc, &lines)
+}
+
+/// Returns the width and the height that the keyword lines say; `None` if `plain_non` finds a fault
+/// in them.
+pub(crate) fn known_sizes(lines: &[KeywordLine<'_>]) -> Result<Option<(u16, u16)>, NoMemory>
+    ensures { IfOk result (λ sizes. sizes
+        ≡ result_ok (sizes_of MAX_SIDE (map shown_keyword lines.now))) }
+{
+    match sizes_of(lines) {
+        Ok(sizes) => Ok(Some(sizes)),
+        Err(TextFault::NoMemory) => Err(NoMemory),
+        Err(_) => Ok(None),
+    }
 }

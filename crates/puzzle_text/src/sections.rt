@@ -4,6 +4,7 @@
 ghost use Rattle.std.specs.Prelude.{◌≡◌, ◌==◌, ◌<◌, ◌^◌, not, filter, map, length, count_by, drop, take, IfOk, IfSome};
 ghost use Rattle.std.specs.List.{list_all};
 ghost use Rattle.std.specs.Option.{option_map};
+ghost use Rattle.puzzle_text.specs.Counts.{clue_line_count};
 ghost use Rattle.puzzle_text.specs.Lines.{is_blank_line, is_non_blank};
 ghost use Rattle.puzzle_text.specs.Sections.{section_lines};
 ghost use Rattle.puzzle_text.specs.steps.Sections.{leading_lines};
@@ -92,4 +93,16 @@ pub(crate) fn section_lines<'a, 'b>(
     }
     let non_blank = non_blank_lines(alloc, section)?;
     Ok(Some(SectionLines::NonBlank(non_blank)))
+}
+
+/// Returns how many clue lines a section has that should have `wanted`: as many if `section_lines`
+/// finds them, and otherwise the number of its non-blank lines.
+#[tactic(auto, using(crate::proofs::SectionsLemmas::leading_lines_suffice, crate::proofs::CountsLemmas::counted_non_blank))]
+pub(crate) fn clue_line_count(wanted: usize, section: &[TextLine<'_>]) -> usize
+    ensures { result ≡ clue_line_count wanted (map shown_line section.now) }
+{
+    match leading_lines(wanted, section) {
+        Some(_) => wanted,
+        None => non_blank_count(section),
+    }
 }

@@ -12,7 +12,7 @@ fn diagnosis_of<'a>(
 ) -> Result<Option<TextDiagnosis<'a>>, Fail> {
     match format.read(alloc, text) {
         Ok(_) => Ok(None),
-        Err(fault) => Ok(Some(diagnose_text(alloc, text, fault)?)),
+        Err(fault) => Ok(Some(diagnose_text(alloc, format, text, fault)?)),
     }
 }
 
@@ -86,6 +86,99 @@ fn a_diagnosis_has_the_named_line_and_the_form(rt: HostRuntime) -> Result<(), Fa
         assert_eq!(rt; found.fault, fault);
         assert_eq!(rt; found.line, line);
         assert_eq!(rt; found.form, form);
+    }
+    Ok(())
+}
+
+/// Refused texts, each with its fault, and what it has and should have.
+static COUNTED: [(Format, &[u8], TextFault, Option<TextCounts>); 9] = [
+    // The blank line is no clue line, since two lines come below it.
+    (
+        Format::Non,
+        b"width 2\nheight 2\nrows\n1\n\n1\n1\ncolumns\n1\n1\n",
+        TextFault::BadCount,
+        Some(TextCounts::Sections {
+            rows: Count {
+                found: 3,
+                wanted: 2,
+            },
+            columns: Count {
+                found: 2,
+                wanted: 2,
+            },
+        }),
+    ),
+    // The blank line is the second row's clue.
+    (
+        Format::Non,
+        b"width 2\nheight 2\nrows\n1\n\ncolumns\n1\n",
+        TextFault::BadCount,
+        Some(TextCounts::Sections {
+            rows: Count {
+                found: 2,
+                wanted: 2,
+            },
+            columns: Count {
+                found: 1,
+                wanted: 2,
+            },
+        }),
+    ),
+    (
+        Format::Mk,
+        b"2 3\n1\n1\n#\n1\n1\n#\n1\n",
+        TextFault::BadCount,
+        Some(TextCounts::Sections {
+            rows: Count {
+                found: 2,
+                wanted: 2,
+            },
+            columns: Count {
+                found: 2,
+                wanted: 3,
+            },
+        }),
+    ),
+    (
+        Format::Nin,
+        b"2 3\n1\n1\n1\n1\n",
+        TextFault::BadCount,
+        Some(TextCounts::Together(Count {
+            found: 4,
+            wanted: 5,
+        })),
+    ),
+    (
+        Format::Non,
+        b"width 2\nheight 1\nrows\n1\ncolumns\n1\n0\ngoal \"101\"\n",
+        TextFault::BadGoal(8),
+        Some(TextCounts::Goal(Count {
+            found: 3,
+            wanted: 2,
+        })),
+    ),
+    (
+        Format::Non,
+        b"width 1\nheight 1\nrows\n1\ncolumns\n1\ngoal x\n",
+        TextFault::BadGoal(7),
+        Some(TextCounts::Goal(Count {
+            found: 1,
+            wanted: 1,
+        })),
+    ),
+    (Format::Non, b"", TextFault::NoSize, None),
+    (Format::Mk, b"0 1\n", TextFault::BadSize, None),
+    (Format::Nin, b"1 1\nx\n1\n", TextFault::BadNumber(2), None),
+];
+
+#[test]
+fn a_diagnosis_counts_what_is_found_and_wanted(rt: HostRuntime) -> Result<(), Fail> {
+    for (format, text, fault, counts) in COUNTED {
+        let Some(found) = diagnosis_of(rt.alloc(), format, text)? else {
+            panic!(rt; "{fault} is not reported");
+        };
+        assert_eq!(rt; found.fault, fault);
+        assert_eq!(rt; found.counts, counts);
     }
     Ok(())
 }
