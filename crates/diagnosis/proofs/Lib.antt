@@ -1,0 +1,2 @@
+-- Lemmas on the definitions of a diagnosis.
+pub mod Ranges

@@ -1,0 +1,5 @@
+-- The definitions that public contracts use.
+pub mod Misfits
+pub mod Sums
+pub mod Differences
+pub mod Goals

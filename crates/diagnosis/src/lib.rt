@@ -1,0 +1,12 @@
+//! The diagnosis of a puzzle: what is wrong with it, and where.
+#![tactic(auto)]
+
+mod differences;
+mod goals;
+mod misfits;
+mod sums;
+
+pub use differences::{Position, differing_cells};
+pub use goals::goal_rows;
+pub use misfits::{Misfit, puzzle_misfits};
+pub use sums::{Sums, puzzle_sums};
