@@ -1,2 +1,5 @@
 -- Lemmas on the definitions of a diagnosis.
 pub mod Ranges
+pub mod RunSizes
+pub mod LineTotals
+pub mod SolutionLaws

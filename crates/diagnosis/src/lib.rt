@@ -3,6 +3,7 @@
 
 mod differences;
 mod goals;
+pub mod laws;
 mod misfits;
 mod sums;
 
