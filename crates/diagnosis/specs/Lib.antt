@@ -3,3 +3,4 @@ pub mod Misfits
 pub mod Sums
 pub mod Differences
 pub mod Goals
+pub mod Diagnoses

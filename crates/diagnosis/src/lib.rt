@@ -1,12 +1,14 @@
 //! The diagnosis of a puzzle: what is wrong with it, and where.
 #![tactic(auto)]
 
+mod diagnosing;
 mod differences;
 mod goals;
 pub mod laws;
 mod misfits;
 mod sums;
 
+pub use diagnosing::{Diagnosis, Outcome, diagnose};
 pub use differences::{Position, differing_cells};
 pub use goals::goal_rows;
 pub use misfits::{Misfit, puzzle_misfits};

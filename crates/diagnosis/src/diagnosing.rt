@@ -1,0 +1,66 @@
+//! The diagnosis of a puzzle.
+
+ghost use Rattle.std.specs.Prelude.{IfOk};
+ghost use Rattle.diagnosis.specs.Diagnoses.{HaveSizeOf, IsDiagnosisOf, IsOutcomeOf};
+
+use crate::differences::{Position, differing_cells};
+use crate::goals::goal_rows;
+use crate::misfits::{Misfit, puzzle_misfits};
+use crate::sums::{Sums, puzzle_sums};
+use grid_core::{NoMemory, Puzzle};
+use solve_core::{Findings, Grade, Verdict};
+use std::alloc::Global;
+
+/// What is wrong with the solutions of a puzzle.
+#[derive(Debug, Drop)]
+pub enum Outcome {
+    /// There is no solution: lines, trials or the search refuted the puzzle.
+    Refuted(Grade),
+    /// There is one solution. These rows, counted from 0, differ from the puzzle's goal, if it has
+    /// one.
+    Unique(Vec<u16>),
+    /// There are two solutions, which differ in these cells. There may be more.
+    Ambiguous(Vec<Position>),
+    /// The limit on guesses cut the search short.
+    Unsettled,
+}
+
+/// What is wrong with a puzzle, and where.
+#[derive(Debug, Drop)]
+pub struct Diagnosis {
+    /// The clues that don't fit their line, rows first. If there is one, there is no solution.
+    pub misfits: Vec<Misfit>,
+    /// How many filled cells the clues ask for. If these numbers differ, there is no solution.
+    pub sums: Sums,
+    /// What the verdict shows.
+    pub outcome: Outcome,
+}
+
+/// Returns what the verdict on `puzzle` in `findings` shows. Fails with `NoMemory` if an allocation
+/// fails.
+fn outcome_of(alloc: Global, puzzle: &Puzzle, findings: &Findings) -> Result<Outcome, NoMemory>
+    requires { HaveSizeOf puzzle.now findings.now.verdict }
+    ensures { IfOk result (IsOutcomeOf puzzle.now findings.now) }
+{
+    Ok(match &findings.verdict {
+        Verdict::Nothing => Outcome::Refuted(findings.grade),
+        Verdict::One(grid) => Outcome::Unique(goal_rows(alloc, puzzle, grid)?),
+        Verdict::Several(first, second) => {
+            Outcome::Ambiguous(differing_cells(alloc, first, second)?)
+        }
+        Verdict::Unsettled(_) => Outcome::Unsettled,
+    })
+}
+
+/// Returns what is wrong with `puzzle`, by a report's `findings` on it. Fails with `NoMemory` if an
+/// allocation fails.
+pub fn diagnose(alloc: Global, puzzle: &Puzzle, findings: &Findings) -> Result<Diagnosis, NoMemory>
+    requires { HaveSizeOf puzzle.now findings.now.verdict }
+    ensures { IfOk result (IsDiagnosisOf puzzle.now findings.now) }
+{
+    Ok(Diagnosis {
+        misfits: puzzle_misfits(alloc, puzzle)?,
+        sums: puzzle_sums(puzzle),
+        outcome: outcome_of(alloc, puzzle, findings)?,
+    })
+}
