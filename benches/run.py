@@ -1,171 +1,122 @@
 #!/usr/bin/env python3
-"""Compares the program with a reference solver, which is plain Rust and unproved, on five collections made by a seed.
+"""Measures the program, beside others too, on puzzles made from a seed.
 
-  benches/run.py make                     builds that solver and makes the collections, which it keeps in out/benches
-  benches/run.py test [PROGRAM]           tests that both print the same, and that the program got no slower
-  benches/run.py record [PROGRAM]         records how fast the program is, for that test
-  benches/run.py instructions [PROGRAM]   prints a table of the instructions that both execute
+Commands:
+  make          builds the reference solver, plain Rust and unproved, and makes five collections, all in out/benches
+  test          tests that both print the same of these, and that the program got no slower
+  record        records how fast the program is, for that test
+  page [TABLE]  measures all tables, or those named, and writes them into docs/benchmarks.md
 
-PROGRAM is otherwise the one that `rt ci` left. The reference solver needs `rustc`, and counting needs Valgrind. The program got
-slower if for the first puzzles of a collection it executes over 5% more instructions of its own than benches/recorded.txt
-says; those of the C library don't count, since its code depends on the machine. The last line of `test` is `N passed, M
-failed`.
+Tables; as a command each is printed:
+{tables}
+
+The program got slower if for the first puzzles of a collection it executes over 5% more instructions of its own than
+benches/recorded.txt says; those of the C library don't count, since its code depends on the machine. The last line of `test`
+is `N passed, M failed`. Wall times are the least of several runs, to be taken on an idle machine; what is printed then is
+dropped. Status 1: a test failed, or a run ended badly. 2: something is missing.
 """
 
 import argparse
-import math
 import os
-import re
 import subprocess
 import sys
-import tempfile
-from concurrent.futures import ThreadPoolExecutor
-from pathlib import Path
+import time
 
-TOP = Path(__file__).resolve().parent.parent
-OUT = TOP / "out/benches"
-SOURCES = sorted((TOP / "benches/reference").glob("*.rs"))
-RECORDED = TOP / "benches/recorded.txt"
-SEED = "1"
-# The processor level for which the program is built, too.
-BUILD = "rustc --edition 2021 -O -C codegen-units=1 -C target-cpu=x86-64-v2".split()
-# For each kind of collection, for how many of its first puzzles the program's own instructions are recorded.
-KINDS = {"pictures": 40, "large": 3, "trials": 15, "search": 5, "odd": 40}
-MOST_PERCENT = 105  # of the recorded number
-# In the output of callgrind: a file of code, or of the code that is called, with its number and, the first time, its name;
-# and the position of an instruction, or of several, and what they cost. Below `calls=` stands the cost of what was called.
-CODE_FILE = re.compile(r"(c?)ob=(\(\d+\))(?: (.+))?")
-COST = re.compile(r"[+\-*\d]\S* (\d+)$")
+sys.dont_write_bytecode = True  # no folder beside these files
 
+import comparing
+import growth
+import page
+import peers
+import puzzles
+import searching
+import shards
+import timing
+from running import Missing, need, need_file
 
-def reference():
-    """Builds the reference solver, if its sources are newer, and returns its path."""
-    path = OUT / "reference"
-    if not path.exists() or any(it.stat().st_mtime > path.stat().st_mtime for it in SOURCES):
-        OUT.mkdir(parents=True, exist_ok=True)
-        subprocess.run([*BUILD, TOP / "benches/reference/main.rs", "-o", path], check=True)
-    return path
-
-
-def collections():
-    """Makes the collections, if the reference solver is newer, and returns the path of each."""
-    folder, made = OUT / f"seed-{SEED}", OUT / f"seed-{SEED}/made"
-    if not made.exists() or made.stat().st_mtime < reference().stat().st_mtime:
-        folder.mkdir(parents=True, exist_ok=True)
-        subprocess.run([reference(), "generate", SEED, folder], check=True)
-        made.touch()
-    return {kind: folder / f"{kind}.txt" for kind in KINDS}
+# For each table what measures it, and the programs that this needs.
+TABLES = {
+    "peers": (peers.peers, "minisat cadical"),
+    "instructions": (comparing.instructions, "valgrind"),
+    "start": (timing.start, "valgrind"),
+    "library": (timing.library, "valgrind cc"),
+    "lanes": (timing.lanes, "valgrind"),
+    "memory": (timing.memory, ""),
+    "growth": (growth.growth, "valgrind"),
+    "worst": (searching.worst, "valgrind"),
+    "rules": (searching.rules, ""),
+    "shards": (shards.shards, "parallel mawk gawk"),
+}
+COMMANDS = {"test": comparing.test, "record": comparing.record}
 
 
-def entries(path):
-    return re.split(rb"(?m)^(?=@ )", path.read_bytes())[1:]
+def check(names, words):
+    """Raises `Missing` unless everything that these tables need is there."""
+    need(*sorted({program for name in names for program in TABLES[name][1].split()}))
+    if "library" in names:
+        need_file(f"{words.library}/{timing.ARCHIVE}", "tools/library.sh")
 
 
-def make(_program):
-    collections()
+def measured(name, words):
+    """Returns the tables of a command."""
+    begun = time.monotonic()
+    arguments = [words.program, *([words.library] if name == "library" else [])]
+    tables = TABLES[name][0](*arguments)
+    print(f"{name}: {time.monotonic() - begun:.0f} s", file=sys.stderr)
+    return tables
 
 
-def printed(words, collection):
-    with open(collection, "rb") as text:
-        return subprocess.run(words, stdin=text, stdout=subprocess.PIPE, check=True).stdout
+def write_page(names, words):
+    for name in names:
+        tables = measured(name, words)
+        page.write(name, tables)
+        if name == "peers":
+            page.plot(*tables)
 
 
-def compare_answers(program):
-    """Compares what both print, with all solutions. Returns how many entries are alike, and how many collections aren't."""
-    passed = failed = 0
-    for kind, path in collections().items():
-        ours = printed([program, "survey", "--lanes", "4", "--show"], path).split(b"\n")
-        theirs = printed([reference(), "survey", "1000"], path).split(b"\n")
-        if ours == theirs:
-            passed += len(entries(path))
-        else:
-            failed += 1
-            lines = next((pair for pair in zip(ours, theirs) if pair[0] != pair[1]), (b"more or less",) * 2)
-            print(f"FAILED {kind}: the program prints {lines[0]!r}, the reference solver {lines[1]!r}")
-    return passed, failed
-
-
-def count(words, collection, code=None):
-    """Returns how many instructions a run takes: all, or those in one file of code."""
-    with tempfile.NamedTemporaryFile(mode="r") as out:
-        printed(["valgrind", "-q", "--tool=callgrind", f"--callgrind-out-file={out.name}", *words], collection)
-        names, total, is_counted, is_call = {}, 0, code is None, False
-        for line in out:
-            if found := CODE_FILE.match(line):
-                is_callee, number, name = found.groups()
-                names[number] = name or names[number]
-                if not is_callee and code is not None:
-                    is_counted = names[number] == code
-            elif line.startswith("calls="):
-                is_call = True
-            elif found := COST.match(line):
-                if is_counted and not is_call:
-                    total += int(found[1])
-                is_call = False
-        return total
-
-
-def survey_words(program):
-    return [program, "survey", "--lanes", "1"]
-
-
-def own_instructions(program):
-    """Returns how many instructions of its own the program executes for the first puzzles of each collection."""
-    with tempfile.TemporaryDirectory() as room, ThreadPoolExecutor(os.cpu_count()) as pool:
-
-        def own(kind, path):
-            first = Path(room) / kind
-            first.write_bytes(b"".join(entries(path)[: KINDS[kind]]))
-            return count(survey_words(program), first, program)
-
-        return dict(zip(KINDS, pool.map(own, *zip(*collections().items()))))
-
-
-def compare_speed(program):
-    """Compares the program's instructions with those recorded. Returns how many collections pass, and how many fail."""
-    recorded = dict(line.split() for line in RECORDED.read_text().splitlines())
-    passed = failed = 0
-    for kind, number in own_instructions(program).items():
-        percent = number * 100 / int(recorded[kind])
-        print(f"{kind}: {number:,} instructions, {percent:.1f}% of those recorded")
-        if percent <= MOST_PERCENT:
-            passed += 1
-        else:
-            failed += 1
-            print(f"FAILED {kind}: over {MOST_PERCENT}%. `make instructions` records them anew")
-    return passed, failed
-
-
-def test(program):
-    passed, failed = map(sum, zip(compare_answers(program), compare_speed(program)))
-    print(f"{passed} passed, {failed} failed")
-    return 1 if failed else 0
-
-
-def record(program):
-    RECORDED.write_text("".join(f"{kind} {number}\n" for kind, number in own_instructions(program).items()))
-
-
-def instructions(program):
-    """Prints the instructions of both for each collection."""
-    paths = collections()
-    with ThreadPoolExecutor(os.cpu_count()) as pool:
-        ours = pool.map(lambda path: count(survey_words(program), path), paths.values())
-        theirs = pool.map(lambda path: count([reference(), "survey"], path), paths.values())
-    rows = list(zip(KINDS, ours, theirs))
-    print("| collection | program, million | reference solver, million | ratio |\n|---|---|---|---|")
-    for kind, ours, theirs in rows:
-        print(f"| {kind} | {ours / 1e6:.0f} | {theirs / 1e6:.0f} | {ours / theirs:.2f} |")
-    print(f"| geometric mean | | | {math.exp(sum(math.log(row[1] / row[2]) for row in rows) / len(rows)):.2f} |")
+def perform(words):
+    """Does what a command line asks for, and returns the status."""
+    if words.command == "make":
+        puzzles.collections()
+        return 0
+    if not os.access(words.program, os.X_OK):
+        raise Missing(f"there is no program {words.program}; `make` builds it")
+    if words.command in COMMANDS:
+        return COMMANDS[words.command](words.program)
+    if words.command == "page":
+        names = words.tables or list(TABLES)
+        check(names, words)
+        write_page(names, words)
+    else:
+        check([words.command], words)
+        print(*measured(words.command, words), sep="\n\n")
+    return 0
 
 
 def main():
-    commands = {"make": make, "test": test, "record": record, "instructions": instructions}
-    parser = argparse.ArgumentParser(description=__doc__, formatter_class=argparse.RawDescriptionHelpFormatter)
-    parser.add_argument("command", choices=commands)
-    parser.add_argument("program", nargs="?", default=TOP / "crates/nonograde/out/nonograde")
-    words = parser.parse_args()
-    return commands[words.command](os.path.realpath(words.program))
+    about = __doc__.format(tables="\n".join(f"  {name:12}  {table.__doc__}" for name, (table, _) in TABLES.items()))
+    parser = argparse.ArgumentParser(description=about, formatter_class=argparse.RawDescriptionHelpFormatter)
+    parser.add_argument("command", choices=["make", *COMMANDS, "page", *TABLES], metavar="COMMAND")
+    parser.add_argument("tables", nargs="*", metavar="TABLE")
+    built = puzzles.TOP / "crates/nonograde/out/nonograde"
+    parser.add_argument("--program", default=built, help="the program, else the one that is built here")
+    parser.add_argument("--library", default=puzzles.TOP / "out/library", help="its folder, else out/library")
+    words = parser.parse_intermixed_args()
+    if words.tables and words.command != "page":
+        parser.error("only `page` takes tables")
+    if unknown := [table for table in words.tables if table not in TABLES]:
+        parser.error(f"there is no table {unknown[0]}")
+    words.program = os.path.realpath(words.program)
+    try:
+        return perform(words)
+    except Missing as missing:
+        print(f"run.py: {missing}", file=sys.stderr)
+        return 2
+    except peers.Differs as differs:
+        print(f"run.py: {differs}", file=sys.stderr)
+    except subprocess.CalledProcessError as ended:
+        print(f"run.py: {' '.join(map(str, ended.cmd))} ended with status {ended.returncode}", file=sys.stderr)
+    return 1
 
 
 if __name__ == "__main__":

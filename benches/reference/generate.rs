@@ -348,6 +348,28 @@ fn odd(draws: &mut Draws) -> Collection {
     collection
 }
 
+/// Returns a square drawing. Beyond 64 cells a side it is an enlarged one, since lines seldom solve many small shapes.
+fn square_drawing(draws: &mut Draws, side: usize) -> Picture {
+    let scale = (side + 63) / 64;
+    let drawing = Picture::drawing(draws, (side + scale - 1) / scale, (side + scale - 1) / scale);
+    let picture = Picture::new(side, side, |x, y| drawing.has(x / scale, y / scale));
+    if scale > 1 { picture.smoothed() } else { picture }
+}
+
+/// Returns `count` square puzzles of a kind: `pictures` are drawings that lines solve, `noise` has each cell filled with a
+/// chance of 50%, and `rough` is noise that is smoothed once. Returns nothing for any other kind.
+pub fn drawn(kind: &str, side: usize, count: usize, seed: u64) -> Option<String> {
+    let (draws, anything) = (&mut Draws::new(seed), |_: &mut Reporter, _: &Puzzle| true);
+    let mut collection = Collection::new("puzzle");
+    match kind {
+        "pictures" => collection.fill(count, draws, |draws| square_drawing(draws, side), is_solved_by_lines),
+        "noise" => collection.fill(count, draws, |draws| Picture::noise(draws, side, side, 50), anything),
+        "rough" => collection.fill(count, draws, |draws| Picture::noise(draws, side, side, 50).smoothed(), anything),
+        _ => return None,
+    }
+    Some(collection.text)
+}
+
 /// Writes the five collections into a folder.
 pub fn generate(seed: u64, folder: &str) -> std::io::Result<()> {
     let kinds: [fn(&mut Draws) -> Collection; 5] = [pictures, large, trials, search, odd];

@@ -2,9 +2,11 @@
 //!
 //!     reference survey [GUESSES] < COLLECTION
 //!     reference generate SEED FOLDER
+//!     reference draw KIND SIDE COUNT SEED
 //!
 //! The first prints what `nonograde survey` does, or, with GUESSES, `nonograde survey --show --guesses GUESSES`. The second
-//! writes five collections, which depend on the number SEED alone.
+//! writes five collections, which depend on the number SEED alone. The third prints a collection of COUNT puzzles with SIDE
+//! cells a side; KIND is `pictures`, `noise` or `rough`.
 
 mod bits;
 mod generate;
@@ -120,8 +122,13 @@ fn main() {
         ["generate", seed, folder] => {
             generate::generate(seed.parse().expect("SEED is no number"), folder).expect("FOLDER can't be written");
         }
+        ["draw", kind, side, count, seed] => {
+            let number = |word: &str| word.parse().expect("SIDE, COUNT and SEED are numbers");
+            let text = generate::drawn(kind, number(side), number(count), number(seed) as u64).expect("an unknown KIND");
+            std::io::stdout().write_all(text.as_bytes()).unwrap();
+        }
         _ => {
-            eprintln!("usage: reference survey [GUESSES] < COLLECTION, or reference generate SEED FOLDER");
+            eprintln!("usage: reference survey [GUESSES], generate SEED FOLDER, or draw KIND SIDE COUNT SEED");
             std::process::exit(2);
         }
     }
