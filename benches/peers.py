@@ -11,7 +11,7 @@ from tables import Table, milliseconds
 
 SOLVERS = ("minisat", "cadical")
 # For each side, how many pictures are solved.
-SIDES = {10: 10, 20: 10, 30: 10, 50: 10, 70: 5, 100: 5, 150: 3, 200: 3, 250: 3}
+SIDES = {10: 10, 20: 10, 30: 10, 50: 10, 70: 5, 100: 5, 150: 3, 200: 2, 250: 2}
 # How many rough pictures of each of these grades are solved, and their side.
 GRADES, GRADED, ROUGH_SIDE = ("trials", "search"), 15, 25
 GUESSES = "100000"
