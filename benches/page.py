@@ -24,9 +24,10 @@ def machine():
 
 
 def block(name, tables):
-    """Returns the tables of a command, with what repeats them."""
+    """Returns the tables of a command, with what repeats them, below the plot of `peers`."""
+    above = [f"![Time over size]({PLOT.name})"] if name == "peers" else []
     said = f"`benches/run.py {name}`, {time.strftime('%Y-%m-%d')}, {machine()}"
-    return "\n\n".join([*map(str, tables), said])
+    return "\n\n".join([*above, *map(str, tables), said])
 
 
 def write(name, tables):
