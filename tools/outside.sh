@@ -368,12 +368,17 @@ starts() {
     return $status
 }
 
-# Workers have to wake the collector at least COUNT times.
+# Workers have to wake the collector at least COUNT times, in one of five runs: if other work delays its thread, it
+# may not have parked again when it would be woken.
 wakes() {
     local limits=(env LD_PRELOAD=./wakes.so) status
-    ordinary "${@:2}" 9>woken
-    status=$?
-    [ "$(wc -l <woken)" -ge "$1" ] || echo "(they woke it $(wc -l <woken) times)" >>said
+    for _ in 1 2 3 4 5; do
+        : >said
+        ordinary "${@:2}" 9>woken
+        status=$?
+        [ "$(wc -l <woken)" -lt "$1" ] || return $status
+    done
+    echo "(they woke it $(wc -l <woken) times)" >>said
     return $status
 }
 
@@ -629,8 +634,8 @@ try starts:9 - surveyed_96 survey --lanes 3 $(lines 96 heart.non)
 try starts:12 - surveyed_300 survey --lanes 4 $(lines 300 heart.non)
 try starts:34 - surveyed_300 survey --lanes 16 $(lines 300 heart.non)
 
-# A worker wakes the collector whenever half of its ring is full of answers: here 75 times, or a few times fewer if the
-# collector hasn't parked again yet.
+# A worker wakes the collector whenever half of its ring is full of answers, here 75 times; 38 times if it waited for a
+# full ring.
 try wakes:60 - surveyed_300 survey --lanes 1 $(lines 300 heart.non)
 
 # Little room for addresses.
