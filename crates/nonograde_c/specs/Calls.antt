@@ -2,6 +2,7 @@
 -- buffer.
 use Rattle.std.specs.Prelude.{◌≡◌, ℕ, zero, suc, ◌<◌, ◌≤◌, ◌++◌, List, length, drop, codes, nat_le, if◌then◌else◌, Option, Some, None, Result, Ok, Err}
 use Rattle.lane_core.specs.declared.jobs.TheConstants.{MAX_GUESSES}
+use Rattle.puzzle_text.specs.Answers.{Gives}
 use Rattle.puzzle_text.specs.Words.{word_of}
 use Rattle.puzzle_text.specs.declared.faults.EntryFault.{EntryFault}
 use Rattle.puzzle_text.specs.declared.faults.EntryFault.TheVariants as entry
@@ -83,11 +84,15 @@ abbrev pub of_entry : Result (List ℕ) EntryFault → Result (List ℕ) Fault
 of_entry (Ok text) = Ok text
 of_entry (Err fault) = Err (Entry fault)
 
+-- the fault of a call in which an allocation failed
+abbrev pub no_memory : Fault
+no_memory = Entry (entry.Text text.NoMemory)
+
 -- the fault of a call whose conversion failed
 abbrev pub fault_of_convert : ConvertFault → Fault
 fault_of_convert (convert.Entry fault) = Entry fault
 fault_of_convert convert.Ambiguous = Ambiguous
-fault_of_convert convert.NoMemory = Entry (entry.Text text.NoMemory)
+fault_of_convert convert.NoMemory = no_memory
 
 -- the answer of a call that converts
 abbrev pub of_conversion : Result (List ℕ) ConvertFault → Result (List ℕ) Fault
@@ -121,22 +126,9 @@ convert_to (Some format) name body = of_conversion (converted format (parsed nam
 abbrev pub convert_answer : ℕ → List ℕ → List ℕ → Result (List ℕ) Fault
 convert_answer format name body = convert_to (format_from_number format) name body
 
--- an allocation may fail before this answer is reached: any answer but the fault of a bad setting
-abbrev pub MayLackMemory : Result (List ℕ) Fault → Type 0
-MayLackMemory (Ok _) = Unit {0}
-MayLackMemory (Err Setting) = ⊥
-MayLackMemory (Err (Entry _)) = Unit {0}
-MayLackMemory (Err Ambiguous) = Unit {0}
-
--- the first answer is the second one, or `NoMemory` in place of an answer that it may replace
-abbrev pub Gives : Result (List ℕ) Fault → Result (List ℕ) Fault → Type 0
-Gives (Err (Entry (entry.Text text.NoMemory))) answer = MayLackMemory answer
-Gives given answer = answer ≡ given
-
 -- `bytes` are written to a buffer: if they fit they stand at its start, and the rest is unchanged;
--- if
--- not, all of it is unchanged. The reply has the status with this number, or that the buffer is too
--- small, and the length of `bytes`.
+-- if not, all of it is unchanged. The reply has the status with this number, or that the buffer is
+-- too small, and the length of `bytes`.
 pub record FillsBuffer (number : ℕ) (bytes : List ℕ) (reply : Reply)
     (old new : List ℕ) : Type 0 where
   pub reported : reply.length ≡ length bytes
@@ -154,4 +146,5 @@ Fills (Err fault) reply old new =
 -- a call writes this answer, or `NoMemory` in its place, to the buffer
 abbrev pub Answers : Result (List ℕ) Fault → Reply → List ℕ → List ℕ → Type 0
 Answers answer reply old new =
-    (given : Result (List ℕ) Fault) × Gives given answer × Fills given reply old new
+    (given : Result (List ℕ) Fault) × Gives no_memory (λ text. text) given answer
+    × Fills given reply old new

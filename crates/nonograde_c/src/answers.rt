@@ -1,8 +1,9 @@
 //! The answers of the calls for C, before they are written to the caller's buffer.
 
-ghost use Rattle.std.specs.Prelude.{◌≡◌, ◌<◌, true, false, length, Err, IsSome};
+ghost use Rattle.std.specs.Prelude.{◌≡◌, ◌<◌, true, false, length, None, Err, IsSome};
+ghost use Rattle.puzzle_text.specs.Answers.{Gives};
 ghost use Rattle.puzzle_text.specs.Formats.{is_format};
-ghost use Rattle.nonograde_c.specs.Calls.{Gives, convert_answer, fault_of_convert, format_from_number, lines_answer, pick_within, solve_answer};
+ghost use Rattle.nonograde_c.specs.Calls.{convert_answer, fault_of_convert, format_from_number, lines_answer, no_memory, pick_within, solve_answer};
 ghost use Rattle.nonograde_c.specs.steps.Answers.{shown};
 
 use crate::faults::Fault;
@@ -13,7 +14,8 @@ use std::alloc::Global;
 
 /// Returns what `lines` prints for a puzzle's text: a line, and the grid that line logic reaches.
 pub fn lines_answer(alloc: Global, name: &[u8], text: &[u8]) -> Result<Vec<u8>, Fault>
-    ensures answer { Gives (shown result) (lines_answer name.now text.now) }
+    ensures answer { Gives no_memory (λ text. text) (shown result)
+        (lines_answer name.now text.now) }
     ensures unknown { is_format name.now ≡ false →
         result ≡ Err (Fault.Entry EntryFault.UnknownFormat) }
     ensures too_long { is_format name.now ≡ true → MAX_PUZZLE_LEN < length text.now →
@@ -34,7 +36,9 @@ pub fn solve_answer(
     guesses: u32,
     pick: u32,
 ) -> Result<Vec<u8>, Fault>
-    ensures answer { Gives (shown result) (solve_answer guesses pick name.now text.now) }
+    ensures answer { Gives no_memory (λ text. text) (shown result)
+        (solve_answer guesses pick name.now text.now) }
+    ensures setting { pick_within guesses pick ≡ None → result ≡ Err Fault.Setting }
     ensures unknown { IsSome (pick_within guesses pick) → is_format name.now ≡ false →
         result ≡ Err (Fault.Entry EntryFault.UnknownFormat) }
     ensures too_long { IsSome (pick_within guesses pick) → is_format name.now ≡ true →
@@ -68,7 +72,9 @@ pub fn convert_answer(
     text: &[u8],
     format: u32,
 ) -> Result<Vec<u8>, Fault>
-    ensures answer { Gives (shown result) (convert_answer format name.now text.now) }
+    ensures answer { Gives no_memory (λ text. text) (shown result)
+        (convert_answer format name.now text.now) }
+    ensures setting { format_from_number format ≡ None → result ≡ Err Fault.Setting }
     ensures unknown { IsSome (format_from_number format) → is_format name.now ≡ false →
         result ≡ Err (Fault.Entry EntryFault.UnknownFormat) }
     ensures too_long { IsSome (format_from_number format) → is_format name.now ≡ true →

@@ -1,6 +1,6 @@
 //! The functions that C programs call. `include/nonograde.h` documents them for those.
 
-ghost use Rattle.std.specs.Prelude.{◌≡◌, ◌<◌, true, false, length, Err, IsSome, Ok};
+ghost use Rattle.std.specs.Prelude.{◌≡◌, ◌<◌, true, false, length, None, Err, IsSome, Ok};
 ghost use Rattle.puzzle_text.specs.Formats.{is_format};
 ghost use Rattle.nonograde_c.specs.Calls.{Answers, Fills, convert_answer, format_from_number, lines_answer, pick_within, solve_answer};
 
@@ -27,6 +27,8 @@ pub extern "C" fn nonograde_solve(
     ensures answer { Answers (solve_answer guesses pick name.now text.now) result
         buffer.old buffer.new }
     // These faults are found before anything is allocated, so `NoMemory` never hides them.
+    ensures setting { pick_within guesses pick ≡ None →
+        Fills (Err Fault.Setting) result buffer.old buffer.new }
     ensures unknown { IsSome (pick_within guesses pick) → is_format name.now ≡ false →
         Fills (Err (Fault.Entry EntryFault.UnknownFormat)) result buffer.old buffer.new }
     ensures too_long { IsSome (pick_within guesses pick) → is_format name.now ≡ true →
@@ -71,6 +73,8 @@ pub extern "C" fn nonograde_convert(
     ensures answer { Answers (convert_answer format name.now text.now) result buffer.old
         buffer.new }
     // These faults are found before anything is allocated, so `NoMemory` never hides them.
+    ensures setting { format_from_number format ≡ None →
+        Fills (Err Fault.Setting) result buffer.old buffer.new }
     ensures unknown { IsSome (format_from_number format) → is_format name.now ≡ false →
         Fills (Err (Fault.Entry EntryFault.UnknownFormat)) result buffer.old buffer.new }
     ensures too_long { IsSome (format_from_number format) → is_format name.now ≡ true →

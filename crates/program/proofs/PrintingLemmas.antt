@@ -1,5 +1,5 @@
 -- What a command appends to the output, from what its parts return and print.
-use Rattle.std.proofs.Common.{◌≡◌, ◌≤◌, ◌++◌, ℕ, List, Option, Some, None, Result, Ok, Err, [], codes, length, take, refl, sym, ap, ◌∙◌}
+use Rattle.std.proofs.Common.{◌≡◌, ◌≢◌, ◌≤◌, ◌++◌, ℕ, List, Option, Some, None, Result, Ok, Err, [], codes, length, take, refl, sym, ap, ◌∙◌, arith}
 use Rattle.std.specs.Prelude.{IfErr, IfSome, IsErrAnd, OnErr, OnOk}
 use Rattle.std.specs.Io.KnownBytes.{Appends}
 use Rattle.std.proofs.KnownBytes.{Appends-trans, Keeps-refl}
@@ -16,7 +16,7 @@ use Rattle.survey_core.specs.declared.faults.RunFault.{RunFault}
 use Rattle.survey_core.specs.declared.settings.Settings.{Settings}
 use Rattle.reports.specs.Converting.{GivesConverted, converted}
 use Rattle.program.specs.Printing.{Prints, PrintsFile, PrintsFiles, convert_answer, named_texts, or_stop}
-use Rattle.reports.specs.Reports.{GivesText, parsed, text_or_fault}
+use Rattle.reports.specs.Reports.{parsed, text_or_fault}
 use Rattle.program.specs.Stop.{stop_line, stop_of_convert, stop_word}
 use Rattle.reports.specs.declared.converting.ConvertFault.{ConvertFault}
 use Rattle.reports.specs.declared.converting.ConvertFault.TheVariants as convert
@@ -73,15 +73,15 @@ conversion_printed format name given body items text r old new named same is who
 -- if a file's text is refused, nothing is printed, and the program stops at that fault
 refused_entry : (text : Nonogram → List ℕ) (read : List ℕ → Result Nonogram EntryFault) (body : List ℕ) (fault : EntryFault)
     (known : Option (List ℕ))
-    → GivesText (Err fault) (text_or_fault text (read body))
+    → (fault ≢ Text NoMemory → text_or_fault text (read body) ≡ Err fault)
     → PrintsFile {U = Unit {0}} (λ bytes. or_stop Entry (text_or_fault text (read bytes))) (Err (Entry fault)) known known
 refused_entry text read body (Text NoMemory) known gives = (body, Keeps-refl known)
-refused_entry text read body fault known gives = (body, (rw gives refl, Keeps-refl known))
+refused_entry text read body fault known gives = (body, (rw (gives (λ e. grind arith)) refl, Keeps-refl known))
 
 -- if a file's text is refused, and the result is that fault, nothing is printed
 pub refused_of : (report : List ℕ → Nonogram → List ℕ) (name given body : List ℕ) (fault : EntryFault) (r : Result (Unit {0}) Stop)
-    (known : Option (List ℕ)) → given ≡ name → GivesText (Err fault) (text_or_fault (report given) (parsed given body)) →
-    IsErrAnd r (λ stop. stop ≡ Entry fault)
+    (known : Option (List ℕ)) → given ≡ name
+    → (fault ≢ Text NoMemory → text_or_fault (report given) (parsed given body) ≡ Err fault) → IsErrAnd r (λ stop. stop ≡ Entry fault)
     → PrintsFile (λ bytes. or_stop Entry (text_or_fault (report name) (parsed name bytes))) r known known
 refused_of report name given body fault r known named gives is =
     rw (is_stop r _ is) (refused_entry (report name) (parsed name) body fault known (rw named at gives))
@@ -92,7 +92,7 @@ unconverted : (format : Format) (name body : List ℕ) (fault : ConvertFault) (k
     → PrintsFile {U = Unit {0}} (convert_answer format name) (Err (stop_of_convert fault)) known known
 unconverted format name body convert.NoMemory known gives = (body, Keeps-refl known)
 unconverted format name body (convert.Entry (Text NoMemory)) known gives = (body, Keeps-refl known)
-unconverted format name body fault known gives = (body, (rw gives refl, Keeps-refl known))
+unconverted format name body fault known gives = (body, (rw (gives (λ e. grind arith)) refl, Keeps-refl known))
 
 -- if a conversion fails, and the result is its fault, nothing is printed
 pub unconverted_of : (format : Format) (name given body : List ℕ) (fault : ConvertFault) (r : Result (Unit {0}) Stop)

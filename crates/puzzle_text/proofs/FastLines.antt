@@ -1,5 +1,5 @@
 -- Lines in their usual form, and that the general reader returns the puzzle that the fast path builds.
-use Rattle.puzzle_text.proofs.Names.{rules, ◌≡◌, ℕ, ◌-◌, ◌<◌, ◌≤◌, true, false, drop, eqb, List, [], ◌∷◌, ◌++◌, length, take, get_or, refl, append_assoc, arith, Some, Ok, AllByRecursion, is_ascii_digit, le-leb, nat_tests, get_or_append_left, take_all, slice_split_at, slice_split_none, AllPass-from_list_all, MAX_SIDE, is_clue, numbers_within, pieces, BeginsWith, BeginsWithNumber, EndsLine, IsNumeral, IsSeparator, ReadsClue, ReadsSizes, ne_eqb, all-append, two_sizes, ◌+◌, filter, sym, ap, ◌∙◌, eqb-true, nil_from_length, append-nil, length-append, filter-append, SectionKind, Other, TextLine, is_empty, numbered_from, raw_lines, is_keyword_line, keyword, Sections, placed, sections_of, IsSectionOfKeyword, with_line, AreClueLines, HaveClues, KeepsOthers, ReadsClues, clues_of_kind, Result, IfOk, IfSome, Nonogram, plain, TextFault, Gives, lines, read_mk, read_nin, build_puzzle, read_non, orient, all-weaker, filter_all, filter_none, HaveNoFeed}
+use Rattle.puzzle_text.proofs.Names.{rules, ◌≡◌, ℕ, ◌-◌, ◌<◌, ◌≤◌, true, false, drop, eqb, List, [], ◌∷◌, ◌++◌, length, take, get_or, refl, append_assoc, arith, Some, Ok, AllByRecursion, is_ascii_digit, le-leb, nat_tests, get_or_append_left, take_all, slice_split_at, slice_split_none, AllPass-from_list_all, MAX_SIDE, is_clue, numbers_within, pieces, BeginsWith, BeginsWithNumber, EndsLine, IsNumeral, IsSeparator, ReadsClue, ReadsSizes, ne_eqb, all-append, two_sizes, ◌+◌, filter, sym, ap, ◌∙◌, eqb-true, nil_from_length, append-nil, length-append, filter-append, SectionKind, Other, TextLine, is_empty, numbered_from, raw_lines, is_keyword_line, keyword, Sections, placed, sections_of, IsSectionOfKeyword, with_line, AreClueLines, HaveClues, KeepsOthers, ReadsClues, clues_of_kind, Result, IfOk, IfSome, Nonogram, plain, Gives, lines, read_mk, read_nin, build_puzzle, read_non, orient, all-weaker, filter_all, filter_none, HaveNoFeed}
 use Rattle.puzzle_text.proofs.NumbersLemmas.{number_is}
 use Rattle.puzzle_text.proofs.ReadBack.{IsKept, IsTidy, kept_tidy, line_kept, tidy_digits, raw_lines-feed, strip_last_is, tidy-join, some_text}
 use Rattle.puzzle_text.proofs.ParsedLines.{ReadsAll, parsed_of_kept, mk_lines, nin_lines, short_lines}
@@ -177,9 +177,9 @@ pub some_of_ok : {X E : Type 0} (P Q : X → Type 0) (r : Result X E) → IfOk r
 some_of_ok P Q r h f = search rules
 
 -- If `P` holds of a value whenever that is the answer, it holds of the value that the call returns.
-pub ok_of_gives : {X : Type 0} (P : X → Type 0) (r answer : Result X TextFault) → Gives (λ x. x) r answer
+pub ok_of_gives : {F X : Type 0} (P : X → Type 0) (no_memory : F) (r answer : Result X F) → Gives no_memory (λ x. x) r answer
     → ((x : X) → answer ≡ Ok x → P x) → IfOk r P
-ok_of_gives P r answer gives f = search rules
+ok_of_gives P no_memory r answer gives f = search rules
 
 -- ---- `.non`
 

@@ -1,8 +1,7 @@
 -- Results of checks that follow each other, and what a call may return in place of a result.
-use Rattle.std.specs.Prelude.{◌≡◌, List, [], ◌∷◌, Option, Some, None, Result, Ok, Err, option_and_then}
+use Rattle.std.specs.Prelude.{◌≡◌, ◌≢◌, List, [], ◌∷◌, Option, Some, None, Result, Ok, Err, option_and_then}
 use Rattle.std.specs.Option.{option_map}
 use Rattle.puzzle_text.specs.declared.faults.TextFault.{TextFault}
-use Rattle.puzzle_text.specs.declared.faults.TextFault.TheVariants.{NoMemory}
 
 -- the result of `f` on the value of the first result, or the fault of the first result
 infixl 10 ◌>>=◌
@@ -27,9 +26,8 @@ each_some step [] = Some []
 each_some step (x ∷ xs) =
     option_and_then (λ y. option_map (λ ys. y ∷ ys) (each_some step xs)) (step x)
 
--- The call's result, its value seen through `view`, is `answer`; or the call returns `NoMemory`,
+-- The call's result, its value seen through `view`, is `answer`; or the call returns `no_memory`,
 -- which is allowed in place of any answer.
-abbrev pub Gives : {X Y : Type 0} → (X → Y) → Result X TextFault → Result Y TextFault → Type 0
-Gives view (Ok x) answer = answer ≡ Ok (view x)
-Gives view (Err NoMemory) answer = Unit {0}
-Gives view (Err fault) answer = answer ≡ Err fault
+abbrev pub Gives : {F X Y : Type 0} → F → (X → Y) → Result X F → Result Y F → Type 0
+Gives no_memory view (Ok x) answer = answer ≡ Ok (view x)
+Gives no_memory view (Err fault) answer = fault ≢ no_memory → answer ≡ Err fault

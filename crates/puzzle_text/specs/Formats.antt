@@ -1,10 +1,9 @@
 -- The formats: how each is named, read and written, and the puzzle of an entry.
-use Rattle.std.specs.Prelude.{◌≡◌, ℕ, ◌-◌, Bool, List, [], ◌∷◌, length, drop, codes, Option, Some, None, is_some, Result, Ok, Err, if◌then◌else◌}
+use Rattle.std.specs.Prelude.{ℕ, ◌-◌, Bool, List, [], ◌∷◌, length, drop, codes, Option, Some, None, is_some, Result, Ok, Err, if◌then◌else◌}
 use Rattle.std.specs.List.{find}
 use Rattle.std.specs.Str.{bytes_eq, str_to_ascii_lowercase}
 use Rattle.grid_core.specs.Nonogram.{Nonogram}
 use Rattle.puzzle_text.specs.declared.faults.TextFault.{TextFault}
-use Rattle.puzzle_text.specs.declared.faults.TextFault.TheVariants.{NoMemory}
 use Rattle.puzzle_text.specs.declared.faults.EntryFault.{EntryFault}
 use Rattle.puzzle_text.specs.declared.faults.EntryFault.TheVariants.{UnknownFormat, Text}
 use Rattle.puzzle_text.specs.declared.faults.WriteFault.{WriteFault}
@@ -70,10 +69,3 @@ read_if_known limit (Some format) body = in_entry (read_as format limit body)
 -- the puzzle of an entry in the format that its name's ending determines, or its fault
 abbrev pub read_entry : ℕ → Entry → Result Nonogram EntryFault
 read_entry limit entry = read_if_known limit (format_of entry.name) entry.body
-
--- The call's result is `answer`; or the call returns `NoMemory`, which is allowed in place of any
--- answer.
-abbrev pub GivesPuzzle : Result Nonogram EntryFault → Result Nonogram EntryFault → Type 0
-GivesPuzzle (Ok x) answer = answer ≡ Ok x
-GivesPuzzle (Err (Text NoMemory)) answer = Unit {0}
-GivesPuzzle (Err fault) answer = answer ≡ Err fault

@@ -74,7 +74,7 @@ pub(crate) fn vec_with_capacity<T: Drop>(alloc: Global, count: usize) -> Result<
 /// Returns the clue of each line, in order. Fails with `BadNumber` at the first line that is not a
 /// clue.
 fn clues_of(alloc: Global, lines: &[TextLine<'_>]) -> Result<Vec<Clue>, TextFault>
-    ensures clues { Gives (λ clues. clues.items) result
+    ensures clues { Gives TextFault.NoMemory (λ clues. clues.items) result
         (clues_of MAX_SIDE (map shown_line lines.now)) }
     ensures length { IfOk result (λ clues. length clues.items ≡ length lines.now) }
 {
@@ -96,7 +96,7 @@ pub(crate) fn section_clues(
     alloc: Global,
     clue_lines: &SectionLines<'_, '_>,
 ) -> Result<Vec<Clue>, TextFault>
-    ensures clues { Gives (λ clues. clues.items) result
+    ensures clues { Gives TextFault.NoMemory (λ clues. clues.items) result
         (clues_of MAX_SIDE (shown_section_lines clue_lines.now)) }
     ensures length { IfOk result
         (λ clues. length clues.items ≡ length (shown_section_lines clue_lines.now)) }
@@ -115,7 +115,7 @@ pub(crate) fn both_clues(
     rows: &SectionLines<'_, '_>,
     columns: &SectionLines<'_, '_>,
 ) -> Result<(Vec<Clue>, Vec<Clue>), TextFault>
-    ensures answer { Gives (λ clues. (clues.0.items, clues.1.items)) result
+    ensures answer { Gives TextFault.NoMemory (λ clues. (clues.0.items, clues.1.items)) result
         (both_clues MAX_SIDE rows_first
         (shown_section_lines rows.now) (shown_section_lines columns.now)) }
     ensures rows { IfOk result

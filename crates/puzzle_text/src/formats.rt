@@ -4,7 +4,7 @@ ghost use Rattle.std.specs.Prelude.{◌≡◌, ◌↔◌, ◌<◌, false, true, 
 ghost use Rattle.std.specs.List.{find};
 ghost use Rattle.std.specs.Str.{bytes_eq, str_to_ascii_lowercase};
 ghost use Rattle.puzzle_text.specs.Answers.{Gives};
-ghost use Rattle.puzzle_text.specs.Formats.{GivesPuzzle, format_of, formats, has_ending, is_format, read_as, read_entry, text_as, word};
+ghost use Rattle.puzzle_text.specs.Formats.{format_of, formats, has_ending, is_format, read_as, read_entry, text_as, word};
 ghost use Rattle.puzzle_text.specs.Shown.{shown_entry};
 
 use crate::collections::Entry;
@@ -87,7 +87,8 @@ impl Format {
     /// Reads a puzzle in this format. A text with faults fails with the first of them in the order
     /// of `TextFault`.
     pub fn read(self, alloc: Global, bytes: &[u8]) -> Result<Puzzle, TextFault>
-        ensures answer { Gives (λ p. p) result (read_as self MAX_SIDE bytes.now) }
+        ensures answer { Gives TextFault.NoMemory (λ p. p) result
+            (read_as self MAX_SIDE bytes.now) }
         // `NoMemory` is never returned in place of this fault.
         ensures too_long { MAX_PUZZLE_LEN < length bytes.now → result ≡ Err TextFault.TooLong }
     {
@@ -117,7 +118,8 @@ impl Format {
 /// Reads the puzzle of an entry in the format that its name's ending determines: `.non`, `.mk` or
 /// `.nin`, ignoring the case of ASCII letters. Any other name fails with `UnknownFormat`.
 pub fn read_entry(alloc: Global, entry: &Entry<'_>) -> Result<Puzzle, EntryFault>
-    ensures answer { GivesPuzzle result (read_entry MAX_SIDE (shown_entry entry.now)) }
+    ensures answer { Gives (EntryFault.Text TextFault.NoMemory) (λ p. p) result
+        (read_entry MAX_SIDE (shown_entry entry.now)) }
     // `NoMemory` is never returned in place of these faults.
     ensures unknown { result ≡ Err EntryFault.UnknownFormat
         ↔ is_format (shown_entry entry.now).name ≡ false }

@@ -48,7 +48,7 @@ pub(crate) fn goal_of(
     count: usize,
     line: Option<&KeywordLine<'_>>,
 ) -> Result<Option<Vec<bool>>, TextFault>
-    ensures goal { Gives (λ goal. bools_of goal) result
+    ensures goal { Gives TextFault.NoMemory (λ goal. bools_of goal) result
         (goal_of count (option_map (λ found. shown_keyword found.now) line.entry)) }
     ensures count { IfOk result (λ goal. is_goal count (bools_of goal) ≡ true) }
 {

@@ -90,7 +90,7 @@ fn puzzle_of(
     requires size { IsSize width height }
     requires rows { length (shown_section_lines rows.now) ≡ height }
     requires columns { length (shown_section_lines columns.now) ≡ width }
-    ensures { Gives (λ p. p) result
+    ensures { Gives TextFault.NoMemory (λ p. p) result
         (puzzle_of MAX_SIDE width height
         (shown_section_lines rows.now ++ shown_section_lines columns.now)) }
 {
@@ -99,7 +99,7 @@ fn puzzle_of(
 }
 
 fn mk_of(alloc: Global, lines: &[TextLine<'_>]) -> Result<Puzzle, TextFault>
-    ensures { Gives (λ p. p) result (mk_of MAX_SIDE (map shown_line lines.now)) }
+    ensures { Gives TextFault.NoMemory (λ p. p) result (mk_of MAX_SIDE (map shown_line lines.now)) }
 {
     let ((a, b), section) = size_line(lines)?;
     let Some((rows, after)) = at_hash(section) else {
@@ -119,7 +119,7 @@ fn mk_of(alloc: Global, lines: &[TextLine<'_>]) -> Result<Puzzle, TextFault>
 /// Reads a text in the format `.mk`, whatever form it has: the general reader, which splits the
 /// text into lines. Its results are those of `read_mk`.
 pub fn plain_mk(alloc: Global, bytes: &[u8]) -> Result<Puzzle, TextFault>
-    ensures answer { Gives (λ p. p) result (read_mk MAX_SIDE bytes.now) }
+    ensures answer { Gives TextFault.NoMemory (λ p. p) result (read_mk MAX_SIDE bytes.now) }
     // `NoMemory` is never returned in place of this fault.
     ensures too_long { MAX_PUZZLE_LEN < length bytes.now → result ≡ Err TextFault.TooLong }
 {

@@ -16,7 +16,8 @@ use grid_core::{MAX_SIDE, Puzzle};
 use std::alloc::Global;
 
 fn nin_of(alloc: Global, lines: &[TextLine<'_>]) -> Result<Puzzle, TextFault>
-    ensures { Gives (λ p. p) result (nin_of MAX_SIDE (map shown_line lines.now)) }
+    ensures { Gives TextFault.NoMemory (λ p. p) result
+        (nin_of MAX_SIDE (map shown_line lines.now)) }
 {
     let ((a, b), section) = size_line(lines)?;
     let count = usize::from(a) + usize::from(b);
@@ -30,7 +31,7 @@ fn nin_of(alloc: Global, lines: &[TextLine<'_>]) -> Result<Puzzle, TextFault>
 /// Reads a text in the format `.nin`, whatever form it has: the general reader, which splits the
 /// text into lines. Its results are those of `read_nin`.
 pub fn plain_nin(alloc: Global, bytes: &[u8]) -> Result<Puzzle, TextFault>
-    ensures answer { Gives (λ p. p) result (read_nin MAX_SIDE bytes.now) }
+    ensures answer { Gives TextFault.NoMemory (λ p. p) result (read_nin MAX_SIDE bytes.now) }
     // `NoMemory` is never returned in place of this fault.
     ensures too_long { MAX_PUZZLE_LEN < length bytes.now → result ≡ Err TextFault.TooLong }
 {

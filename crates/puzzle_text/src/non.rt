@@ -91,7 +91,7 @@ fn repeated(lines: &[KeywordLine<'_>]) -> Option<u32>
 #[tactic(auto, using(crate::proofs::FeedsLemmas::lawful_texts))]
 fn check_lines(keyword_lines: &[KeywordLine<'_>], stray: Option<u32>) -> Result<(), TextFault>
     requires { HaveNoFeed (map shown_keyword keyword_lines.now) }
-    ensures answer { Gives (λ done. done) result
+    ensures answer { Gives TextFault.NoMemory (λ done. done) result
         (check_lines stray (map shown_keyword keyword_lines.now)) }
     ensures texts { OnOk result (IsDescription (texts_of (map shown_keyword keyword_lines.now))) }
 {
@@ -107,7 +107,7 @@ fn check_lines(keyword_lines: &[KeywordLine<'_>], stray: Option<u32>) -> Result<
 /// Parses the width and the height. Fails with `NoSize` if one of the two lines is missing, and
 /// otherwise with `BadSize` if one of the sizes is out of range.
 fn sizes_of(lines: &[KeywordLine<'_>]) -> Result<(u16, u16), TextFault>
-    ensures sizes { Gives (λ sizes. sizes) result
+    ensures sizes { Gives TextFault.NoMemory (λ sizes. sizes) result
         (sizes_of MAX_SIDE (map shown_keyword lines.now)) }
     ensures range { IfOk result (λ sizes. IsSize sizes.0 sizes.1) }
 {
@@ -126,7 +126,8 @@ fn sizes_of(lines: &[KeywordLine<'_>]) -> Result<(u16, u16), TextFault>
 /// Reports whether the rows section is before the columns section. Fails with `NoSection` if one of
 /// them is missing.
 fn rows_first(lines: &[KeywordLine<'_>]) -> Result<bool, TextFault>
-    ensures { Gives (λ first. first) result (rows_first (map shown_keyword lines.now)) }
+    ensures { Gives TextFault.NoMemory (λ first. first) result
+        (rows_first (map shown_keyword lines.now)) }
 {
     let Some(rows) = nth_with_keyword(b"rows", 0, lines) else {
         return Err(TextFault::NoSection);
@@ -144,7 +145,7 @@ pub(crate) fn outline_of(
     stray: Option<u32>,
 ) -> Result<((u16, u16), bool), TextFault>
     requires { HaveNoFeed (map shown_keyword keyword_lines.now) }
-    ensures answer { Gives (λ outline. outline) result
+    ensures answer { Gives TextFault.NoMemory (λ outline. outline) result
         (outline_of MAX_SIDE stray (map shown_keyword keyword_lines.now)) }
     ensures range { IfOk result (λ outline. IsSize outline.0.0 outline.0.1) }
     ensures texts { OnOk result (IsDescription (texts_of (map shown_keyword keyword_lines.now))) }
@@ -168,7 +169,7 @@ pub(crate) fn puzzle_of_clues(
     requires size { IsSize width height }
     requires clues { HasClueForEachLine width height rows.items columns.items }
     requires texts { IsDescription (texts_of (map shown_keyword keyword_lines.now)) }
-    ensures { Gives (λ p. p) result
+    ensures { Gives TextFault.NoMemory (λ p. p) result
         (puzzle_of_clues (width, height) (rows.items, columns.items)
         (map shown_keyword keyword_lines.now)) }
 {
@@ -186,7 +187,7 @@ fn build_puzzle(
     sections: &Sections<'_>,
 ) -> Result<Puzzle, TextFault>
     requires { HaveNoFeed (map shown_keyword keyword_lines.now) }
-    ensures { Gives (λ p. p) result
+    ensures { Gives TextFault.NoMemory (λ p. p) result
         (build_puzzle MAX_SIDE (shown_sections sections.now)
         (map shown_keyword keyword_lines.now)) }
 {
@@ -200,7 +201,8 @@ fn build_puzzle(
 #[tactic(auto, using(crate::proofs::ParsedLines::parsed_of_kept, crate::proofs::FeedsLemmas::clean_filter))]
 fn non_of(alloc: Global, lines: &[TextLine<'_>]) -> Result<Puzzle, TextFault>
     requires { HaveNoFeed (map shown_line lines.now) }
-    ensures { Gives (λ p. p) result (non_of MAX_SIDE (map shown_line lines.now)) }
+    ensures { Gives TextFault.NoMemory (λ p. p) result
+        (non_of MAX_SIDE (map shown_line lines.now)) }
 {
     let keyword_lines = keyword_lines(alloc, lines)?;
     let sections = sections_of(alloc, lines)?;
@@ -211,7 +213,7 @@ fn non_of(alloc: Global, lines: &[TextLine<'_>]) -> Result<Puzzle, TextFault>
 /// text into lines. Its results are those of `read_non`.
 #[tactic(auto, using(crate::proofs::FeedsLemmas::lines_have_no_feed))]
 pub fn plain_non(alloc: Global, bytes: &[u8]) -> Result<Puzzle, TextFault>
-    ensures answer { Gives (λ p. p) result (read_non MAX_SIDE bytes.now) }
+    ensures answer { Gives TextFault.NoMemory (λ p. p) result (read_non MAX_SIDE bytes.now) }
     // `NoMemory` is never returned in place of this fault.
     ensures too_long { MAX_PUZZLE_LEN < length bytes.now → result ≡ Err TextFault.TooLong }
 {

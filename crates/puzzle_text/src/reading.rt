@@ -20,7 +20,7 @@ use std::alloc::Global;
 /// section of clue lines each below `rows` and `columns`. A text with faults fails with the first
 /// of them in the order of `TextFault`.
 pub fn read_non(alloc: Global, bytes: &[u8]) -> Result<Puzzle, TextFault>
-    ensures answer { Gives (λ p. p) result (read_non MAX_SIDE bytes.now) }
+    ensures answer { Gives TextFault.NoMemory (λ p. p) result (read_non MAX_SIDE bytes.now) }
     // `NoMemory` is never returned in place of this fault.
     ensures too_long { MAX_PUZZLE_LEN < length bytes.now → result ≡ Err TextFault.TooLong }
 {
@@ -36,7 +36,7 @@ pub fn read_non(alloc: Global, bytes: &[u8]) -> Result<Puzzle, TextFault>
 /// order both sections have as many clue lines as their size. A text with faults fails with the
 /// first of them in the order of `TextFault`.
 pub fn read_mk(alloc: Global, bytes: &[u8]) -> Result<Puzzle, TextFault>
-    ensures answer { Gives (λ p. p) result (read_mk MAX_SIDE bytes.now) }
+    ensures answer { Gives TextFault.NoMemory (λ p. p) result (read_mk MAX_SIDE bytes.now) }
     // `NoMemory` is never returned in place of this fault.
     ensures too_long { MAX_PUZZLE_LEN < length bytes.now → result ≡ Err TextFault.TooLong }
 {
@@ -51,7 +51,7 @@ pub fn read_mk(alloc: Global, bytes: &[u8]) -> Result<Puzzle, TextFault>
 /// its line and the row clues add up to as many filled cells as the column clues. A text with
 /// faults fails with the first of them in the order of `TextFault`.
 pub fn read_nin(alloc: Global, bytes: &[u8]) -> Result<Puzzle, TextFault>
-    ensures answer { Gives (λ p. p) result (read_nin MAX_SIDE bytes.now) }
+    ensures answer { Gives TextFault.NoMemory (λ p. p) result (read_nin MAX_SIDE bytes.now) }
     // `NoMemory` is never returned in place of this fault.
     ensures too_long { MAX_PUZZLE_LEN < length bytes.now → result ≡ Err TextFault.TooLong }
 {

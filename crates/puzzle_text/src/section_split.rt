@@ -99,7 +99,7 @@ pub(crate) fn clue_lines_of<'a, 'b>(
     count: u16,
     section: &'b [TextLine<'a>],
 ) -> Result<SectionLines<'a, 'b>, TextFault>
-    ensures answer { Gives (λ clue_lines. shown_section_lines clue_lines) result
+    ensures answer { Gives TextFault.NoMemory (λ clue_lines. shown_section_lines clue_lines) result
         (clue_lines_of count (map shown_line section.now)) }
     ensures length { IfOk result (λ clue_lines. length (shown_section_lines clue_lines) ≡ count) }
 {

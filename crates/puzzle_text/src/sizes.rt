@@ -18,7 +18,8 @@ use std::alloc::Global;
 /// Returns the lines of a puzzle's text. Fails with `TooLong` if it is longer than `MAX_PUZZLE_LEN`
 /// bytes.
 pub(crate) fn text_lines(alloc: Global, bytes: &[u8]) -> Result<Vec<TextLine<'_>>, TextFault>
-    ensures answer { Gives (λ found. map shown_line found.items) result (text_lines bytes.now) }
+    ensures answer { Gives TextFault.NoMemory (λ found. map shown_line found.items) result
+        (text_lines bytes.now) }
     // `NoMemory` is never returned in place of this fault.
     ensures too_long { MAX_PUZZLE_LEN < length bytes.now → result ≡ Err TextFault.TooLong }
 {
@@ -30,7 +31,7 @@ pub(crate) fn text_lines(alloc: Global, bytes: &[u8]) -> Result<Vec<TextLine<'_>
 
 /// Parses a size. Fails with `BadSize` if it is not a number from 1 to `MAX_SIDE`.
 pub(crate) fn size_of(piece: &[u8]) -> Result<u16, TextFault>
-    ensures size { Gives (λ size. size) result (size_of MAX_SIDE piece.now) }
+    ensures size { Gives TextFault.NoMemory (λ size. size) result (size_of MAX_SIDE piece.now) }
     ensures range { IfOk result (λ size. (1 ≤ size) × (size ≤ MAX_SIDE)) }
 {
     match number_within(MAX_SIDE, piece) {
@@ -42,7 +43,8 @@ pub(crate) fn size_of(piece: &[u8]) -> Result<u16, TextFault>
 /// Parses the two sizes of a size line. Fails with `NoSize` if it doesn't consist of exactly two
 /// pieces, and otherwise with `BadSize` if one of them is not a size.
 fn two_sizes(text: &[u8]) -> Result<(u16, u16), TextFault>
-    ensures sizes { Gives (λ sizes. sizes) result (two_sizes MAX_SIDE (pieces text.now)) }
+    ensures sizes { Gives TextFault.NoMemory (λ sizes. sizes) result
+        (two_sizes MAX_SIDE (pieces text.now)) }
     ensures range { IfOk result (λ sizes. IsSize sizes.0 sizes.1) }
 {
     // The pieces are counted before one is parsed, since `NoSize` comes before `BadSize`.
@@ -78,8 +80,8 @@ fn first_non_blank<'a, 'b>(lines: &'b [TextLine<'a>]) -> Option<(TextLine<'a>, &
 pub(crate) fn size_line<'a, 'b>(
     lines: &'b [TextLine<'a>],
 ) -> Result<((u16, u16), &'b [TextLine<'a>]), TextFault>
-    ensures answer { Gives (λ found. (found.0, map shown_line found.1.now)) result
-        (size_line MAX_SIDE (map shown_line lines.now)) }
+    ensures answer { Gives TextFault.NoMemory (λ found. (found.0, map shown_line found.1.now))
+        result (size_line MAX_SIDE (map shown_line lines.now)) }
     ensures range { IfOk result (λ found. IsSize found.0.0 found.0.1) }
 {
     let Some((line, others)) = first_non_blank(lines) else {

@@ -1,7 +1,8 @@
 -- The text of a puzzle in another format.
-use Rattle.std.specs.Prelude.{◌≡◌, ℕ, List, Result, Ok, Err, IsOk, Vec}
+use Rattle.std.specs.Prelude.{ℕ, List, Result, Ok, Err, IsOk, Vec}
 use Rattle.std.specs.declared.alloc.Global.{Global}
 use Rattle.grid_core.specs.Nonogram.{Nonogram}
+use Rattle.puzzle_text.specs.Answers.{Gives}
 use Rattle.puzzle_text.specs.Formats.{text_as}
 use Rattle.puzzle_text.specs.declared.faults.EntryFault.{EntryFault}
 use Rattle.puzzle_text.specs.declared.faults.EntryFault.TheVariants.{Text}
@@ -28,11 +29,9 @@ abbrev pub converted : Format → Result Nonogram EntryFault → Result (List �
 converted format (Ok p) = text_in_format format p
 converted format (Err fault) = Err (Entry fault)
 
--- what a call returned is `answer`, or it failed with `NoMemory`: in reading it may whatever that
--- is, in writing only if that is a text
+-- The call's result is `answer`; or an allocation failed: in reading, which is allowed in place of
+-- any answer, or in writing, which is allowed only in place of a text.
 abbrev pub GivesConverted :
     Result (Vec ℕ Global) ConvertFault → Result (List ℕ) ConvertFault → Type 0
-GivesConverted (Ok text) answer = answer ≡ Ok text.items
-GivesConverted (Err (Entry (Text text.NoMemory))) answer = Unit {0}
 GivesConverted (Err NoMemory) answer = IsOk answer
-GivesConverted (Err fault) answer = answer ≡ Err fault
+GivesConverted result answer = Gives (Entry (Text text.NoMemory)) (λ text. text.items) result answer

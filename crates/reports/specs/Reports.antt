@@ -1,6 +1,5 @@
 -- The texts of the reports on one puzzle.
-use Rattle.std.specs.Prelude.{◌≡◌, ℕ, true, List, ◌++◌, codes, decimal, count_by, if◌then◌else◌, Option, Some, None, Result, Ok, Err, Vec}
-use Rattle.std.specs.declared.alloc.Global.{Global}
+use Rattle.std.specs.Prelude.{ℕ, true, List, ◌++◌, codes, decimal, count_by, if◌then◌else◌, Option, Some, None, Result, Ok, Err}
 use Rattle.std.specs.List.{list_all}
 use Rattle.grid_core.specs.declared.limits.TheConstants.{MAX_SIDE}
 use Rattle.grid_core.specs.Cells.{is_known}
@@ -10,8 +9,6 @@ use Rattle.solve_core.specs.Report.{line_grid}
 use Rattle.solve_core.specs.declared.picks.Pick.{Pick}
 use Rattle.puzzle_text.specs.Formats.{read_entry}
 use Rattle.puzzle_text.specs.declared.faults.EntryFault.{EntryFault}
-use Rattle.puzzle_text.specs.declared.faults.EntryFault.TheVariants.{Text}
-use Rattle.puzzle_text.specs.declared.faults.TextFault.TheVariants.{NoMemory}
 use Rattle.survey_text.specs.Entries.{entry_text}
 use Rattle.survey_text.specs.Grids.{grid_text}
 use Rattle.survey_text.specs.Survey.{reported}
@@ -51,9 +48,3 @@ abbrev pub text_or_fault :
     (Nonogram → List ℕ) → Result Nonogram EntryFault → Result (List ℕ) EntryFault
 text_or_fault text (Ok p) = Ok (text p)
 text_or_fault text (Err fault) = Err fault
-
--- what a call returned is `answer`, or it failed with `NoMemory`, which it may whatever that is
-abbrev pub GivesText : Result (Vec ℕ Global) EntryFault → Result (List ℕ) EntryFault → Type 0
-GivesText (Ok text) answer = answer ≡ Ok text.items
-GivesText (Err (Text NoMemory)) answer = Unit {0}
-GivesText (Err fault) answer = answer ≡ Err fault

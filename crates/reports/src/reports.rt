@@ -3,8 +3,9 @@
 ghost use Rattle.std.specs.Prelude.{◌≡◌, ◌≤◌, ◌<◌, ◌↔◌, ◌++◌, true, false, length, Ok, Err, IfErr, IfOk, OnOk, MatchResult};
 ghost use Rattle.std.specs.List.{list_all};
 ghost use Rattle.grid_core.specs.Cells.{is_known};
+ghost use Rattle.puzzle_text.specs.Answers.{Gives};
 ghost use Rattle.puzzle_text.specs.Formats.{is_format};
-ghost use Rattle.reports.specs.Reports.{GivesText, closed_text, closed_word, grid_report, lines_text, parsed, solve_text, text_or_fault};
+ghost use Rattle.reports.specs.Reports.{closed_text, closed_word, grid_report, lines_text, parsed, solve_text, text_or_fault};
 
 use grid_core::{Grid, NoMemory, Puzzle};
 use lane_core::{Job, MAX_GUESSES, grade};
@@ -77,7 +78,8 @@ fn text_or_fault(made: Result<Vec<u8>, NoMemory>) -> Result<Vec<u8>, EntryFault>
 /// Returns the text of `lines_text`, with a failed allocation reported as the entry's fault
 /// `Text(NoMemory)`.
 fn lines_answer(alloc: Global, puzzle: &Puzzle) -> Result<Vec<u8>, EntryFault>
-    ensures answer { GivesText result (Ok (lines_text puzzle.now)) }
+    ensures answer { Gives (EntryFault.Text TextFault.NoMemory) (λ text. text.items) result
+        (Ok (lines_text puzzle.now)) }
     ensures reading { IfErr result (λ fault. fault ≡ EntryFault.Text TextFault.NoMemory) }
 {
     text_or_fault(lines_text(alloc, puzzle))
@@ -88,7 +90,8 @@ fn lines_answer(alloc: Global, puzzle: &Puzzle) -> Result<Vec<u8>, EntryFault>
 /// with K the number of known cells, and then its rows; or `none 0` if it is dead. Fails with the
 /// fault of the text, or with `Text(NoMemory)` if an allocation fails.
 pub fn lines_report(alloc: Global, name: &[u8], body: &[u8]) -> Result<Vec<u8>, EntryFault>
-    ensures answer { GivesText result (text_or_fault lines_text (parsed name.now body.now)) }
+    ensures answer { Gives (EntryFault.Text TextFault.NoMemory) (λ text. text.items) result
+        (text_or_fault lines_text (parsed name.now body.now)) }
     // `NoMemory` is never returned in place of these faults.
     ensures unknown { result ≡ Err EntryFault.UnknownFormat ↔ is_format name.now ≡ false }
     ensures too_long { is_format name.now ≡ true → MAX_PUZZLE_LEN < length body.now
@@ -129,7 +132,7 @@ pub fn solve_report(
     pick: Pick,
 ) -> Result<Vec<u8>, EntryFault>
     requires { guesses ≤ MAX_GUESSES }
-    ensures answer { GivesText result
+    ensures answer { Gives (EntryFault.Text TextFault.NoMemory) (λ text. text.items) result
         (text_or_fault (solve_text name.now guesses pick) (parsed name.now body.now)) }
     // `NoMemory` is never returned in place of these faults.
     ensures unknown { result ≡ Err EntryFault.UnknownFormat ↔ is_format name.now ≡ false }
