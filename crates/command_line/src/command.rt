@@ -250,6 +250,8 @@ fn grading_command<'a>(alloc: Global, picks: &'a [&'a str]) -> Result<Command<'a
 }
 
 /// Returns the command `survey`. `picks` are the guess rules.
+// Not inlined, so that the commands use the same stack one after another.
+#[inline(never)]
 fn survey_command<'a>(alloc: Global, picks: &'a [&'a str]) -> Result<Command<'a>, AllocError>
     ensures { IfOk result (IsCommand (survey_app picks.entry)) }
 {
@@ -262,6 +264,8 @@ fn survey_command<'a>(alloc: Global, picks: &'a [&'a str]) -> Result<Command<'a>
 }
 
 /// Returns the command `solve`. `picks` are the guess rules.
+// Not inlined, so that the commands use the same stack one after another.
+#[inline(never)]
 fn solve_command<'a>(alloc: Global, picks: &'a [&'a str]) -> Result<Command<'a>, AllocError>
     ensures { IfOk result (IsCommand (solve_app picks.entry)) }
 {
@@ -278,6 +282,8 @@ fn solve_command<'a>(alloc: Global, picks: &'a [&'a str]) -> Result<Command<'a>,
 }
 
 /// Returns the command `convert`. `formats` are the formats.
+// Not inlined, so that the commands use the same stack one after another.
+#[inline(never)]
 fn convert_command<'a>(alloc: Global, formats: &'a [&'a str]) -> Result<Command<'a>, AllocError>
     ensures { IfOk result (IsCommand (convert_app formats.entry)) }
 {
@@ -289,6 +295,8 @@ fn convert_command<'a>(alloc: Global, formats: &'a [&'a str]) -> Result<Command<
 }
 
 /// Returns the command `lines`.
+// Not inlined, so that the commands use the same stack one after another.
+#[inline(never)]
 fn lines_command<'a>(alloc: Global) -> Result<Command<'a>, AllocError>
     ensures { IfOk result (IsCommand lines_app) }
 {
@@ -335,6 +343,8 @@ fn converting_program<'a>(
 }
 
 /// Returns the program with all four commands. `formats` are the formats, `picks` the guess rules.
+// Not inlined, so that its stack is free again while the words are parsed.
+#[inline(never)]
 fn whole_program<'a>(
     alloc: Global,
     formats: &'a [&'a str],
