@@ -5,7 +5,12 @@ use Rattle.std.specs.Option.{option_map}
 use Rattle.std.specs.Result.{result_unwrap_or}
 use Rattle.puzzle_text.specs.declared.faults.TextFault.{TextFault}
 use Rattle.puzzle_text.specs.declared.faults.TextFault.TheVariants.{TooLong, NoSize, BadSize, NoSection, BadLine, Twice, BadCount, BadNumber, BadGoal, NoMemory}
+use Rattle.puzzle_text.specs.declared.formats.Format.{Format}
+use Rattle.puzzle_text.specs.declared.forms.TextForm.{TextForm}
+use Rattle.puzzle_text.specs.Forms.{form_of_bytes}
+use Rattle.puzzle_text.specs.KeywordForms.{form_of_lines}
 use Rattle.puzzle_text.specs.Lines.{TextLine}
+use Rattle.puzzle_text.specs.Mk.{or_else}
 use Rattle.puzzle_text.specs.Sizes.{text_lines}
 
 -- the lines of a text; none if it is too long to be read
@@ -34,3 +39,8 @@ text_of_line number lines =
 abbrev pub named_line : TextFault → List TextLine → Option (List ℕ)
 named_line fault lines =
     option_and_then (λ number. text_of_line number lines) (line_number fault)
+
+-- the form of a text that explains its fault, if one is recognized: that of its bytes, or else of
+-- its lines
+abbrev pub form_of : Format → TextFault → List ℕ → List TextLine → Option TextForm
+form_of format fault bytes lines = or_else (form_of_bytes bytes) (form_of_lines format fault lines)

@@ -18,5 +18,7 @@ pub mod Formats
 pub mod Laws
 pub mod Counts
 pub mod Forms
+pub mod NearKeywords
+pub mod KeywordForms
 pub mod Diagnosis
 pub mod steps

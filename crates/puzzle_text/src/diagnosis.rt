@@ -3,14 +3,14 @@
 ghost use Rattle.std.specs.Prelude.{◌≡◌, map, IfOk};
 ghost use Rattle.std.specs.Option.{option_map};
 ghost use Rattle.puzzle_text.specs.Counts.{counts_of};
-ghost use Rattle.puzzle_text.specs.Diagnosis.{line_number, named_line, readable_lines, text_of_line};
-ghost use Rattle.puzzle_text.specs.Forms.{form_of_bytes};
+ghost use Rattle.puzzle_text.specs.Diagnosis.{form_of, line_number, named_line, readable_lines, text_of_line};
 ghost use Rattle.puzzle_text.specs.steps.Shown.{shown_line};
 
 use crate::counts::{TextCounts, counts_of};
 use crate::faults::TextFault;
 use crate::formats::Format;
 use crate::forms::{TextForm, form_of_bytes};
+use crate::keyword_forms::form_of_lines;
 use crate::limits::MAX_PUZZLE_LEN;
 use crate::lines::{TextLine, all_lines};
 use grid_core::{MAX_SIDE, NoMemory};
@@ -77,6 +77,23 @@ fn named_line<'a>(fault: TextFault, lines: &[TextLine<'a>]) -> Option<&'a [u8]>
     text_of_line(fault.line_number()?, lines)
 }
 
+/// Returns the form of a text that explains its fault, if one is recognized.
+fn form_of(
+    alloc: Global,
+    format: Format,
+    fault: TextFault,
+    bytes: &[u8],
+    lines: &[TextLine<'_>],
+) -> Result<Option<TextForm>, NoMemory>
+    ensures { IfOk result
+        (λ form. form ≡ form_of format fault bytes.now (map shown_line lines.now)) }
+{
+    match form_of_bytes(bytes) {
+        Some(form) => Ok(Some(form)),
+        None => form_of_lines(alloc, format, fault, lines),
+    }
+}
+
 /// Tells what is wrong with a text that the reader of `format` refused with `fault`.
 pub fn diagnose_text<'a>(
     alloc: Global,
@@ -89,13 +106,14 @@ pub fn diagnose_text<'a>(
         ≡ named_line fault (readable_lines bytes.now)) }
     ensures counts { IfOk result (λ found. found.counts
         ≡ counts_of MAX_SIDE format fault (readable_lines bytes.now)) }
-    ensures form { IfOk result (λ found. found.form ≡ form_of_bytes bytes.now) }
+    ensures form { IfOk result (λ found. found.form
+        ≡ form_of format fault bytes.now (readable_lines bytes.now)) }
 {
     let lines = readable_lines(alloc, bytes)?;
     Ok(TextDiagnosis {
         fault,
         line: named_line(fault, &lines),
         counts: counts_of(alloc, format, fault, &lines)?,
-        form: form_of_bytes(bytes),
+        form: form_of(alloc, format, fault, bytes, &lines)?,
     })
 }

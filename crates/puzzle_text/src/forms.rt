@@ -4,6 +4,8 @@ ghost use Rattle.std.specs.Prelude.{◌≡◌, ◌==◌};
 ghost use Rattle.std.specs.List.{list_any};
 ghost use Rattle.puzzle_text.specs.Forms.{form_of_bytes, has_byte_order_mark, has_lone_returns, is_utf16};
 
+use crate::near_keywords::NeededKeyword;
+
 /// A form of a text that explains why it is refused. Of several, the first in the order of this
 /// list is reported.
 #[derive(Clone, Copy, Debug, PartialEq, Eq)]
@@ -14,6 +16,14 @@ pub enum TextForm {
     Utf16,
     /// The text has carriage returns but no line feed, so that it is a single line.
     LoneReturns,
+    /// In `.non`, no line has this keyword, which the fault says is missing, but that of this line
+    /// is nearly the same: one letter is changed, dropped or added, or two neighbours are
+    /// exchanged. Of two missing keywords `width` and `rows` come first; of several lines the first
+    /// is reported.
+    Misspelt { line: u32, keyword: NeededKeyword },
+    /// In `.non`, this line repeats a keyword below the first lines with `width`, `height`, `rows`
+    /// and `columns`, so that a second puzzle begins there or a little above.
+    SecondPuzzle { line: u32 },
 }
 
 fn has_byte_order_mark(bytes: &[u8]) -> bool

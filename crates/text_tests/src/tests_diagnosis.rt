@@ -65,7 +65,7 @@ static REFUSED: [(Format, &[u8], TextFault, Option<&[u8]>, Option<TextForm>); 9]
         b"width 1\nheight 1\nrows\n1\ncolumns\n1\nWidth 2",
         TextFault::Twice(7),
         Some(b"Width 2"),
-        None,
+        Some(TextForm::SecondPuzzle { line: 7 }),
     ),
     (
         Format::Non,
@@ -179,6 +179,68 @@ fn a_diagnosis_counts_what_is_found_and_wanted(rt: HostRuntime) -> Result<(), Fa
         };
         assert_eq!(rt; found.fault, fault);
         assert_eq!(rt; found.counts, counts);
+    }
+    Ok(())
+}
+
+/// Refused `.non` texts, each with its fault and the form by which the keyword lines explain it.
+static KEYWORDS: [(&[u8], TextFault, Option<TextForm>); 8] = [
+    (
+        b"Widht 3\nheight 1\n",
+        TextFault::NoSize,
+        Some(TextForm::Misspelt {
+            line: 1,
+            keyword: NeededKeyword::Width,
+        }),
+    ),
+    (
+        b"width 3\nhight 1\nheigth 2\n",
+        TextFault::NoSize,
+        Some(TextForm::Misspelt {
+            line: 2,
+            keyword: NeededKeyword::Height,
+        }),
+    ),
+    (
+        b"width 1\nheight 1\nrowss\n1\ncolumns\n1\n",
+        TextFault::NoSection,
+        Some(TextForm::Misspelt {
+            line: 3,
+            keyword: NeededKeyword::Rows,
+        }),
+    ),
+    (
+        b"width 1\nheight 1\nrows\n1\nkolumns\n1\n",
+        TextFault::NoSection,
+        Some(TextForm::Misspelt {
+            line: 5,
+            keyword: NeededKeyword::Columns,
+        }),
+    ),
+    // Two letters are changed.
+    (b"vedth 3\nheight 1\n", TextFault::NoSize, None),
+    // A misspelt size is no reason for a missing section.
+    (b"width 1\nheight 1\nwidht 1\n", TextFault::NoSection, None),
+    (
+        b"width 1\nheight 1\nrows\n1\ncolumns\n1\n\ntitle x\nwidth 1\nheight 1\n",
+        TextFault::Twice(9),
+        Some(TextForm::SecondPuzzle { line: 9 }),
+    ),
+    (
+        b"width 1\nwidth 1\nheight 1\nrows\n1\ncolumns\n1\n",
+        TextFault::Twice(2),
+        None,
+    ),
+];
+
+#[test]
+fn keyword_lines_explain_a_fault(rt: HostRuntime) -> Result<(), Fail> {
+    for (text, fault, form) in KEYWORDS {
+        let Some(found) = diagnosis_of(rt.alloc(), Format::Non, text)? else {
+            panic!(rt; "{fault} is not reported");
+        };
+        assert_eq!(rt; found.fault, fault);
+        assert_eq!(rt; found.form, form);
     }
     Ok(())
 }

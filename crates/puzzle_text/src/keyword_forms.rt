@@ -1,0 +1,85 @@
+//! Recognizes from the keyword lines of a `.non` text why it is refused.
+
+ghost use Rattle.std.specs.Prelude.{◌≡◌, map, IfOk};
+ghost use Rattle.puzzle_text.specs.KeywordForms.{form_of_keywords, form_of_lines, is_above, is_whole_above, misspelt};
+ghost use Rattle.puzzle_text.specs.NearKeywords.{needed_word};
+ghost use Rattle.puzzle_text.specs.steps.Shown.{shown_keyword, shown_line};
+
+use crate::faults::TextFault;
+use crate::formats::Format;
+use crate::forms::TextForm;
+use crate::keyword_line::KeywordLine;
+use crate::keywords::{keyword_lines, nth_with_keyword};
+use crate::lines::TextLine;
+use crate::near_keywords::{NeededKeyword, near_line};
+use grid_core::NoMemory;
+use std::alloc::Global;
+
+/// Returns the first line whose keyword is nearly `keyword`, if no line has exactly that.
+fn misspelt(lines: &[KeywordLine<'_>], keyword: NeededKeyword) -> Option<TextForm>
+    ensures { result ≡ misspelt (map shown_keyword lines.now) keyword }
+{
+    let word = keyword.word();
+    if nth_with_keyword(word, 0, lines).is_some() {
+        return None;
+    }
+    let line = near_line(lines, word)?;
+    Some(TextForm::Misspelt { line, keyword })
+}
+
+/// Reports whether the first line with `keyword` is above the line with this number.
+fn is_above(lines: &[KeywordLine<'_>], number: u32, keyword: NeededKeyword) -> bool
+    ensures { result ≡ is_above (map shown_keyword lines.now) number (needed_word keyword) }
+{
+    match nth_with_keyword(keyword.word(), 0, lines) {
+        Some(found) => found.line.number < number,
+        None => false,
+    }
+}
+
+/// Reports whether all keywords that a text has to have are in lines above this one.
+fn is_whole_above(lines: &[KeywordLine<'_>], number: u32) -> bool
+    ensures { result ≡ is_whole_above (map shown_keyword lines.now) number }
+{
+    is_above(lines, number, NeededKeyword::Width)
+        && is_above(lines, number, NeededKeyword::Height)
+        && is_above(lines, number, NeededKeyword::Rows)
+        && is_above(lines, number, NeededKeyword::Columns)
+}
+
+/// Returns the form by which the keyword lines explain the fault, if they do.
+fn form_of_keywords(fault: TextFault, lines: &[KeywordLine<'_>]) -> Option<TextForm>
+    ensures { result ≡ form_of_keywords fault (map shown_keyword lines.now) }
+{
+    match fault {
+        TextFault::NoSize => match misspelt(lines, NeededKeyword::Width) {
+            Some(form) => Some(form),
+            None => misspelt(lines, NeededKeyword::Height),
+        },
+        TextFault::NoSection => match misspelt(lines, NeededKeyword::Rows) {
+            Some(form) => Some(form),
+            None => misspelt(lines, NeededKeyword::Columns),
+        },
+        TextFault::Twice(line) if is_whole_above(lines, line) => {
+            Some(TextForm::SecondPuzzle { line })
+        }
+        _ => None,
+    }
+}
+
+/// Returns the form by which the lines of a text in `format` explain the fault, if they do. Looks
+/// at the keyword lines of `.non`; the other formats have none.
+pub(crate) fn form_of_lines(
+    alloc: Global,
+    format: Format,
+    fault: TextFault,
+    lines: &[TextLine<'_>],
+) -> Result<Option<TextForm>, NoMemory>
+    ensures { IfOk result (λ form. form ≡ form_of_lines format fault (map shown_line lines.now)) }
+{
+    if format != Format::Non {
+        return Ok(None);
+    }
+    let keyword_lines = keyword_lines(alloc, lines)?;
+    Ok(form_of_keywords(fault, &keyword_lines))
+}
