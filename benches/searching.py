@@ -14,7 +14,7 @@ MADE = {10: 400_000, 15: 300_000, 20: 200_000, 25: 70_000, 30: 30_000}
 BATCH = 5_000
 # Of how many puzzles, those with the most guesses, the instructions are counted.
 COUNTED = 12
-# The sides of puzzles all of whose clues are 1. To count the instructions of the last takes too long.
+# The sides of puzzles all of whose clues are 1. To count the instructions of those after the first takes too long.
 ONES = (128, 129, 256)
 RULED = [("noise", 2_000, 10), ("noise", 2_000, 15), ("noise", 1_000, 20),
          ("rough", 2_000, 30), ("rough", 2_000, 40), ("rough", 500, 50)]
@@ -66,7 +66,7 @@ def worst(program):
     """The puzzles that are known to take the most for their size."""
     with tempfile.TemporaryDirectory() as folder:
         ones = [write_ones(side, folder) for side in ONES]
-        counts = [*instructions(program, ones[:-1]), None]
+        counts = [*instructions(program, ones[:1]), None, None]
         rows = [row(program, f"all clues `1`, {side} by {side}", *it) for side, *it in zip(ONES, ones, counts)]
         for side, number in MADE.items():
             executed, path = slowest(program, side, folder)
