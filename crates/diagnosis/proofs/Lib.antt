@@ -3,3 +3,4 @@ pub mod Ranges
 pub mod RunSizes
 pub mod LineTotals
 pub mod SolutionLaws
+pub mod VerdictSizes

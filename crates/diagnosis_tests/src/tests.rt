@@ -1,0 +1,138 @@
+//! Tests of diagnoses that were worked out by hand.
+
+use diagnosis::*;
+use grid_core::{Axis, NoMemory, Puzzle};
+use puzzle_text::{read_mk, read_non};
+use solve_core::{Grade, Pick, report};
+use std::alloc::Global;
+use std::test::Fail;
+
+/// Returns the diagnosis of `puzzle`, with at most 1,000 guesses.
+#[tactic(auto, using(diagnosis::proofs::VerdictSizes::sizes_of_verdict))]
+pub(crate) fn diagnosis(alloc: Global, puzzle: &Puzzle) -> Result<Diagnosis, NoMemory> {
+    let findings = report(alloc, puzzle, 1000, Pick::First)?;
+    diagnose(alloc, puzzle, &findings)
+}
+
+/// Returns the clue of line `index` of an axis as one that needs `needed` of `cells` cells.
+fn misfit(axis: Axis, index: u16, needed: u32, cells: u32) -> Misfit {
+    Misfit {
+        axis,
+        index,
+        needed,
+        cells,
+    }
+}
+
+/// Reports whether `outcome` is `Refuted` with this grade.
+pub(crate) fn is_refuted_by(outcome: &Outcome, grade: Grade) -> bool {
+    match outcome {
+        Outcome::Refuted(found) => *found == grade,
+        Outcome::Unique(_) | Outcome::Ambiguous(_) | Outcome::Unsettled => false,
+    }
+}
+
+/// Three cells for `1 1` are just enough, and three for `2 1` are one too few; so are two cells for
+/// the column clues `3` and `1 1`.
+#[test]
+fn misfits_need_more_cells_than_there_are(rt: HostRuntime) -> Result<(), Fail> {
+    let alloc = rt.alloc();
+    let puzzle = read_mk(alloc, b"2 3\n1 1\n2 1\n#\n3\n0\n1 1\n")?;
+    let diagnosis = diagnosis(alloc, &puzzle)?;
+    let wanted = [
+        misfit(Axis::Rows, 1, 4, 3),
+        misfit(Axis::Columns, 0, 3, 2),
+        misfit(Axis::Columns, 2, 3, 2),
+    ];
+    assert!(rt; diagnosis.misfits.as_slice() == wanted.as_slice());
+    assert!(rt;
+        diagnosis.sums
+            == Sums {
+                rows: 5,
+                columns: 5
+            }
+    );
+    assert!(rt; is_refuted_by(&diagnosis.outcome, Grade::Lines));
+    Ok(())
+}
+
+/// Four rows and three columns with one filled cell each, which only a search refutes.
+#[test]
+fn sums_can_differ(rt: HostRuntime) -> Result<(), Fail> {
+    let alloc = rt.alloc();
+    let puzzle = read_mk(alloc, b"4 3\n1\n1\n1\n1\n#\n1\n1\n1\n")?;
+    let diagnosis = diagnosis(alloc, &puzzle)?;
+    assert!(rt; diagnosis.misfits.is_empty());
+    assert!(rt;
+        diagnosis.sums
+            == Sums {
+                rows: 4,
+                columns: 3
+            }
+    );
+    assert!(rt; is_refuted_by(&diagnosis.outcome, Grade::Search));
+    Ok(())
+}
+
+/// The first column's filled cells are in the upper two rows or in the lower two. Then the other two
+/// are adjacent in the second column, whose clue is `1 1`.
+#[test]
+fn trials_refute(rt: HostRuntime) -> Result<(), Fail> {
+    let alloc = rt.alloc();
+    let puzzle = read_mk(alloc, b"5 2\n1\n1\n0\n1\n1\n#\n2\n1 1\n")?;
+    let diagnosis = diagnosis(alloc, &puzzle)?;
+    assert!(rt; is_refuted_by(&diagnosis.outcome, Grade::Trials));
+    Ok(())
+}
+
+/// The second puzzle fills two opposite corners of its four.
+#[test]
+fn solutions_differ_in_cells(rt: HostRuntime) -> Result<(), Fail> {
+    let alloc = rt.alloc();
+    let puzzle = read_mk(alloc, b"2 3\n1 1\n1\n#\n1\n1\n1\n")?;
+    let puzzle_of_two = read_mk(alloc, b"3 3\n1\n0\n1\n#\n1\n0\n1\n")?;
+    let found = diagnosis(alloc, &puzzle)?;
+    assert!(rt; matches!(&found.outcome, Outcome::Unique(_)));
+    let wanted = [
+        Position { row: 0, column: 0 },
+        Position { row: 0, column: 2 },
+        Position { row: 2, column: 0 },
+        Position { row: 2, column: 2 },
+    ];
+    let found = diagnosis(alloc, &puzzle_of_two)?;
+    match &found.outcome {
+        Outcome::Ambiguous(cells) => assert!(rt; cells.as_slice() == wanted.as_slice()),
+        Outcome::Refuted(_) | Outcome::Unique(_) | Outcome::Unsettled => {
+            assert!(rt; false, "one verdict of several")
+        }
+    }
+    Ok(())
+}
+
+/// The only solution has the rows `#.`, `.#` and `##`; the goal has others in the first and last.
+#[test]
+fn goal_rows_differ(rt: HostRuntime) -> Result<(), Fail> {
+    let alloc = rt.alloc();
+    let text = b"width 2\nheight 3\nrows\n1\n1\n2\ncolumns\n1,1\n2\ngoal \"110110\"\n";
+    let puzzle = read_non(alloc, text)?;
+    let found = diagnosis(alloc, &puzzle)?;
+    match &found.outcome {
+        Outcome::Unique(rows) => assert!(rt; rows.as_slice() == [0, 2].as_slice()),
+        Outcome::Refuted(_) | Outcome::Ambiguous(_) | Outcome::Unsettled => {
+            assert!(rt; false, "one solution")
+        }
+    }
+    Ok(())
+}
+
+/// Without guesses the search of a puzzle with two solutions is cut short.
+#[test]
+#[tactic(auto, using(diagnosis::proofs::VerdictSizes::sizes_of_verdict))]
+fn cut_searches_are_unsettled(rt: HostRuntime) -> Result<(), Fail> {
+    let alloc = rt.alloc();
+    let puzzle = read_mk(alloc, b"2 2\n1\n1\n#\n1\n1\n")?;
+    let findings = report(alloc, &puzzle, 0, Pick::First)?;
+    let diagnosis = diagnose(alloc, &puzzle, &findings)?;
+    assert!(rt; matches!(&diagnosis.outcome, Outcome::Unsettled));
+    Ok(())
+}

@@ -1,0 +1,47 @@
+//! Tests of diagnoses with failing allocations: each allocation fails in turn.
+
+use crate::tests::diagnosis;
+use alloc_failures::{CallResult, expected_if, sweep};
+use diagnosis::{Diagnosis, Outcome};
+use grid_core::{NoMemory, Puzzle};
+use puzzle_text::read_mk;
+use std::alloc::Global;
+use std::test::Fail;
+
+/// Returns how many cells differ in the solutions that a diagnosis found.
+fn differing_count(diagnosis: &Diagnosis) -> usize {
+    match &diagnosis.outcome {
+        Outcome::Ambiguous(cells) => cells.len(),
+        Outcome::Refuted(_) | Outcome::Unique(_) | Outcome::Unsettled => 0,
+    }
+}
+
+/// Diagnoses the puzzle of this `.mk` text with each allocation failing in turn; with ample memory
+/// so many clues don't fit, and so many cells differ.
+fn diagnoses_or_fails(
+    alloc: Global,
+    text: &[u8],
+    misfits: usize,
+    cells: usize,
+) -> Result<(), Fail> {
+    let puzzle: Puzzle = read_mk(alloc, text)?;
+    sweep(alloc, || match diagnosis(alloc, &puzzle) {
+        Ok(found) => expected_if(
+            found.misfits.len() == misfits && differing_count(&found) == cells,
+        ),
+        Err(NoMemory) => CallResult::NoMemory,
+    })?;
+    Ok(())
+}
+
+/// One row clue and one column clue are too long.
+#[test]
+fn misfits_are_found_or_refused(rt: HostRuntime) -> Result<(), Fail> {
+    diagnoses_or_fails(rt.alloc(), b"2 2\n0\n3\n#\n3\n2\n", 2, 0)
+}
+
+/// Two solutions differ in each of four cells.
+#[test]
+fn differing_cells_are_found_or_refused(rt: HostRuntime) -> Result<(), Fail> {
+    diagnoses_or_fails(rt.alloc(), b"2 2\n1\n1\n#\n1\n1\n", 0, 4)
+}
