@@ -1,4 +1,4 @@
-//! Tells what is wrong with a refused text, and where.
+//! What is wrong with a refused text, and where.
 
 ghost use Rattle.std.specs.Prelude.{◌≡◌, map, IfOk};
 ghost use Rattle.std.specs.Option.{option_map};
@@ -40,7 +40,12 @@ impl TextFault {
             | TextFault::Twice(number)
             | TextFault::BadNumber(number)
             | TextFault::BadGoal(number) => Some(number),
-            _ => None,
+            TextFault::TooLong
+            | TextFault::NoSize
+            | TextFault::BadSize
+            | TextFault::NoSection
+            | TextFault::BadCount
+            | TextFault::NoMemory => None,
         }
     }
 }
@@ -94,7 +99,8 @@ fn form_of(
     }
 }
 
-/// Tells what is wrong with a text that the reader of `format` refused with `fault`.
+/// Returns what is wrong with a text that the reader of `format` refused with `fault`, and where.
+/// Fails with `NoMemory` if an allocation fails.
 pub fn diagnose_text<'a>(
     alloc: Global,
     format: Format,
