@@ -1,7 +1,9 @@
 //! Tests of the calls of `lane_core` with failing allocations: each allocation of a call fails in
 //! turn, and calls that allocate nothing are made with every allocation failing.
 
-use crate::tests_lanes::{Batch, Call, Called, Reply, Turn, jobs, puzzle_with, take_turns};
+use crate::tests_lanes::{
+    Batch, Call, Called, Reply, Turn, job, jobs, puzzle_with, result_of, take_turns,
+};
 use alloc_failures::{CallResult, arm, disarm, expected_if, is_active, sweep};
 use grid_core::NoMemory;
 use lane_core::*;
@@ -53,6 +55,26 @@ fn jobs_are_graded_or_refused(rt: HostRuntime) -> Result<(), Fail> {
         Ok(puzzle) => result_of_answer(&grade(alloc, Job::new(7, puzzle, 1000, Pick::First))),
         Err(NoMemory) => CallResult::NoMemory,
     })?;
+    Ok(())
+}
+
+/// Tests that a lane's worker keeps the buffers of its reporter: for its second job it allocates no
+/// more than the two grids for solutions, which the first one's answer has.
+#[test]
+fn buffers_are_kept_for_the_next_job(rt: HostRuntime) -> Result<(), Fail> {
+    let alloc = rt.alloc();
+    let mut lane = BatchLane::new(alloc, 2)?;
+    assert!(rt; lane.send(job(alloc, 8)?).is_ok());
+    lane.work(alloc, &OpenGate);
+    assert!(rt; lane.send(job(alloc, 7)?).is_ok());
+    arm(alloc, 3);
+    lane.work(alloc, &OpenGate);
+    assert!(rt; !disarm(alloc), "a third allocation");
+    for number in [8u32, 7] {
+        let answer = lane.take().ok_or("no answer")?;
+        assert!(rt; result_of(&answer) == Reply::Answered(number));
+    }
+    assert!(rt; is_active(alloc));
     Ok(())
 }
 
