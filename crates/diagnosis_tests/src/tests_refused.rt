@@ -16,8 +16,8 @@ fn differing_count(diagnosis: &Diagnosis) -> usize {
     }
 }
 
-/// Diagnoses the puzzle of this `.mk` text with each allocation failing in turn; with ample memory
-/// so many clues don't fit, and so many cells differ.
+/// Diagnoses the puzzle of this `.mk` text with each allocation failing in turn. With ample memory
+/// `misfits` clues don't fit their line, and `cells` cells differ in two solutions.
 fn diagnoses_or_fails(
     alloc: Global,
     text: &[u8],

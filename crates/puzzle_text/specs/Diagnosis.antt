@@ -1,4 +1,4 @@
--- What is told of a refused text.
+-- What a diagnosis says of a refused text.
 use Rattle.std.specs.Prelude.{ℕ, List, [], Option, Some, None, option_and_then, ◌==◌}
 use Rattle.std.specs.List.{find}
 use Rattle.std.specs.Option.{option_map}
