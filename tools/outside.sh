@@ -120,16 +120,21 @@ int pthread_create(pthread_t *thread, const pthread_attr_t *how, void *(*start)(
 END
 }
 
-# A library that writes a line to file descriptor 9 for each time that a worker wakes the collector, which then has
-# 5 ms to do its work and to park again.
+# A library that writes `wake` to file descriptor 9 each time that a worker wakes the collector, which then has 5 ms to do
+# its work and to park again; and `park` each time that the collector falls asleep. The first TOKENS times it is woken at
+# once, although no worker has anything for it.
 make_wakes() {
     cc -O2 -shared -fPIC -x c -o wakes.so - -ldl <<'END'
 #define _GNU_SOURCE
 #include <dlfcn.h>
 #include <linux/futex.h>
 #include <stdarg.h>
+#include <stdlib.h>
 #include <sys/syscall.h>
 #include <unistd.h>
+
+// The states of a parker: one that is woken, and one whose owner is about to sleep.
+enum { NOTIFIED = 1, PARKED = 2 };
 
 long syscall(long number, ...) {
     long (*real)(long, ...) = dlsym(RTLD_NEXT, "syscall");
@@ -138,8 +143,17 @@ long syscall(long number, ...) {
     long place = va_arg(given, long), how = va_arg(given, long), value = va_arg(given, long);
     long time = va_arg(given, long), other = va_arg(given, long), mask = va_arg(given, long);
     va_end(given);
+    int call = number == SYS_futex ? how & FUTEX_CMD_MASK : -1;
+    if (call == FUTEX_WAIT && value == PARKED && gettid() == getpid()) {
+        static int parked;
+        (void)!write(9, "park\n", 5);
+        if (getenv("TOKENS") && ++parked <= atoi(getenv("TOKENS"))) {
+            __atomic_store_n((long *)place, NOTIFIED, __ATOMIC_SEQ_CST);
+            return 0;
+        }
+    }
     long done = real(number, place, how, value, time, other, mask);
-    if (number == SYS_futex && (how & FUTEX_CMD_MASK) == FUTEX_WAKE && gettid() != getpid()) {
+    if (call == FUTEX_WAKE && gettid() != getpid()) {
         (void)!write(9, "wake\n", 5);
         usleep(5000);
     }
@@ -184,6 +198,7 @@ make_files() {
     ones=$(repeated 127 1,)1
     non_text 256 256 "$ones" "$ones" >ones.non
     non_text 256 256 256 256 >full.non
+    { echo 128 128 && lines 256 1; } >singles.nin
     cp ones.non failing.non
     mkdir folder.non
     mkfifo fifo.non pipe
@@ -227,6 +242,8 @@ make_texts() {
         printf '%s\n' "$number 256x256 one line 65536 65536 0 absent full.non" "$picture" ''
     done >shown_full
     totals 3 >>shown_full
+    printf '%s\n' '1 128x128 several search 0 0 128 absent singles.nin' \
+        'entries 1 refused 0 none 0 one 0 several 1 unsettled 0 line 0 trials 0 search 1' >surveyed_singles
 }
 
 # The program, for ten seconds at most. (The signal of a closed pipe is as a shell usually leaves it, whatever
@@ -376,9 +393,18 @@ wakes() {
         : >said
         ordinary "${@:2}" 9>woken
         status=$?
-        [ "$(wc -l <woken)" -lt "$1" ] || return $status
+        [ "$(grep -c wake woken)" -lt "$1" ] || return $status
     done
-    echo "(they woke it $(wc -l <woken) times)" >>said
+    echo "(they woke it $(grep -c wake woken) times)" >>said
+    return $status
+}
+
+# A collector that is woken COUNT times for nothing has to park again.
+parks() {
+    local limits=(env LD_PRELOAD=./wakes.so TOKENS="$1") status
+    ordinary "${@:2}" 9>woken
+    status=$?
+    [ "$(grep -c park woken)" -gt 1 ] || echo "(it parked $(grep -c park woken) times)" >>said
     return $status
 }
 
@@ -637,6 +663,9 @@ try starts:34 - surveyed_300 survey --lanes 16 $(lines 300 heart.non)
 # A worker wakes the collector whenever half of its ring is full of answers, here 75 times; 38 times if it waited for a
 # full ring.
 try wakes:60 - surveyed_300 survey --lanes 1 $(lines 300 heart.non)
+
+# While its worker solves a puzzle for 50 ms, the collector has nothing to do.
+try parks:20 - surveyed_singles survey --lanes 1 singles.nin
 
 # Little room for addresses.
 try_little_room 10000 closed_full lines full.non
