@@ -4,3 +4,8 @@ pub mod RunSizes
 pub mod LineTotals
 pub mod SolutionLaws
 pub mod VerdictSizes
+pub mod FirstFound
+pub mod LineReads
+pub mod RoundLaws
+pub mod RoundSteps
+pub mod Reports

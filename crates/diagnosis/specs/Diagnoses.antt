@@ -1,7 +1,9 @@
 -- The diagnosis of a puzzle.
-use Rattle.std.specs.Prelude.{◌≡◌, ℕ, List}
+use Rattle.std.specs.Prelude.{◌≡◌, ℕ, List, Some, option_map}
 use Rattle.grid_core.specs.Nonogram.{Nonogram}
+use Rattle.solve_core.specs.Report.{findings_of}
 use Rattle.solve_core.specs.Sizes.{HasSizeOf}
+use Rattle.solve_core.specs.declared.picks.Pick.{Pick}
 use Rattle.solve_core.specs.declared.findings.Findings.{Findings}
 use Rattle.solve_core.specs.declared.findings.Grade.{Grade}
 use Rattle.solve_core.specs.declared.findings.Verdict.{Verdict}
@@ -10,10 +12,17 @@ use Rattle.diagnosis.specs.declared.diagnosing.Diagnosis.{Diagnosis}
 use Rattle.diagnosis.specs.declared.diagnosing.Outcome.{Outcome}
 use Rattle.diagnosis.specs.declared.diagnosing.Outcome.TheVariants.{Ambiguous, Refuted, Unique, Unsettled}
 use Rattle.diagnosis.specs.declared.differences.Position.{Position}
+use Rattle.diagnosis.specs.Contradictions.{refutation_of}
 use Rattle.diagnosis.specs.Differences.{differing_cells}
 use Rattle.diagnosis.specs.Goals.{goal_rows}
 use Rattle.diagnosis.specs.Misfits.{misfits_of}
 use Rattle.diagnosis.specs.Sums.{sums_of}
+
+-- `findings` are those of a report on `p`, with some rule for guesses and some limit on them
+pub record IsReportOn (p : Nonogram) (findings : Findings) : Type 0 where
+  pub pick : Pick
+  pub limit : ℕ
+  pub is : findings ≡ findings_of pick p limit
 
 -- each grid of a verdict has the size of the puzzle
 abbrev pub HaveSizeOf : Nonogram → Verdict → Type 0
@@ -25,21 +34,21 @@ HaveSizeOf p (Undecided found) = Unit {0}
 -- the outcome is `Unique` with these rows
 abbrev pub IsUniqueWith : List ℕ → Outcome → Type 0
 IsUniqueWith rows (Unique found) = found.items ≡ rows
-IsUniqueWith rows (Refuted grade) = ⊥
+IsUniqueWith rows (Refuted refutation) = ⊥
 IsUniqueWith rows (Ambiguous cells) = ⊥
 IsUniqueWith rows Unsettled = ⊥
 
 -- the outcome is `Ambiguous` with these cells
 abbrev pub IsAmbiguousWith : List Position → Outcome → Type 0
 IsAmbiguousWith cells (Ambiguous found) = found.items ≡ cells
-IsAmbiguousWith cells (Refuted grade) = ⊥
+IsAmbiguousWith cells (Refuted refutation) = ⊥
 IsAmbiguousWith cells (Unique rows) = ⊥
 IsAmbiguousWith cells Unsettled = ⊥
 
 -- what a verdict on `p` and its grade show: what refuted `p`, the rows in which its only solution
 -- and its goal differ, or the cells in which two solutions differ
 abbrev pub IsOutcomeBy : Nonogram → Verdict → Grade → Outcome → Type 0
-IsOutcomeBy p Nothing grade outcome = outcome ≡ Refuted grade
+IsOutcomeBy p Nothing grade outcome = option_map Refuted (refutation_of p grade) ≡ Some outcome
 IsOutcomeBy p (One found) grade outcome = IsUniqueWith (goal_rows p found) outcome
 IsOutcomeBy p (Several first second) grade outcome =
     IsAmbiguousWith (differing_cells first second) outcome

@@ -1,8 +1,11 @@
 //! The diagnosis of a puzzle.
 
-ghost use Rattle.std.specs.Prelude.{IfOk};
-ghost use Rattle.diagnosis.specs.Diagnoses.{HaveSizeOf, IsDiagnosisOf, IsOutcomeOf};
+ghost use Rattle.std.specs.Prelude.{◌≡◌, IfOk, None};
+ghost use Rattle.grid_core.specs.Nonogram.{IsNonogram};
+ghost use Rattle.solve_core.specs.Report.{line_closure};
+ghost use Rattle.diagnosis.specs.Diagnoses.{HaveSizeOf, IsDiagnosisOf, IsOutcomeOf, IsReportOn};
 
+use crate::contradictions::{Refutation, refutation_of};
 use crate::differences::{Position, differing_cells};
 use crate::goals::goal_rows;
 use crate::misfits::{Misfit, puzzle_misfits};
@@ -14,8 +17,8 @@ use std::alloc::Global;
 /// What is wrong with the solutions of a puzzle.
 #[derive(Debug, Drop)]
 pub enum Outcome {
-    /// There is no solution: lines, trials or the search refuted the puzzle.
-    Refuted(Grade),
+    /// There is no solution: this refuted the puzzle.
+    Refuted(Refutation),
     /// There is one solution. These rows, counted from 0, differ from the puzzle's goal, if it has
     /// one.
     Unique(Vec<u16>),
@@ -39,11 +42,13 @@ pub struct Diagnosis {
 /// Returns what the verdict on `puzzle` in `findings` shows. Fails with `NoMemory` if an allocation
 /// fails.
 fn outcome_of(alloc: Global, puzzle: &Puzzle, findings: &Findings) -> Result<Outcome, NoMemory>
-    requires { HaveSizeOf puzzle.now findings.now.verdict }
+    requires sizes { HaveSizeOf puzzle.now findings.now.verdict }
+    requires dead { findings.now.verdict ≡ Verdict.Nothing → findings.now.grade ≡ Grade.Lines
+        → line_closure puzzle.now ≡ None }
     ensures { IfOk result (IsOutcomeOf puzzle.now findings.now) }
 {
     Ok(match &findings.verdict {
-        Verdict::Nothing => Outcome::Refuted(findings.grade),
+        Verdict::Nothing => Outcome::Refuted(refutation_of(alloc, puzzle, findings.grade)?),
         Verdict::One(grid) => Outcome::Unique(goal_rows(alloc, puzzle, grid)?),
         Verdict::Several(first, second) => {
             Outcome::Ambiguous(differing_cells(alloc, first, second)?)
@@ -52,12 +57,22 @@ fn outcome_of(alloc: Global, puzzle: &Puzzle, findings: &Findings) -> Result<Out
     })
 }
 
-/// Returns what is wrong with `puzzle`, by a report's `findings` on it. Fails with `NoMemory` if an
-/// allocation fails.
+/// Brings the invariant of `puzzle`, that it is a nonogram, into the caller's proof. It has no
+/// other effect.
+fn recall_invariant(puzzle: &Puzzle)
+    ensures { IsNonogram puzzle.now }
+{
+    // Called for its contract, which states the invariant.
+    puzzle.width();
+}
+
+/// Returns what is wrong with `puzzle`, by the `findings` of a report on it. Fails with `NoMemory` if
+/// an allocation fails.
 pub fn diagnose(alloc: Global, puzzle: &Puzzle, findings: &Findings) -> Result<Diagnosis, NoMemory>
-    requires { HaveSizeOf puzzle.now findings.now.verdict }
+    requires { IsReportOn puzzle.now findings.now }
     ensures { IfOk result (IsDiagnosisOf puzzle.now findings.now) }
 {
+    recall_invariant(puzzle);
     Ok(Diagnosis {
         misfits: puzzle_misfits(alloc, puzzle)?,
         sums: puzzle_sums(puzzle),

@@ -1,7 +1,7 @@
 //! Clues that need more cells than their line has.
 
 ghost use Rattle.std.specs.Prelude.{◌≡◌, ◌<◌, ◌++◌, [], length, IfOk, slice_index_or};
-ghost use Rattle.grid_core.specs.Nonogram.{clues_on};
+ghost use Rattle.grid_core.specs.Nonogram.{IsNonogram, clues_on};
 ghost use Rattle.grid_core.specs.declared.limits.TheConstants.{MAX_SIDE};
 ghost use Rattle.diagnosis.specs.Misfits.{cells_needed, fit_of, misfits_of, misfits_on};
 
@@ -48,8 +48,9 @@ fn fit(puzzle: &Puzzle, axis: Axis, index: u16) -> Misfit
 }
 
 /// Returns how many lines an axis has.
-fn line_count(puzzle: &Puzzle, axis: Axis) -> u16
-    ensures { result ≡ length (clues_on axis puzzle.now) }
+pub(crate) fn line_count(puzzle: &Puzzle, axis: Axis) -> u16
+    ensures count { result ≡ length (clues_on axis puzzle.now) }
+    ensures puzzle { IsNonogram puzzle.now }
 {
     match axis {
         Axis::Rows => puzzle.rows().len() as u16,

@@ -3,12 +3,12 @@
 use diagnosis::*;
 use grid_core::{Axis, NoMemory, Puzzle};
 use puzzle_text::{read_mk, read_non};
-use solve_core::{Grade, Pick, report};
+use solve_core::{Pick, report};
 use std::alloc::Global;
 use std::test::Fail;
 
 /// Returns the diagnosis of `puzzle`, with at most 1,000 guesses.
-#[tactic(auto, using(diagnosis::proofs::VerdictSizes::sizes_of_verdict))]
+#[tactic(auto, using(diagnosis::proofs::Reports::report_on))]
 pub(crate) fn diagnosis(alloc: Global, puzzle: &Puzzle) -> Result<Diagnosis, NoMemory> {
     let findings = report(alloc, puzzle, 1000, Pick::First)?;
     diagnose(alloc, puzzle, &findings)
@@ -24,12 +24,22 @@ fn misfit(axis: Axis, index: u16, needed: u32, cells: u32) -> Misfit {
     }
 }
 
-/// Reports whether `outcome` is `Refuted` with this grade.
-pub(crate) fn is_refuted_by(outcome: &Outcome, grade: Grade) -> bool {
+/// Reports whether `outcome` is `Refuted` by this.
+pub(crate) fn is_refuted_by(outcome: &Outcome, refutation: Refutation) -> bool {
     match outcome {
-        Outcome::Refuted(found) => *found == grade,
+        Outcome::Refuted(found) => *found == refutation,
         Outcome::Unique(_) | Outcome::Ambiguous(_) | Outcome::Unsettled => false,
     }
+}
+
+/// Returns the refutation of a puzzle by this line, whose clue has no placing.
+fn no_placing(axis: Axis, index: u16) -> Refutation {
+    Refutation::Lines(Contradiction::NoPlacing { axis, index })
+}
+
+/// Returns the refutation of a puzzle by this cell, of which two colours are deduced.
+fn two_colours(row: u16, column: u16) -> Refutation {
+    Refutation::Lines(Contradiction::TwoColours(Position { row, column }))
 }
 
 /// Three cells for `1 1` are just enough, and three for `2 1` are one too few; so are two cells for
@@ -52,7 +62,61 @@ fn misfits_need_more_cells_than_there_are(rt: HostRuntime) -> Result<(), Fail> {
                 columns: 5
             }
     );
-    assert!(rt; is_refuted_by(&diagnosis.outcome, Grade::Lines));
+    assert!(rt; is_refuted_by(&diagnosis.outcome, no_placing(Axis::Rows, 1)));
+    Ok(())
+}
+
+/// Reports whether the puzzle of this `.mk` text is refuted by this.
+fn is_text_refuted_by(alloc: Global, text: &[u8], refutation: Refutation) -> Result<bool, Fail> {
+    let puzzle = read_mk(alloc, text)?;
+    let found = diagnosis(alloc, &puzzle)?;
+    Ok(is_refuted_by(&found.outcome, refutation))
+}
+
+/// The first row and the first column of the first puzzle are too short for their clues, and only
+/// the second column of the second puzzle.
+#[test]
+fn rows_are_refuted_before_columns(rt: HostRuntime) -> Result<(), Fail> {
+    let alloc = rt.alloc();
+    let row = no_placing(Axis::Rows, 0);
+    let column = no_placing(Axis::Columns, 1);
+    assert!(rt; is_text_refuted_by(alloc, b"2 2\n3\n1\n#\n3\n1\n", row)?);
+    assert!(rt; is_text_refuted_by(alloc, b"2 2\n2\n1\n#\n0\n3\n", column)?);
+    Ok(())
+}
+
+/// The upper row is filled, and the second and fourth column are blank.
+#[test]
+fn two_colours_are_deduced(rt: HostRuntime) -> Result<(), Fail> {
+    let text = b"2 4\n4\n0\n#\n1\n0\n1\n0\n";
+    assert!(rt; is_text_refuted_by(rt.alloc(), text, two_colours(0, 1))?);
+    Ok(())
+}
+
+/// The first round deduces the blank columns and the middle of each row; the second, that no row can
+/// be `.#.`. The middle column is dead by then too.
+#[test]
+fn second_rounds_can_be_dead(rt: HostRuntime) -> Result<(), Fail> {
+    let text = b"2 3\n2\n2\n#\n0\n1\n0\n";
+    assert!(rt; is_text_refuted_by(rt.alloc(), text, no_placing(Axis::Rows, 0))?);
+    Ok(())
+}
+
+/// The first round deduces the blank columns, the second fills the middle one, and in the third that
+/// is dead.
+#[test]
+fn third_rounds_can_be_dead(rt: HostRuntime) -> Result<(), Fail> {
+    let text = b"2 3\n1\n1\n#\n0\n1\n0\n";
+    assert!(rt; is_text_refuted_by(rt.alloc(), text, no_placing(Axis::Columns, 1))?);
+    Ok(())
+}
+
+/// After two rounds the rows are `.##` and `..?`: the last cell is filled by its row and blank by
+/// its column.
+#[test]
+fn third_rounds_can_deduce_two_colours(rt: HostRuntime) -> Result<(), Fail> {
+    let text = b"2 3\n2\n1\n#\n0\n1\n1\n";
+    assert!(rt; is_text_refuted_by(rt.alloc(), text, two_colours(1, 2))?);
     Ok(())
 }
 
@@ -70,7 +134,7 @@ fn sums_can_differ(rt: HostRuntime) -> Result<(), Fail> {
                 columns: 3
             }
     );
-    assert!(rt; is_refuted_by(&diagnosis.outcome, Grade::Search));
+    assert!(rt; is_refuted_by(&diagnosis.outcome, Refutation::Search));
     Ok(())
 }
 
@@ -81,7 +145,7 @@ fn trials_refute(rt: HostRuntime) -> Result<(), Fail> {
     let alloc = rt.alloc();
     let puzzle = read_mk(alloc, b"5 2\n1\n1\n0\n1\n1\n#\n2\n1 1\n")?;
     let diagnosis = diagnosis(alloc, &puzzle)?;
-    assert!(rt; is_refuted_by(&diagnosis.outcome, Grade::Trials));
+    assert!(rt; is_refuted_by(&diagnosis.outcome, Refutation::Trials));
     Ok(())
 }
 
@@ -127,7 +191,7 @@ fn goal_rows_differ(rt: HostRuntime) -> Result<(), Fail> {
 
 /// Without guesses the search of a puzzle with two solutions is cut short.
 #[test]
-#[tactic(auto, using(diagnosis::proofs::VerdictSizes::sizes_of_verdict))]
+#[tactic(auto, using(diagnosis::proofs::Reports::report_on))]
 fn cut_searches_are_unsettled(rt: HostRuntime) -> Result<(), Fail> {
     let alloc = rt.alloc();
     let puzzle = read_mk(alloc, b"2 2\n1\n1\n#\n1\n1\n")?;

@@ -45,3 +45,9 @@ fn misfits_are_found_or_refused(rt: HostRuntime) -> Result<(), Fail> {
 fn differing_cells_are_found_or_refused(rt: HostRuntime) -> Result<(), Fail> {
     diagnoses_or_fails(rt.alloc(), b"2 2\n1\n1\n#\n1\n1\n", 0, 4)
 }
+
+/// All clues fit their line; the second round of line logic is dead.
+#[test]
+fn contradictions_are_found_or_refused(rt: HostRuntime) -> Result<(), Fail> {
+    diagnoses_or_fails(rt.alloc(), b"2 3\n2\n2\n#\n0\n1\n0\n", 0, 0)
+}
