@@ -5,6 +5,7 @@ pub mod LinesLemmas
 pub mod NumbersLemmas
 pub mod SectionsLemmas
 pub mod CountsLemmas
+pub mod SecondLemmas
 pub mod ParsedLines
 pub mod ReadBack
 pub mod ReadMk

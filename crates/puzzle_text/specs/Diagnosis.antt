@@ -8,7 +8,7 @@ use Rattle.puzzle_text.specs.declared.faults.TextFault.TheVariants.{TooLong, NoS
 use Rattle.puzzle_text.specs.declared.formats.Format.{Format}
 use Rattle.puzzle_text.specs.declared.forms.TextForm.{TextForm}
 use Rattle.puzzle_text.specs.Forms.{form_of_bytes}
-use Rattle.puzzle_text.specs.KeywordForms.{form_of_lines}
+use Rattle.puzzle_text.specs.LineForms.{form_of_lines}
 use Rattle.puzzle_text.specs.Lines.{TextLine}
 use Rattle.puzzle_text.specs.Mk.{or_else}
 use Rattle.puzzle_text.specs.Sizes.{text_lines}
@@ -42,5 +42,6 @@ named_line fault lines =
 
 -- the form of a text that explains its fault, if one is recognized: that of its bytes, or else of
 -- its lines
-abbrev pub form_of : Format → TextFault → List ℕ → List TextLine → Option TextForm
-form_of format fault bytes lines = or_else (form_of_bytes bytes) (form_of_lines format fault lines)
+abbrev pub form_of : ℕ → Format → TextFault → List ℕ → List TextLine → Option TextForm
+form_of limit format fault bytes lines =
+    or_else (form_of_bytes bytes) (form_of_lines limit format fault lines)

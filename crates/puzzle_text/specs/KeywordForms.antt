@@ -1,16 +1,14 @@
 -- What the keyword lines of a refused text explain.
-use Rattle.std.specs.Prelude.{ℕ, Bool, false, List, filter, Option, Some, None, is_some, nat_lt, if◌then◌else◌}
+use Rattle.std.specs.Prelude.{ℕ, Bool, false, List, Option, Some, None, is_some, nat_lt, if◌then◌else◌}
 use Rattle.std.specs.List.{list_all}
 use Rattle.std.specs.Option.{option_map, option_map_or}
 use Rattle.puzzle_text.specs.declared.faults.TextFault.{TextFault}
 use Rattle.puzzle_text.specs.declared.faults.TextFault.TheVariants.{NoSize, NoSection, Twice}
-use Rattle.puzzle_text.specs.declared.formats.Format.{Format}
-use Rattle.puzzle_text.specs.declared.formats.Format.TheVariants.{Non}
 use Rattle.puzzle_text.specs.declared.forms.TextForm.{TextForm}
 use Rattle.puzzle_text.specs.declared.forms.TextForm.TheVariants.{Misspelt, SecondPuzzle}
 use Rattle.puzzle_text.specs.declared.near_keywords.NeededKeyword.{NeededKeyword}
 use Rattle.puzzle_text.specs.declared.near_keywords.NeededKeyword.TheVariants.{Width, Height, Rows, Columns}
-use Rattle.puzzle_text.specs.Keywords.{first_with, is_keyword_line}
+use Rattle.puzzle_text.specs.Keywords.{first_with}
 use Rattle.puzzle_text.specs.Lines.{TextLine}
 use Rattle.puzzle_text.specs.Mk.{or_else}
 use Rattle.puzzle_text.specs.NearKeywords.{near_line, needed_word}
@@ -39,8 +37,3 @@ form_of_keywords NoSection lines = or_else (misspelt lines Rows) (misspelt lines
 form_of_keywords (Twice number) lines =
     if is_whole_above lines number then Some (SecondPuzzle number) else None
 form_of_keywords fault lines = None
-
--- the form by which the lines of a text in a format explain a fault, if they do
-abbrev pub form_of_lines : Format → TextFault → List TextLine → Option TextForm
-form_of_lines Non fault lines = form_of_keywords fault (filter is_keyword_line lines)
-form_of_lines format fault lines = None

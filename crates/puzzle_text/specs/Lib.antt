@@ -20,5 +20,7 @@ pub mod Counts
 pub mod Forms
 pub mod NearKeywords
 pub mod KeywordForms
+pub mod SecondPuzzles
+pub mod LineForms
 pub mod Diagnosis
 pub mod steps

@@ -83,7 +83,7 @@ fn goal_count(alloc: Global, lines: &[TextLine<'_>]) -> Result<Option<TextCounts
 
 /// Returns the two sizes of the size line in its order, and the lines after it; `None` if its
 /// reader finds a fault in it.
-fn known_size_line<'a, 'b>(
+pub(crate) fn known_size_line<'a, 'b>(
     lines: &'b [TextLine<'a>],
 ) -> Result<Option<((u16, u16), &'b [TextLine<'a>])>, NoMemory>
     ensures { IfOk result (λ found. option_map (λ size. (size.0, map shown_line size.1.now)) found

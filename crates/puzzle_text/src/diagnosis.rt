@@ -10,8 +10,8 @@ use crate::counts::{TextCounts, counts_of};
 use crate::faults::TextFault;
 use crate::formats::Format;
 use crate::forms::{TextForm, form_of_bytes};
-use crate::keyword_forms::form_of_lines;
 use crate::limits::MAX_PUZZLE_LEN;
+use crate::line_forms::form_of_lines;
 use crate::lines::{TextLine, all_lines};
 use grid_core::{MAX_SIDE, NoMemory};
 use std::alloc::Global;
@@ -91,7 +91,7 @@ fn form_of(
     lines: &[TextLine<'_>],
 ) -> Result<Option<TextForm>, NoMemory>
     ensures { IfOk result
-        (λ form. form ≡ form_of format fault bytes.now (map shown_line lines.now)) }
+        (λ form. form ≡ form_of MAX_SIDE format fault bytes.now (map shown_line lines.now)) }
 {
     match form_of_bytes(bytes) {
         Some(form) => Ok(Some(form)),
@@ -113,7 +113,7 @@ pub fn diagnose_text<'a>(
     ensures counts { IfOk result (λ found. found.counts
         ≡ counts_of MAX_SIDE format fault (readable_lines bytes.now)) }
     ensures form { IfOk result (λ found. found.form
-        ≡ form_of format fault bytes.now (readable_lines bytes.now)) }
+        ≡ form_of MAX_SIDE format fault bytes.now (readable_lines bytes.now)) }
 {
     let lines = readable_lines(alloc, bytes)?;
     Ok(TextDiagnosis {

@@ -21,8 +21,11 @@ pub enum TextForm {
     /// exchanged. Of two missing keywords `width` and `rows` come first; of several lines the first
     /// is reported.
     Misspelt { line: u32, keyword: NeededKeyword },
-    /// In `.non`, this line repeats a keyword below the first lines with `width`, `height`, `rows`
-    /// and `columns`, so that a second puzzle begins there or a little above.
+    /// A second puzzle begins in this line or a little above. In `.non`, it repeats a keyword below
+    /// the first lines with `width`, `height`, `rows` and `columns`. In `.mk` and `.nin`, where
+    /// there are too many clue lines, it has two sizes and comes after as many as the first puzzle
+    /// needs, and below it there is a line that begins with `#`, or in `.nin` as many lines as its
+    /// sizes require; blank lines are not counted.
     SecondPuzzle { line: u32 },
 }
 

@@ -1,19 +1,15 @@
 //! Recognizes from the keyword lines of a `.non` text why it is refused.
 
-ghost use Rattle.std.specs.Prelude.{◌≡◌, map, IfOk};
-ghost use Rattle.puzzle_text.specs.KeywordForms.{form_of_keywords, form_of_lines, is_above, is_whole_above, misspelt};
+ghost use Rattle.std.specs.Prelude.{◌≡◌, map};
+ghost use Rattle.puzzle_text.specs.KeywordForms.{form_of_keywords, is_above, is_whole_above, misspelt};
 ghost use Rattle.puzzle_text.specs.NearKeywords.{needed_word};
-ghost use Rattle.puzzle_text.specs.steps.Shown.{shown_keyword, shown_line};
+ghost use Rattle.puzzle_text.specs.steps.Shown.{shown_keyword};
 
 use crate::faults::TextFault;
-use crate::formats::Format;
 use crate::forms::TextForm;
 use crate::keyword_line::KeywordLine;
-use crate::keywords::{keyword_lines, nth_with_keyword};
-use crate::lines::TextLine;
+use crate::keywords::nth_with_keyword;
 use crate::near_keywords::{NeededKeyword, near_line};
-use grid_core::NoMemory;
-use std::alloc::Global;
 
 /// Returns the first line whose keyword is nearly `keyword`, if no line has exactly that.
 fn misspelt(lines: &[KeywordLine<'_>], keyword: NeededKeyword) -> Option<TextForm>
@@ -48,7 +44,7 @@ fn is_whole_above(lines: &[KeywordLine<'_>], number: u32) -> bool
 }
 
 /// Returns the form by which the keyword lines explain the fault, if they do.
-fn form_of_keywords(fault: TextFault, lines: &[KeywordLine<'_>]) -> Option<TextForm>
+pub(crate) fn form_of_keywords(fault: TextFault, lines: &[KeywordLine<'_>]) -> Option<TextForm>
     ensures { result ≡ form_of_keywords fault (map shown_keyword lines.now) }
 {
     match fault {
@@ -65,21 +61,4 @@ fn form_of_keywords(fault: TextFault, lines: &[KeywordLine<'_>]) -> Option<TextF
         }
         _ => None,
     }
-}
-
-/// Returns the form by which the lines of a text in `format` explain the fault, if they do. Looks
-/// at the keyword lines of `.non`; the other formats have none.
-pub(crate) fn form_of_lines(
-    alloc: Global,
-    format: Format,
-    fault: TextFault,
-    lines: &[TextLine<'_>],
-) -> Result<Option<TextForm>, NoMemory>
-    ensures { IfOk result (λ form. form ≡ form_of_lines format fault (map shown_line lines.now)) }
-{
-    if format != Format::Non {
-        return Ok(None);
-    }
-    let keyword_lines = keyword_lines(alloc, lines)?;
-    Ok(form_of_keywords(fault, &keyword_lines))
 }

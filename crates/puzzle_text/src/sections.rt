@@ -24,7 +24,7 @@ pub(crate) enum SectionLines<'a, 'b> {
 }
 
 /// Returns how many of the lines are not blank.
-fn non_blank_count(section: &[TextLine<'_>]) -> usize
+pub(crate) fn non_blank_count(section: &[TextLine<'_>]) -> usize
     ensures { result ≡ count_by (λ line. is_non_blank (shown_line line)) section.now }
 {
     section.iter().filter(|line| !line.text.is_empty()).count()

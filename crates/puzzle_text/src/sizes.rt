@@ -42,7 +42,7 @@ pub(crate) fn size_of(piece: &[u8]) -> Result<u16, TextFault>
 
 /// Parses the two sizes of a size line. Fails with `NoSize` if it doesn't consist of exactly two
 /// pieces, and otherwise with `BadSize` if one of them is not a size.
-fn two_sizes(text: &[u8]) -> Result<(u16, u16), TextFault>
+pub(crate) fn two_sizes(text: &[u8]) -> Result<(u16, u16), TextFault>
     ensures sizes { Gives TextFault.NoMemory (λ sizes. sizes) result
         (two_sizes MAX_SIDE (pieces text.now)) }
     ensures range { IfOk result (λ sizes. IsSize sizes.0 sizes.1) }

@@ -10,4 +10,6 @@ mod tests_quick;
 #[cfg(test)]
 mod tests_refused;
 #[cfg(test)]
+mod tests_refused_diagnosis;
+#[cfg(test)]
 mod tests_refused_grids;

@@ -244,3 +244,38 @@ fn keyword_lines_explain_a_fault(rt: HostRuntime) -> Result<(), Fail> {
     }
     Ok(())
 }
+
+/// Refused `.mk` and `.nin` texts with a wrong number of clue lines, each with the line at which a
+/// second puzzle begins, if one does.
+static SECOND: [(Format, &[u8], Option<u32>); 11] = [
+    (Format::Mk, b"2 1\n1\n1\n#\n2\n2 1\n1\n1\n#\n2\n", Some(6)),
+    (Format::Mk, b"1 1\n1\n#\n1\n\n\n\t1 1\n1\n#\n1\n", Some(7)),
+    // A column clue too many is no second puzzle, since no line below it begins with `#`.
+    (Format::Mk, b"2 1\n1\n1\n#\n2\n1 1\n", None),
+    // The next line after the clue lines is no size line.
+    (Format::Mk, b"1 1\n1\n#\n1\n1\n1 1\n#\n1\n", None),
+    (Format::Mk, b"1 1\n1\n#\n1\n0 1\n1\n#\n1\n", None),
+    (Format::Nin, b"1 1\n1\n1\n1 1\n1\n1\n", Some(4)),
+    (Format::Nin, b"1 1\n1\n1\n\n2 1\n\n1\n1\nabc\n", Some(5)),
+    // A clue line too few, or too many, comes below the size line.
+    (Format::Nin, b"1 1\n1\n1\n1 2\n1\n1\n", None),
+    (Format::Nin, b"1 1\n1\n1\n2 1\n1\n1\n2\nabc\n", None),
+    // With a wrong size, a clue comes where a size line would.
+    (Format::Nin, b"2 1\n1\n1\n1\n1 1\n1\n1\n1\n", None),
+    (Format::Nin, b"1 1\n1\n1\n1\n1\n1\n", None),
+];
+
+#[test]
+fn lines_below_a_puzzle_begin_a_second_one(rt: HostRuntime) -> Result<(), Fail> {
+    for (format, text, line) in SECOND {
+        let Some(found) = diagnosis_of(rt.alloc(), format, text)? else {
+            panic!(rt; "a text is accepted");
+        };
+        assert_eq!(rt; found.fault, TextFault::BadCount);
+        assert_eq!(rt;
+            found.form,
+            line.map(|line| TextForm::SecondPuzzle { line })
+        );
+    }
+    Ok(())
+}
