@@ -15,6 +15,7 @@ mod totals;
 
 pub use entries::{print_entry, print_graded};
 pub use listings::AnswerListing;
+pub use names::push_name;
 pub use outcomes::Outcome;
 pub use pictures::push_grid;
 pub use printing::print_survey;

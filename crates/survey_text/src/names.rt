@@ -6,7 +6,7 @@ ghost use Rattle.survey_text.specs.Entries.{printed_byte};
 use grid_core::NoMemory;
 
 /// Appends `name` to `text`, with each control byte (0 to 31, and 127) replaced by `?`.
-pub(crate) fn push_name(text: &mut Vec<u8>, name: &[u8]) -> Result<(), NoMemory>
+pub fn push_name(text: &mut Vec<u8>, name: &[u8]) -> Result<(), NoMemory>
     ensures { OnOk result (text.new.items ≡ text.old.items ++ map printed_byte name.now) }
 {
     // Reserved at once, so that no push has to test the capacity.

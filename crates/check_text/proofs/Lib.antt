@@ -1,0 +1,3 @@
+-- The lemmas on the texts of findings.
+pub mod Pieces
+pub mod RangeLemmas

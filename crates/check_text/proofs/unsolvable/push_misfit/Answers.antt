@@ -1,0 +1,7 @@
+-- `push_misfit`: the pieces are appended one after the other.
+use Rattle.check_text.proofs.Pieces.{three_pieces}
+use Rattle.check_text.proofs.unsolvable.push_misfit.Goals as goal
+
+pub returns : goal.returns
+returns c =
+    three_pieces _ _ _ _ _ _ _ _ c.in_ok-push_head.ensures c.in_ok-push_misfit_text.ensures c.push_bytes.ensures.ok

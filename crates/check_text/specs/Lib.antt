@@ -1,0 +1,22 @@
+-- The definitions that public contracts use.
+pub mod Ambiguity
+pub mod ClueTexts
+pub mod Findings
+pub mod Goals
+pub mod Grades
+pub mod Heads
+pub mod Numbers
+pub mod Pictures
+pub mod PuzzleFindings
+pub mod Quoting
+pub mod Refutations
+pub mod TextCounts
+pub mod TextFaults
+pub mod TextFindings
+pub mod TextForms
+pub mod Totals
+pub mod Unfinished
+pub mod Unread
+pub mod Unsettled
+pub mod Unsolvable
+pub mod Windows
