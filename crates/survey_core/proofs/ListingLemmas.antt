@@ -12,7 +12,8 @@ use Rattle.survey_text.specs.Entries.{GradedEntry}
 use Rattle.survey_text.specs.Listings.{answered, if_graded, refused}
 use Rattle.survey_text.specs.Survey.{GuessSettings, graded, reported}
 use Rattle.survey_core.specs.steps.Graded.{AreGraded}
-use Rattle.survey_core.specs.steps.ParsedEntries.{fault_of, parsed, parsed_all}
+use Rattle.survey_core.specs.Results.{parsed, parsed_all}
+use Rattle.survey_core.specs.steps.ParsedEntries.{fault_of}
 
 -- an entry that was listed with an answer is the graded entry
 graded_is : (guesses : GuessSettings) (name : List ℕ) (p q : Nonogram) (outcome : Result Findings NoMemory) (entry : GradedEntry) → q ≡ p
@@ -33,8 +34,8 @@ listed_graded guesses (entry ∷ entries) (Err fault ∷ read) others answers (n
     rw (← here) (cc)
 listed_graded guesses (entry ∷ entries) (Ok p ∷ read) others (answer ∷ answers) (next ∷ all) same graded_so listed =
     let here : Ok p ≡ parsed entry = cc in
-    let head = graded_is guesses entry.name.now p answer.puzzle answer.outcome next graded_so.0 graded_so.1 (cc) in
-    let rest = listed_graded guesses entries read others answers all (cc) graded_so.2 (cc) in
+    let head = graded_is guesses entry.name.now p answer.puzzle answer.outcome next graded_so.0.puzzle graded_so.0.outcome (cc) in
+    let rest = listed_graded guesses entries read others answers all (cc) graded_so.1 (cc) in
     rw (← here) (cc)
 listed_graded guesses (entry ∷ entries) (Ok p ∷ read) others [] all same graded_so listed = absurd graded_so
 listed_graded guesses entries read others answers all same graded_so listed = cc

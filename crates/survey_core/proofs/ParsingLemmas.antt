@@ -1,5 +1,5 @@
 -- Lemmas on entries that were read, their jobs and faults, and the answers to the puzzles among them.
-use Rattle.std.proofs.Common.{◌≡◌, ℕ, suc, ◌+◌, ◌<◌, ◌≤◌, min, List, [], ◌∷◌, ◌++◌, length, map, take, drop, get_or, cond, is_none, IfOk, Option, None, Some, Result, Ok, Err, ap, ◌∙◌, append-nil, append_assoc, arith}
+use Rattle.std.proofs.Common.{◌≡◌, ℕ, suc, ◌+◌, ◌<◌, ◌≤◌, min, List, [], ◌∷◌, ◌++◌, length, map, take, drop, get_or, cond, is_none, IfOk, Option, None, Some, Result, Ok, Err, ap, refl, ◌∙◌, append-nil, append_assoc, arith}
 use Rattle.std.proofs.Math.Seq.{take-add}
 use Rattle.std.proofs.lemmas.List.{drop-drop, drop_at, length-append, length-map, map-append, map_more, take_at, map_push, take_min, drop_min}
 use Rattle.std.proofs.lemmas.List.Sums.{sum_by-append}
@@ -16,8 +16,9 @@ use Rattle.survey_text.specs.Listings.{answered}
 use Rattle.survey_text.specs.Survey.{GuessSettings, graded}
 use Rattle.survey_core.proofs.ListingLemmas.{listed_graded}
 use Rattle.survey_core.specs.GuessSettings.{guess_settings}
-use Rattle.survey_core.specs.steps.Graded.{AreAnswersAt, AreGraded, graded_of, puzzle_count}
-use Rattle.survey_core.specs.steps.ParsedEntries.{NumberedPuzzle, fault_of, job_of, jobs_from, parsed, parsed_all, shown_job}
+use Rattle.survey_core.specs.Results.{AreResultsOf, parsed, parsed_all}
+use Rattle.survey_core.specs.steps.Graded.{AreAnswersAt, AreGraded, graded_of, puzzle_count, results_of}
+use Rattle.survey_core.specs.steps.ParsedEntries.{NumberedPuzzle, fault_of, job_of, jobs_from, shown_job}
 use Rattle.survey_core.specs.declared.grading.Printing.{Printing}
 
 -- one more entry appends its job, if it is a puzzle
@@ -52,8 +53,12 @@ are_graded guesses first (Ok p ∷ read) (job ∷ jobs) (answer ∷ answers) mad
     let puzzle : job.puzzle ≡ p = ap (λ (shown : NumberedPuzzle). shown.puzzle) head in
     let limit : job.guesses ≡ guesses.limit = ap (λ (shown : NumberedPuzzle). shown.guesses) head in
     let pick : job.pick ≡ guesses.pick = ap (λ (shown : NumberedPuzzle). shown.pick) head in (
-      answered.0.puzzle ∙ puzzle,
-      rw (puzzle, limit, pick) at answered.0.outcome,
+      record {
+        puzzle = answered.0.puzzle ∙ puzzle;
+        limit = answered.0.guesses ∙ limit;
+        pick = answered.0.pick ∙ pick;
+        outcome = rw (puzzle, limit, pick) at answered.0.outcome;
+      },
       are_graded guesses (first + 1) read jobs answers (cc) answered.1,
     )
 are_graded guesses first (Ok p ∷ read) (job ∷ jobs) [] made answered = absurd answered
@@ -79,7 +84,7 @@ graded_apart guesses (Ok p ∷ read) others [] graded = absurd graded
 graded_apart guesses (Ok p ∷ read) others (answer ∷ answers) graded =
     let one = sum_by-append (λ (fault : Option EntryFault). cond (is_none fault) 1 0) (None ∷ []) (map fault_of read) in
     let more : puzzle_count (map fault_of (Ok p ∷ read)) ≡ suc (puzzle_count (map fault_of read)) = omega (arith, one) in
-    rw more (graded_apart guesses read others answers graded.2)
+    rw more (graded_apart guesses read others answers graded.1)
 
 -- if the answers at an index are those to two lists of entries, they are those to the first
 pub answers_in_front : (printing : Printing) (first : ℕ) (xs ys : List Entry) → AreAnswersAt printing first (xs ++ ys)
@@ -154,3 +159,12 @@ all_answered printing entries few faults graded_so = record {
   faults = rw append-nil faults;
   answers = rw append-nil graded_so;
 }
+
+-- the results of entries that were read are their faults, and the answers to the puzzles among them
+pub results_are : (guesses : GuessSettings) (read : List (Result Nonogram EntryFault)) (answers : List Answer)
+    → AreGraded guesses read answers → AreResultsOf guesses read (results_of (map fault_of read) answers)
+results_are guesses [] [] graded = tt
+results_are guesses [] (answer ∷ answers) graded = absurd graded
+results_are guesses (Err fault ∷ read) answers graded = (refl, results_are guesses read answers graded)
+results_are guesses (Ok p ∷ read) [] graded = absurd graded
+results_are guesses (Ok p ∷ read) (answer ∷ answers) graded = (graded.0, results_are guesses read answers graded.1)

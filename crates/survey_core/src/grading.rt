@@ -7,7 +7,8 @@ ghost use Rattle.puzzle_text.specs.declared.collections.Entry.{Entry};
 ghost use Rattle.survey_text.specs.Chunks.{AreChunks, whole_text};
 ghost use Rattle.survey_text.specs.Survey.{survey_of_list};
 ghost use Rattle.survey_core.specs.GuessSettings.{guess_settings};
-ghost use Rattle.survey_core.specs.steps.Graded.{AreAnswersAt, graded_of, puzzle_count};
+ghost use Rattle.survey_core.specs.Results.{AreResultsOf, parsed_all};
+ghost use Rattle.survey_core.specs.steps.Graded.{AreAnswersAt, AreGradedEntries, graded_of, puzzle_count, results_of};
 
 use crate::Settings;
 use crate::chunks::{ChunkTask, chunk_count, run_chunked};
@@ -80,6 +81,54 @@ fn puzzles_among(faults: &[Option<EntryFault>]) -> usize
     count
 }
 
+/// Entries that were read and graded.
+#[derive(Drop)]
+struct GradedEntries {
+    /// For each entry its fault, or `None` if it is a puzzle.
+    faults: Vec<Option<EntryFault>>,
+    /// The answers to the puzzles among the entries, in order.
+    answers: Vec<Answer>,
+}
+
+/// Reads `entries`, at most 10,000, in `chunks` chunks, and grades them over lanes. Fails with
+/// `NoMemory` if an allocation does, and with `Thread` if the thread of a worker can't be started.
+fn grade_once<H: Threads + Wait + Sync, G: Gate + Sync>(
+    rt: &H,
+    alloc: Global,
+    entries: &[Entry<'_>],
+    chunks: usize,
+    settings: &Settings,
+    gate: &G,
+) -> Result<GradedEntries, CollectFault>
+    requires { length entries.now ≤ MAX_ENTRIES }
+    ensures { IfOk result (AreGradedEntries settings.now entries.now) }
+{
+    let ParsedEntries { jobs, faults } = read_entries(rt, alloc, entries, settings, chunks)?;
+    let answers = collect(rt, alloc, jobs, settings.lanes, settings.ring, gate)?;
+    Ok(GradedEntries { faults, answers })
+}
+
+/// Reads and grades `entries` as `grade_once` does, and if a thread can't be started, tries again
+/// in case the gate gives up one of its own.
+fn graded_entries<H: Threads + Wait + Sync, G: Gate + Sync>(
+    rt: &H,
+    alloc: Global,
+    entries: &[Entry<'_>],
+    chunks: usize,
+    settings: &Settings,
+    gate: &G,
+) -> Result<GradedEntries, CollectFault>
+    requires { length entries.now ≤ MAX_ENTRIES }
+    ensures { IfOk result (AreGradedEntries settings.now entries.now) }
+{
+    match grade_once(rt, alloc, entries, chunks, settings, gate) {
+        Err(CollectFault::Thread) if gate.give_up_thread() => {
+            grade_once(rt, alloc, entries, chunks, settings, gate)
+        }
+        result => result,
+    }
+}
+
 /// Grades `entries`, at most 10,000, over lanes, and returns the text of their survey. Fails with
 /// `NoMemory` if an allocation does, and with `Thread` if the thread of a worker can't be started.
 pub(crate) fn survey_text<H: Threads + Wait + Sync, G: Gate + Sync>(
@@ -95,13 +144,61 @@ pub(crate) fn survey_text<H: Threads + Wait + Sync, G: Gate + Sync>(
         (map shown_entry entries.now)) }
 {
     let chunks = chunk_count(entries.len(), settings.lanes);
-    let ParsedEntries { jobs, faults } = read_entries(rt, alloc, entries, settings, chunks)?;
-    let answers = collect(rt, alloc, jobs, settings.lanes, settings.ring, gate)?;
+    let graded = graded_entries(rt, alloc, entries, chunks, settings, gate)?;
     let printing = Printing {
         alloc,
         settings,
-        faults: &faults,
-        answers: &answers,
+        faults: &graded.faults,
+        answers: &graded.answers,
     };
     Ok(run_chunked(rt, &printing, entries, chunks)?.finish()?)
+}
+
+/// Returns the result of each entry: its fault if it has one, and otherwise the next answer.
+fn results_of(
+    alloc: Global,
+    faults: &[Option<EntryFault>],
+    answers: Vec<Answer>,
+) -> Result<Vec<Result<Answer, EntryFault>>, NoMemory>
+    ensures { IfOk result (λ results. results.items ≡ results_of faults.now answers.items) }
+{
+    let mut results = Vec::with_capacity(alloc, faults.len())?;
+    let mut answers = answers.into_iter();
+    let mut rest = faults;
+    while let [fault, others @ ..] = rest {
+        match fault {
+            Some(fault) => results.push(Err(*fault))?,
+            None => {
+                // Never too few, but the lists don't show it.
+                let Some(answer) = answers.next() else {
+                    return Ok(results);
+                };
+                results.push(Ok(answer))?;
+            }
+        }
+        rest = others;
+    }
+    Ok(results)
+}
+
+/// Grades `entries`, at most 10,000, over lanes, and returns for each the answer to its puzzle, or
+/// the fault for which it is refused. Whether solutions are to be printed makes no difference.
+/// Fails with `NoMemory` if an allocation does, and with `Thread` if the thread of a worker can't
+/// be started.
+pub fn grade_entries<H: Threads + Wait + Sync, G: Gate + Sync>(
+    rt: &H,
+    alloc: Global,
+    entries: &[Entry<'_>],
+    settings: &Settings,
+    gate: &G,
+) -> Result<Vec<Result<Answer, EntryFault>>, CollectFault>
+    requires { length entries.now ≤ MAX_ENTRIES }
+    ensures { IfOk result (λ results.
+        AreResultsOf (guess_settings settings.now) (parsed_all entries.now) results.items) }
+{
+    let chunks = chunk_count(entries.len(), settings.lanes);
+    let GradedEntries { faults, answers } = graded_entries(
+        rt, alloc, entries, chunks, settings, gate,
+    )?;
+    Ok(results_of(alloc, &faults, answers)?)
 }

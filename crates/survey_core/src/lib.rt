@@ -24,6 +24,7 @@ mod workers;
 pub use collecting::{CollectFault, MAX_JOBS, collect};
 pub use collecting_one::collect_one;
 pub use faults::RunFault;
+pub use grading::grade_entries;
 pub use progress_gate::ProgressGate;
 pub use settings::{DEFAULT_GUESSES, DEFAULT_LANES, DEFAULT_RING, MAX_LANES, MAX_RING, Settings};
 pub use streams::{Counted, write_text};

@@ -3,7 +3,8 @@
 ghost use Rattle.std.specs.Prelude.{◌≡◌, ◌<◌, ◌≤◌, ◌+◌, ◌^◌, ◌∷◌, [], ◌++◌, ℕ, List, length, map, vec_len, IfOk, OnOk};
 ghost use Rattle.puzzle_text.specs.declared.collections.Entry.{Entry};
 ghost use Rattle.survey_core.specs.GuessSettings.{guess_settings};
-ghost use Rattle.survey_core.specs.steps.ParsedEntries.{IsParseOf, fault_of, job_of, parsed, shown_job};
+ghost use Rattle.survey_core.specs.Results.{parsed};
+ghost use Rattle.survey_core.specs.steps.ParsedEntries.{IsParseOf, fault_of, job_of, shown_job};
 
 use crate::chunks::{ChunkTask, run_chunked};
 use crate::heap_reserve::HeapReserve;

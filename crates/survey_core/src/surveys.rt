@@ -1,16 +1,14 @@
 //! Writing the survey of a collection, or of a list of entries.
 
-ghost use Rattle.std.specs.Prelude.{◌≡◌, ◌+◌, ◌-◌, ◌^◌, ◌<◌, ◌≤◌, ◌↔◌, ◌⊎◌, length, map, Err, IfErr, IfOk, IfSome, OnOk, IsErrOf};
+ghost use Rattle.std.specs.Prelude.{◌≡◌, ◌+◌, ◌-◌, ◌^◌, ◌<◌, ◌≤◌, ◌↔◌, ◌⊎◌, length, map, Err, IfErr, IfSome, OnOk, IsErrOf};
 ghost use Rattle.std.specs.Io.KnownBytes.{IsAtEnd, Keeps};
 ghost use Rattle.puzzle_text.specs.Shown.{shown_entry};
 ghost use Rattle.survey_core.specs.GuessSettings.{guess_settings};
-ghost use Rattle.survey_text.specs.Chunks.{whole_text};
 ghost use Rattle.streams.specs.Counted.{fault_count};
 ghost use Rattle.streams.specs.Reading.{ReadsWithin};
 ghost use Rattle.survey_text.specs.Survey.{survey_of, survey_of_entries, survey_of_list};
 ghost use Rattle.survey_core.specs.Leaving.{IsErrWrite, IsWrite, Leaves};
 
-use crate::collecting::CollectFault;
 use crate::grading::survey_text;
 use crate::{Counted, RunFault, Settings};
 use lane_core::Gate;
@@ -20,29 +18,6 @@ use std::io::{Read, Write};
 use std::sync::Wait;
 use std::thread::Threads;
 use streams::{ReadFault, read_within};
-use survey_text::SurveyText;
-
-/// Grades `entries` over lanes, and returns the text of their survey. If a thread can't be started,
-/// tries again in case the gate gives up one of its own.
-fn graded<H: Threads + Wait + Sync, G: Gate + Sync>(
-    rt: &H,
-    alloc: Global,
-    entries: &[Entry<'_>],
-    settings: &Settings,
-    gate: &G,
-) -> Result<SurveyText, CollectFault>
-    requires { length entries.now ≤ MAX_ENTRIES }
-    ensures { IfOk result (λ survey. whole_text survey
-        ≡ survey_of_list (guess_settings settings.now) settings.now.show
-        (map shown_entry entries.now)) }
-{
-    match survey_text(rt, alloc, entries, settings, gate) {
-        Err(CollectFault::Thread) if gate.give_up_thread() => {
-            survey_text(rt, alloc, entries, settings, gate)
-        }
-        result => result,
-    }
-}
 
 /// Grades `entries` over lanes, and writes their survey and nothing else to `writer`.
 fn write_survey<H: Threads + Wait + Sync, W: Write, G: Gate + Sync>(
@@ -63,7 +38,7 @@ fn write_survey<H: Threads + Wait + Sync, W: Write, G: Gate + Sync>(
     ensures write { IsErrWrite result ↔ (fault_count writer.old < fault_count writer.new) }
     ensures no_read { IsErrOf result RunFault.Read → ⊥ }
 {
-    match graded(rt, alloc, entries, settings, gate) {
+    match survey_text(rt, alloc, entries, settings, gate) {
         Ok(survey) => {
             gate.close(entries.len());
             survey.write(writer).map_err(RunFault::Write)

@@ -1,17 +1,19 @@
 -- Answers to the puzzles among entries that were read.
-use Rattle.std.specs.Prelude.{◌≡◌, ◌≤◌, ◌+◌, ◌++◌, ℕ, List, [], ◌∷◌, length, map, take, drop, count_by, is_none, Option, Result, Ok, Err}
+use Rattle.std.specs.Prelude.{◌≡◌, ◌≤◌, ◌+◌, ◌++◌, ℕ, List, [], ◌∷◌, length, map, take, drop, count_by, is_none, Option, None, Some, Result, Ok, Err}
 use Rattle.grid_core.specs.Nonogram.{Nonogram}
 use Rattle.puzzle_text.specs.declared.faults.EntryFault.{EntryFault}
-use Rattle.lane_core.specs.Outcome.{IsOutcome}
 use Rattle.lane_core.specs.declared.answers.Answer.{Answer}
 use Rattle.puzzle_text.specs.Shown.{shown_entry}
 use Rattle.puzzle_text.specs.declared.collections.Entry.{Entry}
 use Rattle.puzzle_text.specs.declared.limits.TheConstants.{MAX_ENTRIES}
 use Rattle.survey_text.specs.Entries.{GradedEntry}
 use Rattle.survey_core.specs.GuessSettings.{guess_settings}
+use Rattle.survey_core.specs.Results.{IsAnswerOn, parsed_all}
 use Rattle.survey_text.specs.Survey.{GuessSettings, graded}
-use Rattle.survey_core.specs.steps.ParsedEntries.{fault_of, parsed_all}
+use Rattle.survey_core.specs.steps.ParsedEntries.{fault_of}
+use Rattle.survey_core.specs.declared.grading.GradedEntries.{GradedEntries}
 use Rattle.survey_core.specs.declared.grading.Printing.{Printing}
+use Rattle.survey_core.specs.declared.settings.Settings.{Settings}
 
 -- the answers are those to the puzzles among what was read, in order
 abbrev pub AreGraded : GuessSettings → List (Result Nonogram EntryFault) → List Answer → Type 0
@@ -19,9 +21,14 @@ AreGraded guesses [] [] = Unit {0}
 AreGraded guesses [] (answer ∷ answers) = ⊥
 AreGraded guesses (Err fault ∷ parsed) answers = AreGraded guesses parsed answers
 AreGraded guesses (Ok p ∷ parsed) [] = ⊥
-AreGraded guesses (Ok p ∷ parsed) (answer ∷ answers) = (answer.puzzle ≡ p)
-    × (IsOutcome p guesses.limit guesses.pick answer.outcome)
-    × (AreGraded guesses parsed answers)
+AreGraded guesses (Ok p ∷ parsed) (answer ∷ answers) =
+    IsAnswerOn guesses p answer × AreGraded guesses parsed answers
+
+-- the faults of these entries, and the answers to the puzzles among them
+pub record AreGradedEntries (settings : Settings) (entries : List Entry) (graded : GradedEntries)
+    : Type 0 where
+  pub faults : graded.faults.items ≡ map fault_of (parsed_all entries)
+  pub answers : AreGraded (guess_settings settings) (parsed_all entries) graded.answers.items
 
 -- how many of the entries with these `faults` have none, and so are puzzles
 abbrev pub puzzle_count : List (Option EntryFault) → ℕ
@@ -40,3 +47,11 @@ pub record AreAnswersAt (printing : Printing) (first : ℕ) (entries : List Entr
   pub faults : drop first printing.faults.now ≡ map fault_of (parsed_all (entries ++ behind))
   pub answers : AreGraded (guess_settings printing.settings.now) (parsed_all (entries ++ behind))
       (drop (puzzle_count (take first printing.faults.now)) printing.answers.now)
+
+-- for each of these faults of entries the fault, and where there is none the next answer, as far as
+-- there are answers
+abbrev pub results_of : List (Option EntryFault) → List Answer → List (Result Answer EntryFault)
+results_of [] answers = []
+results_of (Some fault ∷ faults) answers = Err fault ∷ results_of faults answers
+results_of (None ∷ faults) [] = []
+results_of (None ∷ faults) (answer ∷ answers) = Ok answer ∷ results_of faults answers

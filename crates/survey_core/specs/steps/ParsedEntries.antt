@@ -2,23 +2,13 @@
 use Rattle.std.specs.Prelude.{◌≡◌, ◌≤◌, ℕ, List, [], ◌∷◌, length, map, vec_len, Option, Some, None, Result, Ok, Err}
 use Rattle.std.specs.List.{enumerate_from, flat_map}
 use Rattle.grid_core.specs.Nonogram.{Nonogram}
-use Rattle.grid_core.specs.declared.limits.TheConstants.{MAX_SIDE}
-use Rattle.puzzle_text.specs.Formats.{read_entry}
-use Rattle.puzzle_text.specs.Shown.{shown_entry}
 use Rattle.puzzle_text.specs.declared.collections.Entry.{Entry}
 use Rattle.puzzle_text.specs.declared.faults.EntryFault.{EntryFault}
 use Rattle.lane_core.specs.declared.jobs.Job.{Job}
 use Rattle.solve_core.specs.declared.picks.Pick.{Pick}
 use Rattle.survey_text.specs.Survey.{GuessSettings}
+use Rattle.survey_core.specs.Results.{parsed_all}
 use Rattle.survey_core.specs.declared.parsed_entries.ParsedEntries.{ParsedEntries}
-
--- the puzzle of `entry`, or its fault
-abbrev pub parsed : Entry → Result Nonogram EntryFault
-parsed entry = read_entry MAX_SIDE (shown_entry entry)
-
--- the puzzle or the fault of each of `entries`
-abbrev pub parsed_all : List Entry → List (Result Nonogram EntryFault)
-parsed_all entries = map parsed entries
 
 -- the fault of an entry, or none if it is a puzzle
 abbrev pub fault_of : Result Nonogram EntryFault → Option EntryFault
