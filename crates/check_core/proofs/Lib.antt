@@ -1,0 +1,2 @@
+-- Lemmas on what a check finds.
+pub mod FoundLemmas

@@ -1,0 +1,3 @@
+-- The definitions that public contracts use.
+pub mod Files
+pub mod Checks
