@@ -7,14 +7,16 @@ _nonograde() {
         before=${typed%%=*} option=${typed%%=*}= typed=${typed#*=}
     fi
     case $COMP_CWORD:$before in
-        1:*) words='survey solve convert lines help --help --version' ;;
-        *:help) words='survey solve convert lines help' ;;
+        1:*) words='survey check solve convert lines help --help --version' ;;
+        *:help) words='survey check solve convert lines help' ;;
         *:--pick) words='first most' ;;
+        *:--grade) words='line trials' ;;
         *:--to) words='non mk nin' ;;
         *:--lanes | *:--ring | *:--guesses) ;;
         *)
             case ${COMP_WORDS[1]} in
                 survey) words='--lanes --ring --guesses --pick --show --progress --help' ;;
+                check) words='--lanes --ring --guesses --pick --grade --all --strict --progress --help' ;;
                 solve) words='--guesses --pick --help' ;;
                 convert) words='--to --help' ;;
                 lines) words='--help' ;;

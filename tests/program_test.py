@@ -17,7 +17,7 @@ import sys
 
 from comparing import run_test
 
-VERSION = b"0.1.0"
+VERSION = b"0.2.0"
 MAX_TEXT = 1_048_576
 
 # Puzzles
@@ -185,6 +185,12 @@ PROGRESS = [
         + totals(2, one=1, several=1, line=1, search=1),
         b"\r2 of 2 files graded, 0 refused\n",
     ),
+    (
+        b"check --progress one.mk --all",
+        b"",
+        b"one.mk: one solution, by line logic (1 cell)\n1 file: 1 with one solution, 0 errors, 0 warnings\n",
+        b"\r1 of 1 files graded, 0 refused\n",
+    ),
     (b"survey --progress", b"", totals(0), b""),
     (b"survey --progress", b"@ a.txt\n", b"1 refused UnknownFormat a.txt\n" + totals(1, refused=1), b""),
 ]
@@ -219,6 +225,9 @@ STOPPED = [
     (b"survey", b"x\n", "Stray:1"),
     (b"survey", b"\n" * 99_999 + b"x", "Stray:100000"),
     (b"survey", b"@ a.mk\n" * 10_001, "TooMany"),
+    (b"check", b"x\n", "Stray:1"),
+    (b"check --strict", b"@ a.mk\n" * 10_001, "TooMany"),
+    (b"check " + b"one.mk " * 10_001, b"", "TooMany"),
     (b"convert --to nin flat.mk", b"", "Ambiguous"),
     (b"lines nowhere.mk", b"", "Read"),
     (b"solve nowhere.mk", b"", "Read"),
@@ -244,6 +253,7 @@ UNREAD = [
 FILE_MISSING = "the following required arguments were not provided:\n  <FILE>"
 LINES_USAGE, SOLVE_USAGE = "nonograde lines <FILE>", "nonograde solve [OPTIONS] <FILE>"
 SURVEY_USAGE, CONVERT_USAGE = "nonograde survey [OPTIONS] [FILE]...", "nonograde convert --to <FORMAT> <FILE>"
+CHECK_USAGE = "nonograde check [OPTIONS] [FILE]..."
 USAGE = "nonograde <COMMAND>"
 
 # Each row has a command line that is refused, what is wrong with it, and the usage that follows, if one does. The exit
@@ -270,6 +280,15 @@ REFUSED = [
     ("survey --guesses=-1", "invalid value '-1' for '--guesses <N>': -1 is not in 0..=1000000", None),
     ("solve --guesses 1000001 one.mk", "invalid value '1000001' for '--guesses <N>': 1000001 is not in 0..=1000000", None),
     ("survey --pick last", "invalid value 'last' for '--pick <RULE>'\n  [possible values: first, most]", None),
+    ("check --grade search", "invalid value 'search' for '--grade <GRADE>'\n  [possible values: line, trials]", None),
+    ("check --grade line --grade line", "the argument '--grade <GRADE>' cannot be used multiple times", CHECK_USAGE),
+    ("check --lanes 17 one.mk", "invalid value '17' for '--lanes <N>': 17 is not in 1..=16", None),
+    ("check --strict=1", "unexpected value '1' for '--strict' found; no more were expected", CHECK_USAGE),
+    (
+        "check --show",
+        "unexpected argument '--show' found\n\n  tip: to pass '--show' as a value, use '-- --show'",
+        CHECK_USAGE,
+    ),
     ("solve --pick last one.mk", "invalid value 'last' for '--pick <RULE>'\n  [possible values: first, most]", None),
     ("convert --to txt one.mk", "invalid value 'txt' for '--to <FORMAT>'\n  [possible values: non, mk, nin]", None),
     ("convert --to MK one.mk", "invalid value 'MK' for '--to <FORMAT>'\n  [possible values: non, mk, nin]", None),
@@ -295,6 +314,7 @@ Usage: nonograde <COMMAND>
 
 Commands:
   survey   Grade the puzzles of a collection
+  check    Find what is wrong with puzzles, and where
   solve    Solve a puzzle
   convert  Write a puzzle in another format
   lines    Close a puzzle by line logic
@@ -341,6 +361,14 @@ HELP_LINES = [
         b"Usage: nonograde survey [OPTIONS] [FILE]...",
         b"Example: nonograde survey --lanes 8 --show puzzles/heart.non puzzles/cat.mk",
         b"Exit status: 0 if the survey was printed, 1 at a fault, 2 if the command line is refused.",
+    ),
+    (
+        b"check --help",
+        b"Find what is wrong with puzzles, and where",
+        b"Usage: nonograde check [OPTIONS] [FILE]...",
+        b"Example: nonograde check --grade line puzzles/heart.non puzzles/cat.mk",
+        b"Exit status: 0 without an error, 1 with one (or at a fault, whose line is on standard error), "
+        b"2 if the command line is refused.",
     ),
     (
         b"solve --help",

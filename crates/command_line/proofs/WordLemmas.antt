@@ -101,9 +101,9 @@ added_if_ok app rule old arg (Ok new) command argument adds = added app rule old
 added_if_ok app rule old arg (Err _) command argument adds = tt
 
 -- `clap`'s definitions say what it makes of all words for the program
-pub program_is_simple : (formats picks : Choices)
-    → (is_simple (program_app formats picks) ≡ true) × (is_simple_and_free (program_app formats picks) ≡ true)
-program_is_simple formats picks = (refl, refl)
+pub program_is_simple : (formats grades picks : Choices)
+    → (is_simple (program_app formats grades picks) ≡ true) × (is_simple_and_free (program_app formats grades picks) ≡ true)
+program_is_simple formats grades picks = (refl, refl)
 
 -- what the entries that `clap` found ask for, the words ask for
 pub request_parses : (app : App) (program : Command) (words : List Text) (found : ArgMatches) (asked : Option Request)

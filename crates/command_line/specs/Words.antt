@@ -12,6 +12,8 @@ use Rattle.clap.specs.declared.builder.action.ArgAction.TheVariants.{Append, Set
 use Rattle.clap.specs.declared.builder.value_parser.ValueParser.{ValueParser}
 use Rattle.clap.specs.declared.builder.value_parser.ValueParser.TheVariants.{Names, Signed}
 use Rattle.puzzle_text.specs.Formats.{formats as all_formats, word}
+use Rattle.solve_core.specs.declared.findings.Grade.{Grade}
+use Rattle.solve_core.specs.declared.findings.Grade.TheVariants.{Lines as line_grade, Trials}
 use Rattle.solve_core.specs.declared.picks.Pick.{Pick}
 use Rattle.solve_core.specs.declared.picks.Pick.TheVariants.{First, Most}
 use Rattle.survey_core.specs.declared.settings.Settings.{Settings}
@@ -19,9 +21,10 @@ use Rattle.lane_core.specs.declared.jobs.TheConstants.{MAX_GUESSES}
 use Rattle.survey_core.specs.declared.settings.TheConstants.{DEFAULT_GUESSES, DEFAULT_LANES, DEFAULT_RING, MAX_RING, MAX_LANES}
 use Rattle.command_line.specs.declared.command.CommandFault.{CommandFault}
 use Rattle.command_line.specs.declared.command.CommandFault.TheVariants.{Words, NoMemory}
+use Rattle.command_line.specs.declared.checks.CheckRequest.{CheckRequest}
 use Rattle.command_line.specs.declared.command.Request.{Request}
 use Rattle.command_line.specs.declared.command.SurveyRequest.{SurveyRequest}
-use Rattle.command_line.specs.declared.command.Request.TheVariants.{Survey, Solve, Convert, Lines}
+use Rattle.command_line.specs.declared.command.Request.TheVariants.{Survey, Check, Solve, Convert, Lines}
 
 -- the words that an option takes as its value
 abbrev pub Choices : Type 0
@@ -37,6 +40,10 @@ abbrev pub number_rule : Text → ℕ → ℕ → Text → Rule
 number_rule name least most default =
     record (option_rule name (Signed (pos least) (pos most))) { defaults = default ∷ [] }
 
+-- an option without a value, whose long name is its id
+abbrev pub flag_rule : Text → Rule
+flag_rule name = record (new_rule name) { long = Some name; action = Some SetTrue }
+
 -- the options and arguments of the commands
 abbrev pub guesses_rule : Rule
 guesses_rule = number_rule (codes "guesses") 0 MAX_GUESSES (decimal DEFAULT_GUESSES)
@@ -51,12 +58,8 @@ abbrev pub pick_rule : Choices → Rule
 pick_rule picks =
     record (option_rule (codes "pick") (Names picks)) { defaults = codes "first" ∷ [] }
 
-abbrev pub show_rule : Rule
-show_rule = record (new_rule (codes "show")) { long = Some (codes "show"); action = Some SetTrue }
-
-abbrev pub progress_rule : Rule
-progress_rule =
-    record (new_rule (codes "progress")) { long = Some (codes "progress"); action = Some SetTrue }
+abbrev pub grade_rule : Choices → Rule
+grade_rule grades = option_rule (codes "grade") (Names grades)
 
 abbrev pub to_rule : Choices → Rule
 to_rule formats = record (option_rule (codes "to") (Names formats)) { required = true }
@@ -76,14 +79,21 @@ abbrev pub command_app : Text → List Rule → App
 command_app name rules =
     record (new_app name) { top = record (new_app name).top { rules = rules } }
 
--- the options of a survey that say how entries are graded
+-- the options that say how entries are graded, and on how many lanes
 abbrev pub grading_rules : Choices → List Rule
 grading_rules picks = lanes_rule ∷ ring_rule ∷ guesses_rule ∷ pick_rule picks ∷ []
 
 abbrev pub survey_app : Choices → App
 survey_app picks =
     command_app (codes "survey")
-    (grading_rules picks ++ show_rule ∷ progress_rule ∷ files_rule ∷ [])
+    (grading_rules picks ++ flag_rule (codes "show") ∷ flag_rule (codes "progress") ∷ files_rule
+    ∷ [])
+
+abbrev pub check_app : Choices → Choices → App
+check_app grades picks =
+    command_app (codes "check")
+    (grading_rules picks ++ grade_rule grades ∷ flag_rule (codes "all")
+    ∷ flag_rule (codes "strict") ∷ flag_rule (codes "progress") ∷ files_rule ∷ [])
 
 abbrev pub solve_app : Choices → App
 solve_app picks =
@@ -95,9 +105,9 @@ convert_app formats = command_app (codes "convert") (to_rule formats ∷ file_ru
 abbrev pub lines_app : App
 lines_app = command_app (codes "lines") (file_rule ∷ [])
 
--- the program, with its four commands
-abbrev pub program_app : Choices → Choices → App
-program_app formats picks = record {
+-- the program, with its five commands
+abbrev pub program_app : Choices → Choices → Choices → App
+program_app formats grades picks = record {
   top = record (new_app (codes "nonograde")).top {
     no_binary_name = true;
     has_version = true;
@@ -105,8 +115,8 @@ program_app formats picks = record {
     subcommand_required = true;
     is_leaf = false;
   };
-  subs = (survey_app picks).top ∷ (solve_app picks).top ∷ (convert_app formats).top
-      ∷ lines_app.top ∷ [];
+  subs = (survey_app picks).top ∷ (check_app grades picks).top ∷ (solve_app picks).top
+      ∷ (convert_app formats).top ∷ lines_app.top ∷ [];
 }
 
 -- if `text` is a numeral from `least` to `most`, n is its number
@@ -136,23 +146,39 @@ pick_of_word text =
     if bytes_eq text (codes "first") then Some First
     else if bytes_eq text (codes "most") then Some Most else None
 
+-- the greatest grade that a word names, if it names one
+abbrev pub grade_of_word : Text → Option Grade
+grade_of_word text =
+    if bytes_eq text (codes "line") then Some line_grade
+    else if bytes_eq text (codes "trials") then Some Trials else None
+
 -- the settings are those that the parsed values ask for
 pub record AreSettingsIn (rows : List Row) (settings : Settings) : Type 0 where
   pub lanes : IsNumberIn 1 MAX_LANES (one_of (codes "lanes") rows) settings.lanes
   pub ring : IsNumberIn 1 MAX_RING (one_of (codes "ring") rows) settings.ring
   pub guesses : IsNumberIn 0 MAX_GUESSES (one_of (codes "guesses") rows) settings.guesses
   pub pick : pick_of_word (text_in (codes "pick") rows) ≡ Some settings.pick
-  pub show : IsFlagIn (one_of (codes "show") rows) settings.show
 
 -- the parsed values ask for this survey
 pub record AsksSurvey (rows : List Row) (survey : SurveyRequest) : Type 0 where
   pub settings : AreSettingsIn rows survey.settings
+  pub show : IsFlagIn (one_of (codes "show") rows) survey.settings.show
   pub progress : IsFlagIn (one_of (codes "progress") rows) survey.progress
   pub files : map string_bytes survey.files.items ≡ texts_in (codes "file") rows
+
+-- the parsed values ask for this check
+pub record AsksCheck (rows : List Row) (check : CheckRequest) : Type 0 where
+  pub settings : AreSettingsIn rows check.settings
+  pub grade : check.grade ≡ grade_of_word (text_in (codes "grade") rows)
+  pub all : IsFlagIn (one_of (codes "all") rows) check.all
+  pub strict : IsFlagIn (one_of (codes "strict") rows) check.strict
+  pub progress : IsFlagIn (one_of (codes "progress") rows) check.progress
+  pub files : map string_bytes check.files.items ≡ texts_in (codes "file") rows
 
 -- the command `name` with these parsed values asks for this request
 abbrev pub Asks : Text → List Row → Request → Type 0
 Asks name rows (Survey survey) = (name ≡ codes "survey") × AsksSurvey rows survey
+Asks name rows (Check check) = (name ≡ codes "check") × AsksCheck rows check
 Asks name rows (Solve guesses pick file) =
     (name ≡ codes "solve") × IsNumberIn 0 MAX_GUESSES (one_of (codes "guesses") rows) guesses ×
     (pick_of_word (text_in (codes "pick") rows) ≡ Some pick)
@@ -175,13 +201,15 @@ abbrev pub IsAsked : (Request → Type 0) → Option Request → Type 0
 IsAsked asks None = (request : Request) → asks request → ⊥
 IsAsked asks (Some request) = asks request
 
--- `app` is the program, with the words of all formats and of all guess rules
+-- `app` is the program, with the words of all formats, grades to ask for, and guess rules
 pub record IsProgram (app : App) : Type 0 where
   pub formats : Choices
+  pub grades : Choices
   pub picks : Choices
   pub format_words : map (λ s. s.now) formats.now ≡ map word all_formats
+  pub grade_words : map (λ s. s.now) grades.now ≡ codes "line" ∷ codes "trials" ∷ []
   pub pick_words : map (λ s. s.now) picks.now ≡ codes "first" ∷ codes "most" ∷ []
-  pub is : app ≡ program_app formats picks
+  pub is : app ≡ program_app formats grades picks
 
 -- the words after the program's name ask for this request, as `clap` parses them for the program's
 -- commands

@@ -7,9 +7,10 @@ ghost use Rattle.clap.specs.Words.{found_of, kind_of, subcommand_rows_of};
 ghost use Rattle.clap.specs.declared.error.kind.ErrorKind.TheVariants.{OutOfMemory};
 ghost use Rattle.command_line.specs.declared.command.CommandFault.TheVariants.{NoMemory as command_memory, Words as refused_words};
 ghost use Rattle.command_line.specs.Ranges.{HasSettingsInRange};
-ghost use Rattle.command_line.specs.Words.{AreSettingsIn, Asks, AsksIn, AsksSurvey, Choices, IsAsked, IsNumberIn, WordsGive, command_app, convert_app, file_rule, files_rule, grading_rules, guesses_rule, lanes_rule, lines_app, pick_of_word, pick_rule, program_app, progress_rule, ring_rule, show_rule, solve_app, survey_app, text_in, texts_in, to_rule};
-ghost use Rattle.command_line.specs.steps.Words.{IsArgument, IsCommand, Parses, bare_app, converting_app, grading_app};
+ghost use Rattle.command_line.specs.Words.{AreSettingsIn, Asks, AsksIn, AsksSurvey, Choices, IsAsked, IsNumberIn, WordsGive, command_app, convert_app, file_rule, files_rule, flag_rule, grading_rules, guesses_rule, lanes_rule, lines_app, pick_of_word, pick_rule, program_app, ring_rule, solve_app, survey_app, text_in, texts_in, to_rule};
+ghost use Rattle.command_line.specs.steps.Words.{IsArgument, IsCommand, Parses, bare_app, converting_app, grading_app, surveying_app};
 
+use crate::checks::{CheckRequest, check_command, check_of};
 use clap::error::ErrorKind;
 use clap::{Arg, ArgAction, ArgMatches, Command, Error, value_parser};
 use grid_core::NoMemory;
@@ -73,6 +74,9 @@ Example: nonograde lines puzzles/heart.non
 
 Exit status: 0 if the grid was printed, 1 at a fault, 2 if the command line is refused.";
 
+/// The help of `--progress`.
+pub(crate) const PROGRESS_HELP: &str = "Show progress on standard error";
+
 /// A survey of some files, or of the collection on standard input if there are none.
 #[derive(Debug, Drop)]
 pub struct SurveyRequest {
@@ -89,6 +93,8 @@ pub struct SurveyRequest {
 pub enum Request {
     /// Grade puzzles, and print a line for each.
     Survey(SurveyRequest),
+    /// Check puzzles, and print what is wrong with each.
+    Check(CheckRequest),
     /// Solve a file's puzzle: the guess limit, the guess rule, and the file's path.
     Solve(u32, Pick, String),
     /// Print a file's puzzle in another format: the format, and the file's path.
@@ -186,23 +192,13 @@ fn ring_option<'a>(alloc: Global) -> Arg<'a>
         .default_value("8")
 }
 
-/// Returns the option `--show`.
-fn show_option<'a>(alloc: Global) -> Arg<'a>
-    ensures { IsArgument show_rule result }
+/// Returns an option without a value, whose name is `name`.
+pub(crate) fn flag<'a>(alloc: Global, name: &'a str, help: &'a str) -> Arg<'a>
+    ensures { IsArgument (flag_rule name.entry.now) result }
 {
-    Arg::new(alloc, "show")
-        .long("show")
-        .help("Show the solutions")
-        .action(ArgAction::SetTrue)
-}
-
-/// Returns the option `--progress`.
-fn progress_option<'a>(alloc: Global) -> Arg<'a>
-    ensures { IsArgument progress_rule result }
-{
-    Arg::new(alloc, "progress")
-        .long("progress")
-        .help("Show progress on standard error")
+    Arg::new(alloc, name)
+        .long(name)
+        .help(help)
         .action(ArgAction::SetTrue)
 }
 
@@ -219,7 +215,7 @@ fn to_option<'a>(alloc: Global, formats: &'a [&'a str]) -> Arg<'a>
 }
 
 /// Returns the arguments FILE of a command that takes any number of them.
-fn file_words<'a>(alloc: Global) -> Arg<'a>
+pub(crate) fn file_words<'a>(alloc: Global) -> Arg<'a>
     ensures { IsArgument files_rule result }
 {
     Arg::new(alloc, "file")
@@ -231,18 +227,27 @@ fn file_words<'a>(alloc: Global) -> Arg<'a>
 
 /// Adds texts to a command: `about`, which the list of commands shows, `usage`, and `help`, with
 /// which its help ends.
-fn described<'a>(command: Command<'a>, about: &'a str, help: &'a str, usage: &'a str) -> Command<'a>
+pub(crate) fn described<'a>(
+    command: Command<'a>,
+    about: &'a str,
+    help: &'a str,
+    usage: &'a str,
+) -> Command<'a>
     ensures { (app : App) → IsCommand app command.entry → IsCommand app result }
 {
     command.about(about).after_help(help).override_usage(usage)
 }
 
-/// Returns the command `survey` with the options that say how entries are graded. `picks` are the
-/// guess rules.
-fn grading_command<'a>(alloc: Global, picks: &'a [&'a str]) -> Result<Command<'a>, AllocError>
-    ensures { IfOk result (IsCommand (command_app (codes "survey") (grading_rules picks.entry))) }
+/// Returns the command `name` with the options that say how entries are graded, and on how many
+/// lanes. `picks` are the guess rules.
+pub(crate) fn grading_command<'a>(
+    alloc: Global,
+    name: &'a str,
+    picks: &'a [&'a str],
+) -> Result<Command<'a>, AllocError>
+    ensures { IfOk result (IsCommand (command_app name.entry.now (grading_rules picks.entry))) }
 {
-    Command::new(alloc, "survey")
+    Command::new(alloc, name)
         .arg(lanes_option(alloc))?
         .arg(ring_option(alloc))?
         .arg(guesses_option(alloc))?
@@ -257,9 +262,10 @@ fn survey_command<'a>(alloc: Global, picks: &'a [&'a str]) -> Result<Command<'a>
 {
     let about = "Grade the puzzles of a collection";
     let usage = "nonograde survey [OPTIONS] [FILE]...";
-    described(grading_command(alloc, picks)?, about, SURVEY_HELP, usage)
-        .arg(show_option(alloc))?
-        .arg(progress_option(alloc))?
+    let command = grading_command(alloc, "survey", picks)?;
+    described(command, about, SURVEY_HELP, usage)
+        .arg(flag(alloc, "show", "Show the solutions"))?
+        .arg(flag(alloc, "progress", PROGRESS_HELP))?
         .arg(file_words(alloc))
 }
 
@@ -322,42 +328,60 @@ fn bare_program<'a>(alloc: Global) -> Command<'a>
         .subcommand_required(true)
 }
 
-/// Returns the program with the commands that grade puzzles.
-fn grading_program<'a>(alloc: Global, picks: &'a [&'a str]) -> Result<Command<'a>, AllocError>
-    ensures { IfOk result (IsCommand (grading_app picks.entry)) }
+/// Returns the program with the commands that grade many puzzles.
+fn surveying_program<'a>(
+    alloc: Global,
+    grades: &'a [&'a str],
+    picks: &'a [&'a str],
+) -> Result<Command<'a>, AllocError>
+    ensures { IfOk result (IsCommand (surveying_app grades.entry picks.entry)) }
 {
     bare_program(alloc)
         .subcommand(survey_command(alloc, picks)?)?
-        .subcommand(solve_command(alloc, picks)?)
+        .subcommand(check_command(alloc, grades, picks)?)
+}
+
+/// Returns the program with the commands that grade puzzles.
+fn grading_program<'a>(
+    alloc: Global,
+    grades: &'a [&'a str],
+    picks: &'a [&'a str],
+) -> Result<Command<'a>, AllocError>
+    ensures { IfOk result (IsCommand (grading_app grades.entry picks.entry)) }
+{
+    surveying_program(alloc, grades, picks)?.subcommand(solve_command(alloc, picks)?)
 }
 
 /// Returns the program with the commands that grade puzzles and the command `convert`.
 fn converting_program<'a>(
     alloc: Global,
     formats: &'a [&'a str],
+    grades: &'a [&'a str],
     picks: &'a [&'a str],
 ) -> Result<Command<'a>, AllocError>
-    ensures { IfOk result (IsCommand (converting_app formats.entry picks.entry)) }
+    ensures { IfOk result (IsCommand (converting_app formats.entry grades.entry picks.entry)) }
 {
-    grading_program(alloc, picks)?.subcommand(convert_command(alloc, formats)?)
+    grading_program(alloc, grades, picks)?.subcommand(convert_command(alloc, formats)?)
 }
 
-/// Returns the program with all four commands. `formats` are the formats, `picks` the guess rules.
+/// Returns the program with all five commands. `formats` are the formats, `grades` those that
+/// `check` can ask for, and `picks` the guess rules.
 // Not inlined, so that its stack is free again while the words are parsed.
 #[inline(never)]
 fn whole_program<'a>(
     alloc: Global,
     formats: &'a [&'a str],
+    grades: &'a [&'a str],
     picks: &'a [&'a str],
 ) -> Result<Command<'a>, NoMemory>
-    ensures { IfOk result (IsCommand (program_app formats.entry picks.entry)) }
+    ensures { IfOk result (IsCommand (program_app formats.entry grades.entry picks.entry)) }
 {
-    let program = converting_program(alloc, formats, picks)?;
+    let program = converting_program(alloc, formats, grades, picks)?;
     Ok(program.subcommand(lines_command(alloc)?)?)
 }
 
 /// Returns the value of the argument `id`, or an empty text if it has none.
-fn text_in<'a>(matches: &ArgMatches<'a>, id: &str) -> &'a str
+pub(crate) fn text_in<'a>(matches: &ArgMatches<'a>, id: &str) -> &'a str
     ensures { result.now ≡ text_in id.now (rows_of (found_of matches.now)) }
 {
     matches.get_str(id).unwrap_or("")
@@ -372,7 +396,7 @@ fn text_of(alloc: Global, matches: &ArgMatches<'_>, id: &str) -> Result<String, 
 }
 
 /// Returns copies of the words that name files.
-fn files_of(alloc: Global, matches: &ArgMatches<'_>) -> Result<Vec<String>, NoMemory>
+pub(crate) fn files_of(alloc: Global, matches: &ArgMatches<'_>) -> Result<Vec<String>, NoMemory>
     ensures { IfOk result (λ files. map string_bytes files.items
         ≡ texts_in (codes "file") (rows_of (found_of matches.now))) }
 {
@@ -409,12 +433,14 @@ fn pick_of(matches: &ArgMatches<'_>) -> Option<Pick>
     }
 }
 
-/// Returns the settings of a survey, or `None` if there is no such guess rule. `clap` has refused
-/// values out of range; they are clamped for the same reason as in `guesses_of`.
-fn settings_of(matches: &ArgMatches<'_>) -> Option<Settings>
-    ensures { MatchOption result
+/// Returns the settings of a survey or a check, or `None` if there is no such guess rule. `clap` has
+/// refused values out of range; they are clamped for the same reason as in `guesses_of`. The setting
+/// `show` is that given.
+pub(crate) fn settings_of(matches: &ArgMatches<'_>, show: bool) -> Option<Settings>
+    ensures asked { MatchOption result
         (pick_of_word (text_in (codes "pick") (rows_of (found_of matches.now))) ≡ None)
         (AreSettingsIn (rows_of (found_of matches.now))) }
+    ensures show { IfSome result (λ settings. settings.show ≡ show) }
 {
     let pick = pick_of(matches)?;
     let lanes = matches.get_one::<u16>("lanes").unwrap_or(DEFAULT_LANES);
@@ -424,7 +450,7 @@ fn settings_of(matches: &ArgMatches<'_>) -> Option<Settings>
         ring: ring.clamp(1, MAX_RING),
         guesses: guesses_of(matches),
         pick,
-        show: matches.get_flag("show"),
+        show,
     })
 }
 
@@ -434,7 +460,7 @@ fn survey_of(alloc: Global, matches: &ArgMatches<'_>) -> Result<Option<Request>,
     ensures asked { IfOk result
         (IsAsked (Asks (codes "survey") (rows_of (found_of matches.now)))) }
 {
-    let Some(settings) = settings_of(matches) else {
+    let Some(settings) = settings_of(matches, matches.get_flag("show")) else {
         return Ok(None);
     };
     Ok(Some(Request::Survey(SurveyRequest {
@@ -481,6 +507,7 @@ fn request_of(
 {
     match name {
         "survey" => survey_of(alloc, matches),
+        "check" => check_of(alloc, matches),
         "solve" => solving_of(alloc, matches),
         "convert" => conversion_of(alloc, matches),
         "lines" => Ok(Some(Request::Lines(text_of(alloc, matches, "file")?))),
@@ -512,8 +539,9 @@ fn request_by<'a>(
     words: &'a [String],
 ) -> Result<Option<Request>, CommandFault>
     ensures range { IfOk result (λ asked. IfSome asked HasSettingsInRange) }
-    ensures parsed { (formats picks : Choices) → IsCommand (program_app formats picks) program.old
-        → Parses (program_app formats picks) (map string_bytes words.now) result }
+    ensures parsed { (formats grades picks : Choices)
+        → IsCommand (program_app formats grades picks) program.old
+        → Parses (program_app formats grades picks) (map string_bytes words.now) result }
 {
     let matches = program.try_get_matches_from_mut(words)?;
     Ok(request_in(alloc, &matches)?)
@@ -526,8 +554,9 @@ pub fn parse_words(alloc: Global, words: Vec<String>) -> Result<Request, Command
     ensures given { WordsGive (map string_bytes words.items) result }
 {
     let formats = Format::words();
+    let grades = ["line", "trials"];
     let picks = ["first", "most"];
-    let mut program = whole_program(alloc, &formats, &picks)?;
+    let mut program = whole_program(alloc, &formats, &grades, &picks)?;
     match request_by(alloc, &mut program, words.as_slice())? {
         Some(request) => Ok(request),
         None => Err(missing_command(&mut program)?),

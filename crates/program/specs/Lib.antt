@@ -2,4 +2,5 @@
 pub mod Stop
 pub mod Words
 pub mod Printing
+pub mod Checking
 pub mod Ending

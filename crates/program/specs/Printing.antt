@@ -1,5 +1,5 @@
 -- What a command prints and what it reads of standard input, by its result.
-use Rattle.std.specs.Prelude.{◌≡◌, ℕ, ◌≤◌, ◌⊎◌, List, [], ◌∷◌, length, map, take, string_bytes, Option, IfSome, OnErr, OnOk, Result, Ok, Err}
+use Rattle.std.specs.Prelude.{◌≡◌, ℕ, ◌≤◌, ◌⊎◌, List, [], ◌∷◌, length, take, Option, IfSome, OnErr, OnOk, Result, Ok, Err}
 use Rattle.std.specs.Io.KnownBytes.{Appends, IsAtEnd, Keeps}
 use Rattle.puzzle_text.specs.Collections.{Entry as NamedText}
 use Rattle.puzzle_text.specs.declared.faults.CollectionFault.{CollectionFault}
@@ -15,8 +15,6 @@ use Rattle.streams.specs.declared.counted.Counted.{Counted}
 use Rattle.survey_core.specs.declared.settings.Settings.{Settings}
 use Rattle.reports.specs.Converting.{converted}
 use Rattle.reports.specs.Reports.{lines_text, parsed, solve_text, text_or_fault}
-use Rattle.command_line.specs.declared.command.Request.{Request}
-use Rattle.command_line.specs.declared.command.Request.TheVariants.{Survey, Solve, Convert, Lines}
 use Rattle.program.specs.Stop.{stop_of_convert}
 use Rattle.program.specs.declared.stop.Stop.{Stop}
 use Rattle.program.specs.declared.stop.Stop.TheVariants.{Entry, Run, Read, Write, NoMemory}
@@ -143,15 +141,3 @@ abbrev pub PrintsSurveyOf : {U : Type 0} → Settings → List (List ℕ) → St
 PrintsSurveyOf settings [] input result old new = PrintsInput settings input result old new
 PrintsSurveyOf settings (name ∷ names) input result old new =
     IsUntouched input × PrintsFiles settings (name ∷ names) result old new
-
--- what performing a request appends to the output; standard input is read only if it is surveyed
-abbrev pub Performs : {U : Type 0} → Request → Stream → Result U Stop →
-    Option (List ℕ) → Option (List ℕ) → Type 0
-Performs (Survey survey) input result old new =
-    PrintsSurveyOf survey.settings (map string_bytes survey.files.items) input result old new
-Performs (Solve guesses pick path) input result old new =
-    IsUntouched input × PrintsFile (solve_answer guesses pick (string_bytes path)) result old new
-Performs (Convert format path) input result old new =
-    IsUntouched input × PrintsFile (convert_answer format (string_bytes path)) result old new
-Performs (Lines path) input result old new =
-    IsUntouched input × PrintsFile (lines_answer (string_bytes path)) result old new

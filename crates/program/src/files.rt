@@ -16,7 +16,7 @@ use std::{fs, io};
 
 /// The most bytes that are read of a file: one more than a puzzle's text may have, which shows that
 /// it is too long.
-const FILE_LIMIT: u64 = MAX_PUZZLE_LEN as u64 + 1;
+pub const FILE_LIMIT: u64 = MAX_PUZZLE_LEN as u64 + 1;
 
 /// Returns why the program stops if opening or reading a file failed with `error`.
 fn stop_of_error(error: &io::Error) -> Stop

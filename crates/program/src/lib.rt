@@ -1,6 +1,7 @@
 //! The program: parses its words, performs the request, and prints to the streams that it is given.
 #![tactic(auto)]
 
+mod checks;
 mod files;
 mod performing;
 mod running;

@@ -5,12 +5,11 @@ ghost use Rattle.std.specs.Io.KnownBytes.{Appends};
 ghost use Rattle.streams.specs.Counted.{fault_count};
 ghost use Rattle.survey_core.specs.declared.faults.RunFault.TheVariants.{Read as reader_failed};
 ghost use Rattle.streams.specs.Reading.{ReadsWithin};
-ghost use Rattle.command_line.specs.Ranges.{HasSettingsInRange};
-ghost use Rattle.program.specs.Printing.{IsUnwritten, Performs, PrintsFile, PrintsFiles, PrintsInput, PrintsSurveyOf, convert_answer, lines_answer, solve_answer, stream};
+ghost use Rattle.program.specs.Printing.{IsUnwritten, PrintsFile, PrintsFiles, PrintsInput, PrintsSurveyOf, convert_answer, lines_answer, solve_answer, stream};
 
 use crate::files::{entries_of, read_file, read_files};
 use crate::stop::Stop;
-use command_line::{Request, SurveyRequest};
+use command_line::SurveyRequest;
 use lane_core::{Gate, MAX_GUESSES, OpenGate};
 use puzzle_text::{Format, MAX_COLLECTION_LEN};
 use reports::{convert, lines_report, solve_report};
@@ -111,16 +110,16 @@ where
     }
 }
 
-/// Returns how many files `survey` names, or `None` if it is to read standard input.
-fn files_of(survey: &SurveyRequest) -> Option<u32> {
-    if survey.files.is_empty() {
+/// Returns how many files there are, or `None` if there are none and standard input is to be read.
+pub fn file_count(files: &[String]) -> Option<u32> {
+    if files.is_empty() {
         return None;
     }
-    u32::try_from(survey.files.len()).ok()
+    u32::try_from(files.len()).ok()
 }
 
 /// Prints a survey, and updates a progress line on `progress` if that is asked for.
-fn survey<R, I, O, P>(
+pub fn survey<R, I, O, P>(
     rt: &R,
     survey: &SurveyRequest,
     input: &mut Counted<I>,
@@ -142,14 +141,14 @@ where
     if !survey.progress {
         return survey_through(rt, survey, input, output, &OpenGate);
     }
-    let gate = ProgressGate::new(*rt, rt.alloc(), progress, files_of(survey))?;
+    let gate = ProgressGate::new(*rt, rt.alloc(), progress, file_count(&survey.files))?;
     let done = survey_through(rt, survey, input, output, &gate);
     gate.end();
     done
 }
 
 /// Prints the line of one file's puzzle, with its solutions.
-fn solve_file<R: Files + AllocGlobal, O: Write>(
+pub fn solve_file<R: Files + AllocGlobal, O: Write>(
     rt: &R,
     guesses: u32,
     pick: Pick,
@@ -168,7 +167,7 @@ fn solve_file<R: Files + AllocGlobal, O: Write>(
 }
 
 /// Prints a file's puzzle in the given format.
-fn convert_file<R: Files + AllocGlobal, O: Write>(
+pub fn convert_file<R: Files + AllocGlobal, O: Write>(
     rt: &R,
     format: Format,
     path: &str,
@@ -185,7 +184,7 @@ fn convert_file<R: Files + AllocGlobal, O: Write>(
 }
 
 /// Prints the grid that line logic reaches for a file's puzzle.
-fn print_closed_grid<R: Files + AllocGlobal, O: Write>(
+pub fn print_closed_grid<R: Files + AllocGlobal, O: Write>(
     rt: &R,
     path: &str,
     output: &mut Counted<O>,
@@ -198,34 +197,4 @@ fn print_closed_grid<R: Files + AllocGlobal, O: Write>(
     let body = read_file(rt, path)?;
     let report = lines_report(rt.alloc(), path.as_bytes(), &body)?;
     print_text(output, &report)
-}
-
-/// Performs `request`. A survey's progress line, if asked for, goes to `progress`.
-pub fn perform<R, I, O, P>(
-    rt: &R,
-    request: &Request,
-    input: &mut Counted<I>,
-    output: &mut Counted<O>,
-    progress: P,
-) -> Result<(), Stop>
-where
-    R: Files + Threads + Wait + Clock + Copy + Send + Sync + AllocGlobal + 'static,
-    I: Read,
-    O: Write,
-    P: Write + Drop + Send + 'static,
-    requires range { HasSettingsInRange request.now }
-    requires reading { fault_count input.old < 2 ^ 32 - 1 }
-    requires writing { fault_count output.old < 2 ^ 32 - 1 }
-    ensures answer { Performs request.now (stream I.remaining input.old input.new) result
-        (O.contents output.old.inner) (O.contents output.new.inner) }
-    ensures write { IsUnwritten result ↔ (fault_count output.old < fault_count output.new) }
-{
-    match request {
-        Request::Survey(asked) => survey(rt, asked, input, output, progress),
-        Request::Solve(guesses, pick, path) => {
-            solve_file(rt, *guesses, *pick, path.as_str(), output)
-        }
-        Request::Convert(format, path) => convert_file(rt, *format, path.as_str(), output),
-        Request::Lines(path) => print_closed_grid(rt, path.as_str(), output),
-    }
 }

@@ -9,10 +9,13 @@ ghost use Rattle.command_line.specs.Ranges.{HasSettingsInRange};
 ghost use Rattle.program.specs.Printing.{IsUnwritten, Prints, stream};
 ghost use Rattle.program.specs.Stop.{stop_line};
 ghost use Rattle.command_line.specs.Words.{WordsGive};
-ghost use Rattle.program.specs.Ending.{EndsAfter, EndsBy, EndsByWords, Stops};
+ghost use Rattle.program.specs.Checking.{check_status};
+ghost use Rattle.program.specs.Ending.{EndsAfter, EndsBy, EndsByWords, EndsPerforming, Stops, is_done};
 
-use crate::performing::{perform, print_text};
+use crate::checks::{check, check_status};
+use crate::performing::{convert_file, print_closed_grid, print_text, solve_file, survey};
 use crate::stop::{Stop, stop_word};
+use check_text::Level;
 use clap::Error;
 use command_line::{CommandFault, Request, parse_words};
 use itoa::Buffer;
@@ -87,10 +90,28 @@ fn print_display<T: Display, O: Write>(
 /// returns 1.
 fn end_after<E: Write>(errors: &mut Counted<E>, done: Result<(), Stop>) -> u8
     requires { fault_count errors.old < 2 ^ 32 - 1 }
-    ensures { EndsAfter done result (stream E.contents errors.old errors.new) }
+    ensures { EndsAfter is_done done result (stream E.contents errors.old errors.new) }
 {
     match done {
         Ok(()) => 0,
+        Err(stop) => report_stop(errors, &stop),
+    }
+}
+
+/// Returns the program's exit status after a check with this result: by `strict` and the level of
+/// the worst finding, or otherwise prints the fault's line and returns 1.
+fn end_check<E: Write>(
+    errors: &mut Counted<E>,
+    strict: bool,
+    done: Result<Option<Level>, Stop>,
+) -> u8
+    requires { fault_count errors.old < 2 ^ 32 - 1 }
+    ensures status { result ≤ 2 }
+    ensures ends { EndsAfter (check_status strict) done result
+        (stream E.contents errors.old errors.new) }
+{
+    match done {
+        Ok(worst) => check_status(strict, worst),
         Err(stop) => report_stop(errors, &stop),
     }
 }
@@ -117,6 +138,47 @@ fn print_clap_message<O: Write, E: Write>(
     end_after(errors, done)
 }
 
+/// Performs `request`, and returns the program's exit status. The progress line of a survey or a
+/// check, if asked for, goes to `progress`.
+fn perform<R, I, O, E, P>(
+    rt: &R,
+    request: &Request,
+    input: &mut Counted<I>,
+    output: &mut Counted<O>,
+    errors: &mut Counted<E>,
+    progress: P,
+) -> u8
+where
+    R: Files + Threads + Wait + Clock + Copy + Send + Sync + AllocGlobal + 'static,
+    I: Read,
+    O: Write,
+    E: Write,
+    P: Write + Drop + Send + 'static,
+    requires range { HasSettingsInRange request.now }
+    requires reading { fault_count input.old < 2 ^ 32 - 1 }
+    requires writing { fault_count output.old < 2 ^ 32 - 1 }
+    requires telling { fault_count errors.old < 2 ^ 32 - 1 }
+    ensures status { result ≤ 2 }
+    ensures ends { EndsPerforming request.now (stream I.remaining input.old input.new) result
+        (stream O.contents output.old output.new) (stream E.contents errors.old errors.new) }
+{
+    match request {
+        Request::Survey(asked) => end_after(errors, survey(rt, asked, input, output, progress)),
+        Request::Check(asked) => {
+            let done = check(rt, asked, input, output, progress);
+            end_check(errors, asked.strict, done)
+        }
+        Request::Solve(guesses, pick, path) => {
+            let done = solve_file(rt, *guesses, *pick, path.as_str(), output);
+            end_after(errors, done)
+        }
+        Request::Convert(format, path) => {
+            end_after(errors, convert_file(rt, *format, path.as_str(), output))
+        }
+        Request::Lines(path) => end_after(errors, print_closed_grid(rt, path.as_str(), output)),
+    }
+}
+
 /// Performs the request, or prints why the words are refused. Returns the program's exit status.
 fn finish<R, I, O, E, P>(
     rt: &R,
@@ -141,20 +203,18 @@ where
         (stream O.contents output.old output.new) (stream E.contents errors.old errors.new) }
 {
     match asked {
-        Ok(request) => {
-            let done = perform(rt, &request, input, output, progress);
-            end_after(errors, done)
-        }
+        Ok(request) => perform(rt, &request, input, output, errors, progress),
         Err(CommandFault::NoMemory) => report_stop(errors, &Stop::NoMemory),
         Err(CommandFault::Words(error)) => print_clap_message(rt.alloc(), &error, output, errors),
     }
 }
 
 /// Runs the program on `words`, those that follow its name. Returns the exit status: 0 if it
-/// printed what was asked for, 1 at a fault, and 2 if the words are refused.
+/// printed what was asked for, 1 at a fault or for a check that found an error (if it is strict, a
+/// warning too), and 2 if the words are refused.
 ///
-/// `progress` is a second handle of standard error, to which a survey's progress line goes if asked
-/// for.
+/// `progress` is a second handle of standard error, to which the progress line of a survey or a
+/// check goes if asked for.
 pub fn run<R, I, O, E, P>(
     rt: &R,
     words: Vec<String>,

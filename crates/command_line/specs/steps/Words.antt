@@ -6,7 +6,7 @@ use Rattle.clap.specs.Words.{IsAmong, fault_of, kind_of}
 use Rattle.clap.specs.declared.builder.arg.Arg.{Arg}
 use Rattle.clap.specs.declared.builder.command.Command.{Command}
 use Rattle.clap.specs.declared.builder.command.Command.TheViews.{out-Command}
-use Rattle.command_line.specs.Words.{AsksIn, Choices, IsAsked, convert_app, solve_app, survey_app}
+use Rattle.command_line.specs.Words.{AsksIn, Choices, IsAsked, check_app, convert_app, solve_app, survey_app}
 use Rattle.command_line.specs.declared.command.CommandFault.{CommandFault}
 use Rattle.command_line.specs.declared.command.CommandFault.TheVariants.{Words, NoMemory}
 use Rattle.command_line.specs.declared.command.Request.{Request}
@@ -33,14 +33,19 @@ bare_app = record {
   subs = [];
 }
 
+-- the program with the commands that grade many puzzles
+abbrev pub surveying_app : Choices → Choices → App
+surveying_app grades picks =
+    with_subcommand (with_subcommand bare_app (survey_app picks).top) (check_app grades picks).top
+
 -- the program with the commands that grade puzzles
-abbrev pub grading_app : Choices → App
-grading_app picks =
-    with_subcommand (with_subcommand bare_app (survey_app picks).top) (solve_app picks).top
+abbrev pub grading_app : Choices → Choices → App
+grading_app grades picks = with_subcommand (surveying_app grades picks) (solve_app picks).top
 
 -- the program with the commands that grade puzzles and the command `convert`
-abbrev pub converting_app : Choices → Choices → App
-converting_app formats picks = with_subcommand (grading_app picks) (convert_app formats).top
+abbrev pub converting_app : Choices → Choices → Choices → App
+converting_app formats grades picks =
+    with_subcommand (grading_app grades picks) (convert_app formats).top
 
 -- what parsing the words by `clap` results in: a request that they ask for, none if they ask for
 -- none, or the fault for which `clap` refuses them

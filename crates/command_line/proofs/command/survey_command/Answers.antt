@@ -4,6 +4,6 @@ use Rattle.command_line.proofs.command.survey_command.Goals as goal
 
 pub returns : goal.returns
 returns c =
-    let named = c.described.ensures _ c.in_ok-grading_command.ensures in
-    let first = added _ _ _ _ _ named c.show_option.ensures c.in_ok-arg.ensures in
-    added_if_ok _ _ _ _ _ (added _ _ _ _ _ first c.progress_option.ensures c.in_ok-arg-2.ensures) c.file_words.ensures c.arg-3.ensures
+    let named = c.described.ensures _ c.in_ok-command.ensures in
+    let first = added _ _ _ _ _ named c.flag.ensures c.in_ok-arg.ensures in
+    added_if_ok _ _ _ _ _ (added _ _ _ _ _ first c.flag-2.ensures c.in_ok-arg-2.ensures) c.file_words.ensures c.arg-3.ensures

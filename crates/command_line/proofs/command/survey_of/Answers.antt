@@ -8,10 +8,14 @@ pub returns-clause-asked : goal.returns-clause-asked
 returns-clause-asked c = (
   refl,
   record {
-    settings = c.in-Some.ensures;
+    settings = c.in-Some.ensures.asked;
+    show = rw c.in-Some.ensures.show (
+      flag_of_entry (found_of c.args.matches.now) (codes "show") (codes "true") _ true c.get_flag.ensures.value,
+      flag_of_entry (found_of c.args.matches.now) (codes "show") (codes "false") _ false c.get_flag.ensures.other,
+    );
     progress = (
-      flag_of_entry (found_of c.args.matches.now) (codes "progress") (codes "true") _ true c.get_flag.ensures.value,
-      flag_of_entry (found_of c.args.matches.now) (codes "progress") (codes "false") _ false c.get_flag.ensures.other,
+      flag_of_entry (found_of c.args.matches.now) (codes "progress") (codes "true") _ true c.get_flag-2.ensures.value,
+      flag_of_entry (found_of c.args.matches.now) (codes "progress") (codes "false") _ false c.get_flag-2.ensures.other,
     );
     files = c.in_ok-files_of.ensures;
   },
