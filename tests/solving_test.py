@@ -42,7 +42,7 @@ def example_puzzle(rows, columns):
 # Of each example: the clues; the first line that `lines` prints, and the rows of its grid if there is one; and reports.
 # A report has rules, limits, what `solve` prints between the sizes and the goal, and the solutions.
 EXAMPLES = [
-    # The examples of the page.
+    # The example of the page, one like it, and the two that the page closes under trials.
     (
         ("1, 1", "1, 1"),
         ("open 0", "?? ??"),

@@ -153,6 +153,9 @@ compared=(--program crates/nonograde/out/nonograde --library out/library)
 begin tests/texts_test.py "${compared[@]}"
 begin tests/solving_test.py "${compared[@]}"
 begin tests/program_test.py "${compared[@]}"
+begin tests/traps_test.py --program crates/nonograde/out/nonograde
+begin tests/findings_test.py --program crates/nonograde/out/nonograde
 begin benches/run.py test
-take "${others[@]}" tests/texts_test.py tests/solving_test.py tests/program_test.py benches/run.py
+take "${others[@]}" tests/texts_test.py tests/solving_test.py tests/program_test.py tests/traps_test.py tests/findings_test.py \
+    benches/run.py
 end_gate 0

@@ -18,7 +18,7 @@ list=share/nonograde/installed
 files() {
     local file
     printf '755\t%s\tbin/nonograde\n' "$program"
-    for file in bin/* man/*.[1-9] puzzles/*; do
+    for file in bin/* man/*.[1-9] puzzles/* puzzles/traps/*; do
         [ -f "$file" ] || continue
         case $file in
             bin/*) printf '755\t%s\t%s\n' "$file" "$file" ;;

@@ -43,9 +43,7 @@ wanted_files() {
     echo '644 share/bash-completion/completions/nonograde completions/nonograde.bash'
     echo '644 share/fish/vendor_completions.d/nonograde.fish completions/nonograde.fish'
     echo '644 share/zsh/site-functions/_nonograde completions/_nonograde'
-    for file in puzzles/*; do
-        echo "644 share/doc/nonograde/$file $file"
-    done
+    find puzzles -type f -printf '644 share/doc/nonograde/%p %p\n'
 }
 
 # Compares what is in a root with what is to be installed: a name for it, the root.

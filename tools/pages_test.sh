@@ -29,7 +29,8 @@ manual() {
 }
 
 # Types the commands of a page, and compares what each prints with the lines below it. They are indented lines
-# that begin with `$ `. One of which the page says in a comment how long it takes is left out.
+# that begin with `$ `. One of which the page says in a comment how long it takes is left out. The arguments are the
+# page's name, and how many commands are typed at least, usually 4.
 type_commands() {
     local page=$1 line indent='' command='' wanted='' typed=0
     while IFS= read -r line; do
@@ -43,7 +44,7 @@ type_commands() {
             command=''
         fi
     done < <(cat && echo end)
-    count "the commands of $page" "$([ "$typed" -gt 3 ] || echo "$typed are typed")"
+    count "the commands of $page" "$([ "$typed" -ge "${2-4}" ] || echo "$typed are typed")"
 }
 
 # Types the command that type_commands has read.
@@ -219,7 +220,7 @@ compare_option() {
         status=$?
         same "status of $option=$value" $((value >= least && value <= most ? 0 : 2)) $status
     done
-    [ "$option" != --guesses ] || count "what $command's help says of unsettled puzzles" \
+    [[ $command:$option != s*:--guesses ]] || count "what $command's help says of unsettled puzzles" \
         "$(nonograde "$command" --help | grep -q "^If unsettled, try --guesses $most .* --pick" || echo 'it says nothing')"
 }
 
@@ -308,7 +309,7 @@ complete_files() {
     mkdir -p files/folder
     touch files/{a.non,b.mk,c.nin,D.NON,e.txt}
     files=$(printf 'files/%s\n' D.NON a.non b.mk c.nin folder)
-    for words in survey solve convert lines; do
+    for words in survey check solve convert lines; do
         same "$words FILE in bash" "$files" "$(bash_completes "$words" files/)"
         same "$words FILE in fish" "$files" "$(fish_completes "$words files/" | sed 's/ .*//; s/\/$//' | sort)"
         same "$words FILE in zsh" "$words files/D.NON" "$(typed_in_zsh $'nonograde '"$words"$' files/D\t')"
@@ -498,6 +499,7 @@ filter_odd_names() {
 
 make -s install PREFIX="$HOME/.local"
 type_commands 'the README' <README.md
+type_commands formats.md 1 <docs/formats.md
 for page in man/nonograde.[15]; do
     count "$page" "$(mandoc -T lint "$page" 2>&1 | grep -v 'referenced manual not found: Xr nonograde [15]')"
 done

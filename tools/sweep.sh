@@ -5,9 +5,9 @@
 #
 # tools/sweep.txt has a line for each test, its crate, its name and the least number of refusals that is
 # expected of it, and one for each command line, `program`, that number and the words; `program:FAULT` stands in
-# place of `program` if the program ends with that fault, `program:refused` if it refuses the words. A test passes if
-# it ends well. A command line passes if each run prints the usual bytes on both streams and ends with the usual
-# status, or prints nothing, says `nonograde: NoMemory` (of a survey also `nonograde: Thread`) and ends with status 1.
+# place of `program` if the program ends with that fault, `program:refused` if it refuses the words, `program:found` if it
+# is a check that finds an error. A test passes if it ends well. A command line passes if each run prints the usual bytes on both streams and ends with the usual
+# status, or prints nothing, says `nonograde: NoMemory` (of a survey or a check also `nonograde: Thread`) and ends with status 1.
 # Both fail if fewer growths were refused than expected: then the tool wasn't loaded, or the call is another one.
 #
 # Last, a survey takes more memory with more lanes, and with greater rings, than with the usual number, and less with
@@ -54,6 +54,7 @@ run() {
 wrong_usual() {
     case "$1" in
         program) [ "$2" = 0 ] && [ ! -s "$room/said" ] ;;
+        *:found) [ "$2" = 1 ] && [ ! -s "$room/said" ] && [ -s "$room/printed" ] ;;
         *:refused) [ "$2" = 2 ] && [ ! -s "$room/printed" ] && [ -s "$room/said" ] ;;
         *) [ "$2" = 1 ] && [ ! -s "$room/printed" ] && [ "$(<"$room/said")" = "nonograde: ${1#*:}" ] ;;
     esac || echo "status $2 with ample memory, and it said $(<"$room/said")"
@@ -70,7 +71,7 @@ wrong_with() {
     [ "$1" = 1 ] || echo "status $1"
     [ ! -s "$room/printed" ] || echo "it printed something and ended with status $1"
     case "$command $said" in
-        *' nonograde: NoMemory' | 'survey nonograde: Thread') ;;
+        *' nonograde: NoMemory' | 'survey nonograde: Thread' | 'check nonograde: Thread') ;;
         *) echo "it said $said" ;;
     esac
 }
