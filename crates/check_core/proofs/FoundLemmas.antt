@@ -102,7 +102,7 @@ pub with_text : {T E : Type 0} (r : Result T E) (old new found text : List ℕ) 
     → OnOk r (new ≡ old ++ text)
 with_text r old new found text same appended = rw (← same) appended
 
--- the same of a text that was appended without a failure
+-- a text that was appended without a failure, under another name
 pub with_text_at_once : (old new found text : List ℕ) → found ≡ text → new ≡ old ++ found → new ≡ old ++ text
 with_text_at_once old new found text same appended = rw (← same) appended
 
