@@ -5,6 +5,7 @@ pub mod Findings
 pub mod Goals
 pub mod Grades
 pub mod Heads
+pub mod Messages
 pub mod Numbers
 pub mod Pictures
 pub mod PuzzleFindings

@@ -7,7 +7,10 @@ use Rattle.solve_core.specs.declared.findings.Grade.{Grade}
 use Rattle.solve_core.specs.declared.findings.Verdict.{Verdict}
 use Rattle.solve_core.specs.declared.findings.Verdict.TheVariants.{Nothing, One, Several, Unsettled}
 use Rattle.survey_text.specs.Goals.{goal_word}
+use Rattle.diagnosis.specs.Contradictions.{refutation_of}
 use Rattle.diagnosis.specs.Goals.{goal_rows}
+use Rattle.diagnosis.specs.Misfits.{misfits_of}
+use Rattle.diagnosis.specs.Sums.{sums_of}
 use Rattle.check_text.specs.Ambiguity.{ambiguity}
 use Rattle.check_text.specs.Goals.{goal_difference, missed_goal}
 use Rattle.check_text.specs.Grades.{beyond, grade_finding, solved_line}
@@ -46,12 +49,14 @@ several_text name p first second = ambiguity name first second ++ missed_goal na
 -- what is printed on `p` with this verdict and this grade, under a limit on guesses
 abbrev pub verdict_findings
     : CheckOptions → List ℕ → Nonogram → ℕ → Verdict → Grade → List ℕ
-verdict_findings options name p limit Nothing grade = unsolvable name p grade
+verdict_findings options name p limit Nothing grade =
+    unsolvable name p (misfits_of p) (sums_of p) (refutation_of p grade)
 verdict_findings options name p limit (One found) grade =
     unique_text options name p (goal_rows p found) grade
 verdict_findings options name p limit (Several first second) grade =
     several_text name p first second
-verdict_findings options name p limit (Unsettled found) grade = unfinished name p limit
+verdict_findings options name p limit (Unsettled found) grade =
+    unfinished name p (sums_of p) limit
 
 -- what is printed on `p` with these findings of a report, under a limit on guesses
 abbrev pub puzzle_findings : CheckOptions → List ℕ → Nonogram → ℕ → Findings → List ℕ
@@ -63,7 +68,7 @@ abbrev pub verdict_level : CheckOptions → Nonogram → Verdict → Grade → O
 verdict_level options p Nothing grade = Some Error
 verdict_level options p (One found) grade = unique_level options (goal_rows p found) grade
 verdict_level options p (Several first second) grade = Some Error
-verdict_level options p (Unsettled found) grade = Some (unfinished_level p)
+verdict_level options p (Unsettled found) grade = Some (unfinished_level (sums_of p))
 
 -- the level of the worst finding on `p` with these findings of a report
 abbrev pub puzzle_level : CheckOptions → Nonogram → Findings → Option Level

@@ -1,13 +1,12 @@
 -- What refuted a puzzle without solutions, if its clues alone don't.
-use Rattle.std.specs.Prelude.{ℕ, List, ◌++◌, codes, Option, Some, None}
+use Rattle.std.specs.Prelude.{ℕ, List, ◌++◌, codes}
 use Rattle.grid_core.specs.declared.axes.Axis.{Axis}
 use Rattle.grid_core.specs.declared.axes.Axis.TheVariants.{Rows, Columns}
 use Rattle.grid_core.specs.Nonogram.{Nonogram}
-use Rattle.solve_core.specs.declared.findings.Grade.{Grade}
-use Rattle.solve_core.specs.declared.findings.Grade.TheVariants.{Lines, Trials, Search}
-use Rattle.diagnosis.specs.Contradictions.{first_contradiction}
 use Rattle.diagnosis.specs.declared.contradictions.Contradiction.{Contradiction}
 use Rattle.diagnosis.specs.declared.contradictions.Contradiction.TheVariants.{NoPlacing, TwoColours}
+use Rattle.diagnosis.specs.declared.contradictions.Refutation.{Refutation}
+use Rattle.diagnosis.specs.declared.contradictions.Refutation.TheVariants.{Lines, Trials, Search}
 use Rattle.diagnosis.specs.declared.differences.Position.{Position}
 use Rattle.check_text.specs.ClueTexts.{clue_in_parentheses, line_name, line_with_clue}
 
@@ -28,14 +27,8 @@ abbrev pub contradiction_text : Nonogram → Contradiction → List ℕ
 contradiction_text p (NoPlacing axis i) = no_placing_text p axis i
 contradiction_text p (TwoColours at) = two_colours_text p at
 
--- that there is no solution, since line logic shows a contradiction; `None` if it shows none, which
--- is so of no puzzle that line logic refutes
-abbrev pub line_logic_text : Nonogram → Option Contradiction → List ℕ
-line_logic_text p None = codes "no solution: by line logic"
-line_logic_text p (Some contradiction) = contradiction_text p contradiction
-
--- that there is no solution, with what refuted `p`, which has this grade
-abbrev pub refutation_text : Nonogram → Grade → List ℕ
-refutation_text p Lines = line_logic_text p (first_contradiction p)
+-- that there is no solution, with what refuted `p`
+abbrev pub refutation_text : Nonogram → Refutation → List ℕ
+refutation_text p (Lines contradiction) = contradiction_text p contradiction
 refutation_text p Trials = codes "no solution: each colour of some cell leads to a contradiction"
 refutation_text p Search = codes "no solution: the search found none"

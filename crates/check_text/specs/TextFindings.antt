@@ -20,10 +20,13 @@ use Rattle.check_text.specs.TextForms.{form_line, form_sentence}
 abbrev pub text_error : List ℕ → Option ℕ → List ℕ → List ℕ
 text_error name line sentence = head name line Error ++ sentence ++ codes "\n"
 
+-- that a name has no known ending
+abbrev pub unknown_format_sentence : List ℕ
+unknown_format_sentence = codes "the name has no known ending (.non, .mk or .nin)"
+
 -- the finding on a text whose name has no known ending
 abbrev pub unknown_format : List ℕ → List ℕ
-unknown_format name =
-    text_error name None (codes "the name has no known ending (.non, .mk or .nin)")
+unknown_format name = text_error name None unknown_format_sentence
 
 -- the finding on the form of a text
 abbrev pub form_finding : List ℕ → TextForm → List ℕ

@@ -1,10 +1,9 @@
 -- The findings on a puzzle without solutions.
-use Rattle.std.specs.Prelude.{ℕ, Bool, true, not, ◌==◌, List, [], ◌∷◌, ◌++◌, codes, if◌then◌else◌}
+use Rattle.std.specs.Prelude.{ℕ, Bool, true, not, ◌==◌, List, [], ◌∷◌, ◌++◌, codes, Option, if◌then◌else◌}
 use Rattle.std.specs.List.{flat_map}
+use Rattle.std.specs.Option.{option_map_or}
 use Rattle.grid_core.specs.Nonogram.{Nonogram}
-use Rattle.solve_core.specs.declared.findings.Grade.{Grade}
-use Rattle.diagnosis.specs.Misfits.{misfits_of}
-use Rattle.diagnosis.specs.Sums.{sums_of}
+use Rattle.diagnosis.specs.declared.contradictions.Refutation.{Refutation}
 use Rattle.diagnosis.specs.declared.misfits.Misfit.{Misfit}
 use Rattle.diagnosis.specs.declared.sums.Sums.{Sums}
 use Rattle.check_text.specs.ClueTexts.{clue_in_parentheses, line_name}
@@ -47,9 +46,13 @@ abbrev pub clue_findings : List ℕ → Nonogram → List Misfit → Sums → Li
 clue_findings name p misfits sums =
     flat_map (misfit_finding name p) misfits ++ sums_finding name sums
 
--- the findings on `p`, which has no solution: those on its clues; if there is none, what refuted it
-abbrev pub unsolvable : List ℕ → Nonogram → Grade → List ℕ
-unsolvable name p grade =
-    if do_clues_refute (misfits_of p) (sums_of p)
-    then clue_findings name p (misfits_of p) (sums_of p)
-    else finding name Error (refutation_text p grade)
+-- the finding that `p` has no solution, with what refuted it
+abbrev pub refutation_finding : List ℕ → Nonogram → Refutation → List ℕ
+refutation_finding name p refutation = finding name Error (refutation_text p refutation)
+
+-- the findings on `p`, which has no solution: those on its clues, given which of them don't fit and
+-- its sums; if there is none, what refuted it
+abbrev pub unsolvable : List ℕ → Nonogram → List Misfit → Sums → Option Refutation → List ℕ
+unsolvable name p misfits sums refutation =
+    if do_clues_refute misfits sums then clue_findings name p misfits sums
+    else option_map_or (refutation_finding name p) refutation []

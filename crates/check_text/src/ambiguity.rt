@@ -9,14 +9,14 @@ use crate::heads::{Level, push_head};
 use crate::numbers::{push_cell_count, push_grouped};
 use crate::pictures::push_pictures;
 use crate::windows::{Window, first_position, push_window_heading};
-use diagnosis::{Position, differing_cells};
+use diagnosis::Position;
 use grid_core::{Grid, NoMemory};
 use puzzle_text::push_bytes;
 use std::alloc::Global;
 
 /// Appends that there are two solutions, with the number of cells in which they differ and the
 /// number of all cells.
-fn push_ambiguity_text(
+pub(crate) fn push_ambiguity_text(
     text: &mut Vec<u8>,
     alloc: Global,
     differing: usize,
@@ -69,21 +69,22 @@ fn push_shown_solutions(
     push_pictures(text, first, second, window)
 }
 
-/// Appends the finding that a puzzle has these two solutions, and pictures of them. Fails with
-/// `NoMemory` if an allocation fails.
+/// Appends the finding that a puzzle has these two solutions, which differ in `cells`, and pictures
+/// of them. Fails with `NoMemory` if an allocation fails.
 pub(crate) fn push_ambiguity(
     text: &mut Vec<u8>,
     alloc: Global,
     name: &[u8],
     first: &Grid,
     second: &Grid,
+    cells: &[Position],
 ) -> Result<(), NoMemory>
+    requires cells { cells.now ≡ differing_cells first.now second.now }
     requires width { second.now.width ≡ first.now.width }
     requires height { second.now.height ≡ first.now.height }
     ensures { OnOk result (text.new.items
         ≡ text.old.items ++ ambiguity name.now first.now second.now) }
 {
-    let cells = differing_cells(alloc, first, second)?;
     push_ambiguity_line(text, alloc, name, cells.len(), first)?;
-    push_shown_solutions(text, first, second, &cells)
+    push_shown_solutions(text, first, second, cells)
 }

@@ -53,7 +53,7 @@ fn push_quoted_rows(text: &mut Vec<u8>, alloc: Global, rows: &[u16]) -> Result<(
 
 /// Appends that a puzzle's goal differs from the only solution in some rows, which `rows` counts
 /// from 0.
-fn push_goal_difference_text(
+pub(crate) fn push_goal_difference_text(
     text: &mut Vec<u8>,
     alloc: Global,
     rows: &[u16],

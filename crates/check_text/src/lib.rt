@@ -7,6 +7,7 @@ mod findings;
 mod goals;
 mod grades;
 mod heads;
+mod messages;
 mod numbers;
 mod pictures;
 mod puzzle_findings;
@@ -24,6 +25,7 @@ mod unsolvable;
 mod windows;
 
 pub use heads::Level;
+pub use messages::{push_diagnosis_message, push_refused_message};
 pub use puzzle_findings::{CheckOptions, push_graded};
 pub use text_findings::push_refused;
 pub use totals::{Subject, push_totals, worst_of};

@@ -1,8 +1,9 @@
 //! The findings on a graded puzzle.
 
-ghost use Rattle.std.specs.Prelude.{◌≡◌, ◌++◌, IfOk, None, OnOk};
-ghost use Rattle.diagnosis.specs.Diagnoses.{HaveSizeOf};
-ghost use Rattle.solve_core.specs.Report.{findings_of, line_closure};
+ghost use Rattle.std.specs.Prelude.{◌≡◌, ◌++◌, IfOk, OnOk};
+ghost use Rattle.diagnosis.specs.Diagnoses.{HaveSizeOf, IsDiagnosisOf};
+ghost use Rattle.diagnosis.specs.Differences.{differing_cells};
+ghost use Rattle.solve_core.specs.Report.{findings_of};
 ghost use Rattle.check_text.specs.PuzzleFindings.{is_warned, puzzle_findings, puzzle_level, several_text, solved_if_asked, unique_level, unique_text};
 
 use crate::ambiguity::push_ambiguity;
@@ -11,10 +12,10 @@ use crate::grades::{is_beyond, push_grade_finding, push_solved};
 use crate::heads::Level;
 use crate::unfinished::push_unfinished;
 use crate::unsolvable::push_unsolvable;
-use diagnosis::goal_rows;
+use diagnosis::{Diagnosis, Outcome, Position, diagnose};
 use grid_core::{Grid, NoMemory, Puzzle};
 use lane_core::Answer;
-use solve_core::{Findings, Grade, Verdict};
+use solve_core::{Findings, Grade};
 use std::alloc::Global;
 
 /// What is asked of puzzles, and what is printed of them.
@@ -86,8 +87,8 @@ fn unique_level(options: CheckOptions, rows: &[u16], grade: Grade) -> Option<Lev
     }
 }
 
-/// Appends the findings on a puzzle with two solutions: these, with pictures of them, and that the
-/// goal doesn't meet the clues, if it doesn't.
+/// Appends the findings on a puzzle with two solutions: these, which differ in `cells`, with pictures
+/// of them, and that the goal doesn't meet the clues, if it doesn't.
 fn push_several(
     text: &mut Vec<u8>,
     alloc: Global,
@@ -95,19 +96,21 @@ fn push_several(
     puzzle: &Puzzle,
     first: &Grid,
     second: &Grid,
+    cells: &[Position],
 ) -> Result<(), NoMemory>
+    requires cells { cells.now ≡ differing_cells first.now second.now }
     requires width { second.now.width ≡ first.now.width }
     requires height { second.now.height ≡ first.now.height }
     ensures { OnOk result (text.new.items
         ≡ text.old.items ++ several_text name.now puzzle.now first.now second.now) }
 {
-    push_ambiguity(text, alloc, name, first, second)?;
+    push_ambiguity(text, alloc, name, first, second, cells)?;
     push_missed_goal(text, name, puzzle)
 }
 
-/// Appends what is printed on `puzzle` by a report's `findings` on it, which was made under a limit
-/// of `guesses` guesses. Returns the level of the worst finding.
-fn push_findings(
+/// Appends what is printed on `puzzle` by its diagnosis, which was made of a report's `findings`,
+/// under a limit of `guesses` guesses. Returns the level of the worst finding.
+fn push_diagnosis(
     text: &mut Vec<u8>,
     alloc: Global,
     options: CheckOptions,
@@ -115,29 +118,41 @@ fn push_findings(
     puzzle: &Puzzle,
     guesses: u32,
     findings: &Findings,
+    diagnosis: &Diagnosis<'_>,
 ) -> Result<Option<Level>, NoMemory>
     requires sizes { HaveSizeOf puzzle.now findings.now.verdict }
-    requires dead { findings.now.verdict ≡ Verdict.Nothing → findings.now.grade ≡ Grade.Lines
-        → line_closure puzzle.now ≡ None }
+    requires diagnosis { IsDiagnosisOf puzzle.now findings.now diagnosis.now }
     ensures text { OnOk result (text.new.items ≡ text.old.items
         ++ puzzle_findings options name.now puzzle.now guesses findings.now) }
     ensures level { IfOk result (λ worst. worst ≡ puzzle_level options puzzle.now findings.now) }
 {
-    match &findings.verdict {
-        Verdict::Nothing => {
-            push_unsolvable(text, alloc, name, puzzle, findings.grade)?;
+    let grade = findings.grade;
+    let Diagnosis {
+        misfits,
+        sums,
+        outcome,
+    } = diagnosis;
+    match outcome {
+        Outcome::Refuted(refutation) => {
+            push_unsolvable(text, alloc, name, puzzle, misfits, *sums, *refutation)?;
             Ok(Some(Level::Error))
         }
-        Verdict::One(solution) => {
-            let rows = goal_rows(alloc, puzzle, solution)?;
-            push_unique(text, alloc, options, name, puzzle, &rows, findings.grade)?;
-            Ok(unique_level(options, &rows, findings.grade))
+        Outcome::Unique(rows) => {
+            push_unique(text, alloc, options, name, puzzle, rows, grade)?;
+            Ok(unique_level(options, rows, grade))
         }
-        Verdict::Several(first, second) => {
-            push_several(text, alloc, name, puzzle, first, second)?;
+        Outcome::Ambiguous {
+            first,
+            second,
+            differing,
+        } => {
+            push_several(text, alloc, name, puzzle, first, second, differing)?;
             Ok(Some(Level::Error))
         }
-        Verdict::Unsettled(_) => { Ok(Some(push_unfinished(text, alloc, name, puzzle, guesses)?)) }
+        Outcome::Unsettled => {
+            let level = push_unfinished(text, alloc, name, puzzle, *sums, guesses)?;
+            Ok(Some(level))
+        }
     }
 }
 
@@ -164,13 +179,9 @@ pub fn push_graded(
     let puzzle = answer.puzzle();
     // Called for its contract, which the proof needs: the puzzle is a nonogram.
     puzzle.width();
-    push_findings(
-        text,
-        alloc,
-        options,
-        name,
-        puzzle,
-        answer.guesses(),
-        findings,
+    let diagnosis = diagnose(alloc, puzzle, findings)?;
+    let guesses = answer.guesses();
+    push_diagnosis(
+        text, alloc, options, name, puzzle, guesses, findings, &diagnosis,
     )
 }

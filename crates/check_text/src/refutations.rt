@@ -1,17 +1,15 @@
 //! What refuted a puzzle without solutions, if its clues alone don't.
 
-ghost use Rattle.std.specs.Prelude.{◌≡◌, ◌++◌, None, OnOk};
+ghost use Rattle.std.specs.Prelude.{◌≡◌, ◌++◌, OnOk};
 ghost use Rattle.grid_core.specs.declared.axes.Axis.TheVariants.{Columns, Rows};
-ghost use Rattle.solve_core.specs.Report.{line_closure};
-ghost use Rattle.check_text.specs.Findings.{finding};
 ghost use Rattle.check_text.specs.Refutations.{contradiction_text, no_placing_text, refutation_text, two_colours_text};
+ghost use Rattle.check_text.specs.Unsolvable.{refutation_finding};
 
 use crate::clue_texts::{push_clue_in_parentheses, push_line_name, push_line_with_clue};
 use crate::heads::{Level, push_head};
-use diagnosis::{Contradiction, Position, first_contradiction};
+use diagnosis::{Contradiction, Position, Refutation};
 use grid_core::{Axis, NoMemory, Puzzle};
 use puzzle_text::push_bytes;
-use solve_core::Grade;
 use std::alloc::Global;
 
 /// Appends that line logic leaves no placing for a line, with its clue.
@@ -67,26 +65,22 @@ fn push_contradiction(
 }
 
 /// Appends that there is no solution, with what refuted the puzzle.
-fn push_refutation_text(
+pub(crate) fn push_refutation_text(
     text: &mut Vec<u8>,
     alloc: Global,
     puzzle: &Puzzle,
-    grade: Grade,
+    refutation: Refutation,
 ) -> Result<(), NoMemory>
-    requires { grade ≡ Grade.Lines → line_closure puzzle.now ≡ None }
     ensures { OnOk result (text.new.items
-        ≡ text.old.items ++ refutation_text puzzle.now grade) }
+        ≡ text.old.items ++ refutation_text puzzle.now refutation) }
 {
-    match grade {
-        Grade::Lines => {
-            let contradiction = first_contradiction(alloc, puzzle)?;
-            push_contradiction(text, alloc, puzzle, contradiction)
-        }
-        Grade::Trials => push_bytes(
+    match refutation {
+        Refutation::Lines(contradiction) => push_contradiction(text, alloc, puzzle, contradiction),
+        Refutation::Trials => push_bytes(
             text,
             b"no solution: each colour of some cell leads to a contradiction",
         ),
-        Grade::Search => push_bytes(text, b"no solution: the search found none"),
+        Refutation::Search => push_bytes(text, b"no solution: the search found none"),
     }
 }
 
@@ -96,13 +90,12 @@ pub(crate) fn push_refutation(
     alloc: Global,
     name: &[u8],
     puzzle: &Puzzle,
-    grade: Grade,
+    refutation: Refutation,
 ) -> Result<(), NoMemory>
-    requires { grade ≡ Grade.Lines → line_closure puzzle.now ≡ None }
-    ensures { OnOk result (text.new.items ≡ text.old.items
-        ++ finding name.now Level.Error (refutation_text puzzle.now grade)) }
+    ensures { OnOk result (text.new.items
+        ≡ text.old.items ++ refutation_finding name.now puzzle.now refutation) }
 {
     push_head(text, name, None, Level::Error)?;
-    push_refutation_text(text, alloc, puzzle, grade)?;
+    push_refutation_text(text, alloc, puzzle, refutation)?;
     push_bytes(text, b"\n")
 }

@@ -2,7 +2,7 @@
 
 ghost use Rattle.std.specs.Prelude.{◌≡◌, ◌++◌, IsErr, OnOk};
 ghost use Rattle.std.specs.Option.{option_map};
-ghost use Rattle.check_text.specs.TextFindings.{fault_finding, form_finding, refused_text, text_finding, unknown_format};
+ghost use Rattle.check_text.specs.TextFindings.{fault_finding, form_finding, refused_text, text_finding, unknown_format, unknown_format_sentence};
 
 use crate::heads::{Level, push_head};
 use crate::text_faults::push_fault;
@@ -13,12 +13,20 @@ use puzzle_text::{
 };
 use std::alloc::Global;
 
+/// Appends that a name has no known ending.
+pub(crate) fn push_unknown_format_sentence(text: &mut Vec<u8>) -> Result<(), NoMemory>
+    ensures { OnOk result (text.new.items ≡ text.old.items ++ unknown_format_sentence) }
+{
+    push_bytes(text, b"the name has no known ending (.non, .mk or .nin)")
+}
+
 /// Appends the finding on a text whose name has no known ending.
 fn push_unknown_format(text: &mut Vec<u8>, name: &[u8]) -> Result<(), NoMemory>
     ensures { OnOk result (text.new.items ≡ text.old.items ++ unknown_format name.now) }
 {
     push_head(text, name, None, Level::Error)?;
-    push_bytes(text, b"the name has no known ending (.non, .mk or .nin)\n")
+    push_unknown_format_sentence(text)?;
+    push_bytes(text, b"\n")
 }
 
 /// Appends the finding on the form of a text.

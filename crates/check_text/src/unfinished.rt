@@ -7,7 +7,7 @@ use crate::goals::push_missed_goal;
 use crate::heads::Level;
 use crate::unsettled::push_unsettled;
 use crate::unsolvable::push_sums;
-use diagnosis::puzzle_sums;
+use diagnosis::Sums;
 use grid_core::{NoMemory, Puzzle};
 use std::alloc::Global;
 
@@ -27,21 +27,22 @@ fn push_open(
     push_missed_goal(text, name, puzzle)
 }
 
-/// Appends the findings on a puzzle of which a limit of `limit` guesses cut the search short, and
-/// returns the level of the worst: that rows and columns fill different numbers of cells, an error
-/// since there is then no solution, or else the warning that the search wasn't finished.
+/// Appends the findings on a puzzle with these `sums`, of which a limit of `limit` guesses cut the
+/// search short, and returns the level of the worst: that rows and columns fill different numbers of
+/// cells, an error since there is then no solution, or else the warning that the search wasn't
+/// finished.
 pub(crate) fn push_unfinished(
     text: &mut Vec<u8>,
     alloc: Global,
     name: &[u8],
     puzzle: &Puzzle,
+    sums: Sums,
     limit: u32,
 ) -> Result<Level, NoMemory>
     ensures text { OnOk result (text.new.items
-        ≡ text.old.items ++ unfinished name.now puzzle.now limit) }
-    ensures level { IfOk result (λ level. level ≡ unfinished_level puzzle.now) }
+        ≡ text.old.items ++ unfinished name.now puzzle.now sums limit) }
+    ensures level { IfOk result (λ level. level ≡ unfinished_level sums) }
 {
-    let sums = puzzle_sums(puzzle);
     if sums.rows == sums.columns {
         push_open(text, alloc, name, puzzle, limit)?;
         return Ok(Level::Warning);

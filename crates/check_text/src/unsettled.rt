@@ -22,7 +22,7 @@ fn limit_hint(limit: u32) -> &'static [u8]
 }
 
 /// Appends that a search wasn't finished within `limit` guesses, with a hint to allow more.
-fn push_limit_text(text: &mut Vec<u8>, alloc: Global, limit: u32) -> Result<(), NoMemory>
+pub(crate) fn push_limit_text(text: &mut Vec<u8>, alloc: Global, limit: u32) -> Result<(), NoMemory>
     ensures { OnOk result (text.new.items ≡ text.old.items ++ limit_text limit) }
 {
     push_bytes(text, b"not settled within ")?;

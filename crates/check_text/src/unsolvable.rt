@@ -1,7 +1,6 @@
 //! The findings on a puzzle without solutions.
 
-ghost use Rattle.std.specs.Prelude.{◌≡◌, ◌++◌, None, OnOk};
-ghost use Rattle.solve_core.specs.Report.{line_closure};
+ghost use Rattle.std.specs.Prelude.{◌≡◌, ◌++◌, OnOk, Some};
 ghost use Rattle.std.specs.List.{flat_map};
 ghost use Rattle.check_text.specs.Findings.{finding};
 ghost use Rattle.check_text.specs.Unsolvable.{clue_findings, do_clues_refute, misfit_finding, misfit_text, sums_finding, sums_text, unsolvable};
@@ -10,15 +9,14 @@ use crate::clue_texts::{push_clue_in_parentheses, push_line_name};
 use crate::heads::{Level, push_head};
 use crate::numbers::{push_cell_count, push_grouped};
 use crate::refutations::push_refutation;
-use diagnosis::{Misfit, Sums, puzzle_misfits, puzzle_sums};
+use diagnosis::{Misfit, Refutation, Sums};
 use grid_core::{NoMemory, Puzzle};
 use puzzle_text::push_bytes;
-use solve_core::Grade;
 use std::alloc::Global;
 
 /// Appends that there is no solution since the clue of a line doesn't fit:
 /// `no solution: row 2 needs 8 cells (4 1 1) and has 7`.
-fn push_misfit_text(
+pub(crate) fn push_misfit_text(
     text: &mut Vec<u8>,
     alloc: Global,
     puzzle: &Puzzle,
@@ -70,7 +68,7 @@ fn push_misfits(
 
 /// Appends that there is no solution since the rows fill another number of cells than the columns:
 /// `no solution: the rows fill 26 cells, the columns 25`.
-fn push_sums_text(text: &mut Vec<u8>, alloc: Global, sums: Sums) -> Result<(), NoMemory>
+pub(crate) fn push_sums_text(text: &mut Vec<u8>, alloc: Global, sums: Sums) -> Result<(), NoMemory>
     ensures { OnOk result (text.new.items ≡ text.old.items ++ sums_text sums) }
 {
     push_bytes(text, b"no solution: the rows fill ")?;
@@ -135,24 +133,24 @@ fn do_clues_refute(misfits: &[Misfit], sums: Sums) -> bool
     !misfits.is_empty() || sums.rows != sums.columns
 }
 
-/// Appends the findings on a puzzle without solutions: those on its clues; if there is none, the one
-/// with what refuted the puzzle. Fails with `NoMemory` if an allocation fails.
+/// Appends the findings on a puzzle without solutions: those on its clues, by the clues that don't
+/// fit and the sums; if there is none, the one with what refuted the puzzle. Fails with `NoMemory`
+/// if an allocation fails.
 pub(crate) fn push_unsolvable(
     text: &mut Vec<u8>,
     alloc: Global,
     name: &[u8],
     puzzle: &Puzzle,
-    grade: Grade,
+    misfits: &[Misfit],
+    sums: Sums,
+    refutation: Refutation,
 ) -> Result<(), NoMemory>
-    requires { grade ≡ Grade.Lines → line_closure puzzle.now ≡ None }
-    ensures { OnOk result (text.new.items
-        ≡ text.old.items ++ unsolvable name.now puzzle.now grade) }
+    ensures { OnOk result (text.new.items ≡ text.old.items
+        ++ unsolvable name.now puzzle.now misfits.now sums (Some refutation)) }
 {
-    let misfits = puzzle_misfits(alloc, puzzle)?;
-    let sums = puzzle_sums(puzzle);
-    if do_clues_refute(&misfits, sums) {
-        push_clue_findings(text, alloc, name, puzzle, &misfits, sums)
+    if do_clues_refute(misfits, sums) {
+        push_clue_findings(text, alloc, name, puzzle, misfits, sums)
     } else {
-        push_refutation(text, alloc, name, puzzle, grade)
+        push_refutation(text, alloc, name, puzzle, refutation)
     }
 }

@@ -4,6 +4,8 @@
 #[cfg(test)]
 mod tests;
 #[cfg(test)]
+mod tests_messages;
+#[cfg(test)]
 mod tests_refused;
 #[cfg(test)]
 mod tests_refused_texts;

@@ -9,3 +9,4 @@ pub mod LineReads
 pub mod RoundLaws
 pub mod RoundSteps
 pub mod Reports
+pub mod Outcomes

@@ -1,6 +1,7 @@
 -- The diagnosis of a puzzle.
 use Rattle.std.specs.Prelude.{◌≡◌, ℕ, List, Some, option_map}
 use Rattle.grid_core.specs.Nonogram.{Nonogram}
+use Rattle.grid_core.specs.PartialGrid.{PartialGrid}
 use Rattle.solve_core.specs.Report.{findings_of}
 use Rattle.solve_core.specs.Sizes.{HasSizeOf}
 use Rattle.solve_core.specs.declared.picks.Pick.{Pick}
@@ -11,7 +12,6 @@ use Rattle.solve_core.specs.declared.findings.Verdict.TheVariants.{Nothing, One,
 use Rattle.diagnosis.specs.declared.diagnosing.Diagnosis.{Diagnosis}
 use Rattle.diagnosis.specs.declared.diagnosing.Outcome.{Outcome}
 use Rattle.diagnosis.specs.declared.diagnosing.Outcome.TheVariants.{Ambiguous, Refuted, Unique, Unsettled}
-use Rattle.diagnosis.specs.declared.differences.Position.{Position}
 use Rattle.diagnosis.specs.Contradictions.{refutation_of}
 use Rattle.diagnosis.specs.Differences.{differing_cells}
 use Rattle.diagnosis.specs.Goals.{goal_rows}
@@ -35,23 +35,23 @@ HaveSizeOf p (Undecided found) = Unit {0}
 abbrev pub IsUniqueWith : List ℕ → Outcome → Type 0
 IsUniqueWith rows (Unique found) = found.items ≡ rows
 IsUniqueWith rows (Refuted refutation) = ⊥
-IsUniqueWith rows (Ambiguous cells) = ⊥
+IsUniqueWith rows (Ambiguous first second differing) = ⊥
 IsUniqueWith rows Unsettled = ⊥
 
--- the outcome is `Ambiguous` with these cells
-abbrev pub IsAmbiguousWith : List Position → Outcome → Type 0
-IsAmbiguousWith cells (Ambiguous found) = found.items ≡ cells
-IsAmbiguousWith cells (Refuted refutation) = ⊥
-IsAmbiguousWith cells (Unique rows) = ⊥
-IsAmbiguousWith cells Unsettled = ⊥
+-- the outcome is `Ambiguous` with these solutions, and the cells in which they differ
+abbrev pub IsAmbiguousWith : PartialGrid → PartialGrid → Outcome → Type 0
+IsAmbiguousWith g h (Ambiguous first second differing) =
+    (first.now ≡ g) × (second.now ≡ h) × (differing.items ≡ differing_cells g h)
+IsAmbiguousWith g h (Refuted refutation) = ⊥
+IsAmbiguousWith g h (Unique rows) = ⊥
+IsAmbiguousWith g h Unsettled = ⊥
 
 -- what a verdict on `p` and its grade show: what refuted `p`, the rows in which its only solution
--- and its goal differ, or the cells in which two solutions differ
+-- and its goal differ, or two solutions and the cells in which they differ
 abbrev pub IsOutcomeBy : Nonogram → Verdict → Grade → Outcome → Type 0
 IsOutcomeBy p Nothing grade outcome = option_map Refuted (refutation_of p grade) ≡ Some outcome
 IsOutcomeBy p (One found) grade outcome = IsUniqueWith (goal_rows p found) outcome
-IsOutcomeBy p (Several first second) grade outcome =
-    IsAmbiguousWith (differing_cells first second) outcome
+IsOutcomeBy p (Several first second) grade outcome = IsAmbiguousWith first second outcome
 IsOutcomeBy p (Undecided found) grade outcome = outcome ≡ Unsettled
 
 -- what the findings on `p` show

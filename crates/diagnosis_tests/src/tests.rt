@@ -1,17 +1,22 @@
 //! Tests of diagnoses that were worked out by hand.
 
+ghost use Rattle.std.specs.Prelude.{IfOk};
+ghost use Rattle.diagnosis.specs.Diagnoses.{IsReportOn};
+
 use diagnosis::*;
 use grid_core::{Axis, NoMemory, Puzzle};
 use puzzle_text::{read_mk, read_non};
-use solve_core::{Pick, report};
+use solve_core::{Findings, Pick, report};
 use std::alloc::Global;
 use std::test::Fail;
 
-/// Returns the diagnosis of `puzzle`, with at most 1,000 guesses.
+/// Returns the findings of the report on `puzzle`, with at most 1,000 guesses.
 #[tactic(auto, using(diagnosis::proofs::Reports::report_on))]
-pub(crate) fn diagnosis(alloc: Global, puzzle: &Puzzle) -> Result<Diagnosis, NoMemory> {
+pub(crate) fn findings_on(alloc: Global, puzzle: &Puzzle) -> Result<Findings, NoMemory>
+    ensures { IfOk result (IsReportOn puzzle.now) }
+{
     let findings = report(alloc, puzzle, 1000, Pick::First)?;
-    diagnose(alloc, puzzle, &findings)
+    Ok(findings)
 }
 
 /// Returns the clue of line `index` of an axis as one that needs `needed` of `cells` cells.
@@ -25,10 +30,10 @@ fn misfit(axis: Axis, index: u16, needed: u32, cells: u32) -> Misfit {
 }
 
 /// Reports whether `outcome` is `Refuted` by this.
-pub(crate) fn is_refuted_by(outcome: &Outcome, refutation: Refutation) -> bool {
+pub(crate) fn is_refuted_by(outcome: &Outcome<'_>, refutation: Refutation) -> bool {
     match outcome {
         Outcome::Refuted(found) => *found == refutation,
-        Outcome::Unique(_) | Outcome::Ambiguous(_) | Outcome::Unsettled => false,
+        Outcome::Unique(_) | Outcome::Ambiguous { .. } | Outcome::Unsettled => false,
     }
 }
 
@@ -48,7 +53,8 @@ fn two_colours(row: u16, column: u16) -> Refutation {
 fn misfits_need_more_cells_than_there_are(rt: HostRuntime) -> Result<(), Fail> {
     let alloc = rt.alloc();
     let puzzle = read_mk(alloc, b"2 3\n1 1\n2 1\n#\n3\n0\n1 1\n")?;
-    let diagnosis = diagnosis(alloc, &puzzle)?;
+    let findings = findings_on(alloc, &puzzle)?;
+    let diagnosis = diagnose(alloc, &puzzle, &findings)?;
     let wanted = [
         misfit(Axis::Rows, 1, 4, 3),
         misfit(Axis::Columns, 0, 3, 2),
@@ -69,7 +75,8 @@ fn misfits_need_more_cells_than_there_are(rt: HostRuntime) -> Result<(), Fail> {
 /// Reports whether the puzzle of this `.mk` text is refuted by this.
 fn is_text_refuted_by(alloc: Global, text: &[u8], refutation: Refutation) -> Result<bool, Fail> {
     let puzzle = read_mk(alloc, text)?;
-    let found = diagnosis(alloc, &puzzle)?;
+    let findings = findings_on(alloc, &puzzle)?;
+    let found = diagnose(alloc, &puzzle, &findings)?;
     Ok(is_refuted_by(&found.outcome, refutation))
 }
 
@@ -125,7 +132,8 @@ fn third_rounds_can_deduce_two_colours(rt: HostRuntime) -> Result<(), Fail> {
 fn sums_can_differ(rt: HostRuntime) -> Result<(), Fail> {
     let alloc = rt.alloc();
     let puzzle = read_mk(alloc, b"4 3\n1\n1\n1\n1\n#\n1\n1\n1\n")?;
-    let diagnosis = diagnosis(alloc, &puzzle)?;
+    let findings = findings_on(alloc, &puzzle)?;
+    let diagnosis = diagnose(alloc, &puzzle, &findings)?;
     assert!(rt; diagnosis.misfits.is_empty());
     assert!(rt;
         diagnosis.sums
@@ -144,7 +152,8 @@ fn sums_can_differ(rt: HostRuntime) -> Result<(), Fail> {
 fn trials_refute(rt: HostRuntime) -> Result<(), Fail> {
     let alloc = rt.alloc();
     let puzzle = read_mk(alloc, b"5 2\n1\n1\n0\n1\n1\n#\n2\n1 1\n")?;
-    let diagnosis = diagnosis(alloc, &puzzle)?;
+    let findings = findings_on(alloc, &puzzle)?;
+    let diagnosis = diagnose(alloc, &puzzle, &findings)?;
     assert!(rt; is_refuted_by(&diagnosis.outcome, Refutation::Trials));
     Ok(())
 }
@@ -155,7 +164,8 @@ fn solutions_differ_in_cells(rt: HostRuntime) -> Result<(), Fail> {
     let alloc = rt.alloc();
     let puzzle = read_mk(alloc, b"2 3\n1 1\n1\n#\n1\n1\n1\n")?;
     let puzzle_of_two = read_mk(alloc, b"3 3\n1\n0\n1\n#\n1\n0\n1\n")?;
-    let found = diagnosis(alloc, &puzzle)?;
+    let findings = findings_on(alloc, &puzzle)?;
+    let found = diagnose(alloc, &puzzle, &findings)?;
     assert!(rt; matches!(&found.outcome, Outcome::Unique(_)));
     let wanted = [
         Position { row: 0, column: 0 },
@@ -163,9 +173,10 @@ fn solutions_differ_in_cells(rt: HostRuntime) -> Result<(), Fail> {
         Position { row: 2, column: 0 },
         Position { row: 2, column: 2 },
     ];
-    let found = diagnosis(alloc, &puzzle_of_two)?;
+    let findings = findings_on(alloc, &puzzle_of_two)?;
+    let found = diagnose(alloc, &puzzle_of_two, &findings)?;
     match &found.outcome {
-        Outcome::Ambiguous(cells) => assert!(rt; cells.as_slice() == wanted.as_slice()),
+        Outcome::Ambiguous { differing, .. } => assert!(rt; differing.as_slice() == wanted.as_slice()),
         Outcome::Refuted(_) | Outcome::Unique(_) | Outcome::Unsettled => {
             assert!(rt; false, "one verdict of several")
         }
@@ -179,10 +190,11 @@ fn goal_rows_differ(rt: HostRuntime) -> Result<(), Fail> {
     let alloc = rt.alloc();
     let text = b"width 2\nheight 3\nrows\n1\n1\n2\ncolumns\n1,1\n2\ngoal \"110110\"\n";
     let puzzle = read_non(alloc, text)?;
-    let found = diagnosis(alloc, &puzzle)?;
+    let findings = findings_on(alloc, &puzzle)?;
+    let found = diagnose(alloc, &puzzle, &findings)?;
     match &found.outcome {
         Outcome::Unique(rows) => assert!(rt; rows.as_slice() == [0, 2].as_slice()),
-        Outcome::Refuted(_) | Outcome::Ambiguous(_) | Outcome::Unsettled => {
+        Outcome::Refuted(_) | Outcome::Ambiguous { .. } | Outcome::Unsettled => {
             assert!(rt; false, "one solution")
         }
     }

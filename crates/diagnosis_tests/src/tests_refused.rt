@@ -1,19 +1,27 @@
 //! Tests of diagnoses with failing allocations: each allocation fails in turn.
 
-use crate::tests::diagnosis;
+use crate::tests::findings_on;
 use alloc_failures::{CallResult, expected_if, sweep};
-use diagnosis::{Diagnosis, Outcome};
+use diagnosis::{Outcome, diagnose};
 use grid_core::{NoMemory, Puzzle};
 use puzzle_text::read_mk;
 use std::alloc::Global;
 use std::test::Fail;
 
 /// Returns how many cells differ in the solutions that a diagnosis found.
-fn differing_count(diagnosis: &Diagnosis) -> usize {
-    match &diagnosis.outcome {
-        Outcome::Ambiguous(cells) => cells.len(),
+fn differing_count(outcome: &Outcome<'_>) -> usize {
+    match outcome {
+        Outcome::Ambiguous { differing, .. } => differing.len(),
         Outcome::Refuted(_) | Outcome::Unique(_) | Outcome::Unsettled => 0,
     }
+}
+
+/// Returns how many clues of `puzzle` don't fit their line, and how many cells differ in two
+/// solutions.
+fn counts_of(alloc: Global, puzzle: &Puzzle) -> Result<(usize, usize), NoMemory> {
+    let findings = findings_on(alloc, puzzle)?;
+    let found = diagnose(alloc, puzzle, &findings)?;
+    Ok((found.misfits.len(), differing_count(&found.outcome)))
 }
 
 /// Diagnoses the puzzle of this `.mk` text with each allocation failing in turn. With ample memory
@@ -25,10 +33,8 @@ fn diagnoses_or_fails(
     cells: usize,
 ) -> Result<(), Fail> {
     let puzzle: Puzzle = read_mk(alloc, text)?;
-    sweep(alloc, || match diagnosis(alloc, &puzzle) {
-        Ok(found) => expected_if(
-            found.misfits.len() == misfits && differing_count(&found) == cells,
-        ),
+    sweep(alloc, || match counts_of(alloc, &puzzle) {
+        Ok(counts) => expected_if(counts == (misfits, cells)),
         Err(NoMemory) => CallResult::NoMemory,
     })?;
     Ok(())

@@ -28,9 +28,9 @@ cause_of OutOfMemory = Err (record {})
 cause_of _ = Ok Failed
 
 -- the bytes that were read, if any were
-abbrev pub read_body : Result (Vec ℕ Global) Unread → Result (List ℕ) Unread
-read_body (Ok body) = Ok body.items
-read_body (Err unread) = Err unread
+abbrev pub shown_bytes : Result (Vec ℕ Global) Unread → Result (List ℕ) Unread
+shown_bytes (Ok body) = Ok body.items
+shown_bytes (Err unread) = Err unread
 
 -- the files with these names and these bodies, in this order
 abbrev pub named_files : List (List ℕ) → List (Result (List ℕ) Unread) → List NamedFile

@@ -4,7 +4,7 @@ ghost use Rattle.std.specs.Prelude.{◌≡◌, ◌-◌, ◌^◌, ◌<◌, ◌↔
 ghost use Rattle.std.specs.IoError.{error_kind};
 ghost use Rattle.streams.specs.Counted.{fault_count};
 ghost use Rattle.check_core.specs.Files.{shown_file};
-ghost use Rattle.program.specs.Checking.{ChecksFiles, ChecksInput, Checks, cause_of, check_status, named_files, read_body};
+ghost use Rattle.program.specs.Checking.{ChecksFiles, ChecksInput, Checks, cause_of, check_status, named_files, shown_bytes};
 ghost use Rattle.program.specs.Printing.{IsUnwritten, stream};
 
 use crate::files::FILE_LIMIT;
@@ -72,7 +72,7 @@ fn read_bodies<R: Files + AllocGlobal>(
 /// Returns the file at `path` with this body.
 fn file_of<'a>(path: &'a String, body: &'a Result<Vec<u8>, Unread>) -> CheckFile<'a>
     ensures { shown_file result
-        ≡ record { name = string_bytes path.now; body = read_body body.now } }
+        ≡ record { name = string_bytes path.now; body = shown_bytes body.now } }
 {
     CheckFile {
         name: path.as_bytes(),
@@ -90,7 +90,7 @@ fn files_of<'a>(
     bodies: &'a [Result<Vec<u8>, Unread>],
 ) -> Result<Vec<CheckFile<'a>>, NoMemory>
     ensures { IfOk result (λ files. map shown_file files.items
-        ≡ named_files (map string_bytes paths.now) (map read_body bodies.now)) }
+        ≡ named_files (map string_bytes paths.now) (map shown_bytes bodies.now)) }
 {
     let mut files = Vec::with_capacity(alloc, paths.len())?;
     let mut paths = paths;
