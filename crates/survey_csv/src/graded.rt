@@ -1,0 +1,51 @@
+//! The record of a graded entry.
+
+ghost use Rattle.std.specs.Prelude.{◌≡◌, ◌++◌, OnOk};
+ghost use Rattle.csv.specs.Writing.{default_writer, row_text};
+ghost use Rattle.survey_csv.specs.Fields.{graded_fields};
+
+use crate::records::push_record;
+use crate::words::{goal_text, grade_word, text_or_empty, verdict_word};
+use grid_core::{Field, NoMemory, Puzzle};
+use itoa::Buffer;
+use solve_core::Findings;
+use std::alloc::Global;
+
+/// Appends the record of an entry whose puzzle was graded with these findings.
+pub(crate) fn push_graded_row<'a>(
+    text: &mut Vec<u8>,
+    alloc: Global,
+    number: u32,
+    name: &'a [u8],
+    puzzle: &'a Puzzle,
+    findings: &'a Findings,
+    message: &'a [u8],
+) -> Result<(), NoMemory>
+    ensures { OnOk result (text.new.items ≡ text.old.items ++ row_text default_writer
+        (graded_fields number name.now puzzle.now findings.now message.now)) }
+{
+    let mut number_digits = Buffer::new();
+    let mut width_digits = Buffer::new();
+    let mut height_digits = Buffer::new();
+    let mut line_digits = Buffer::new();
+    let mut trial_digits = Buffer::new();
+    let mut guess_digits = Buffer::new();
+    let fields: [&[u8]; 15] = [
+        number_digits.format(number).as_bytes(),
+        name,
+        width_digits.format(puzzle.width()).as_bytes(),
+        height_digits.format(puzzle.height()).as_bytes(),
+        verdict_word(&findings.verdict),
+        grade_word(&findings.grade),
+        line_digits.format(findings.line_known).as_bytes(),
+        trial_digits.format(findings.trial_known).as_bytes(),
+        guess_digits.format(findings.spent).as_bytes(),
+        goal_text(puzzle),
+        b"",
+        b"",
+        message,
+        text_or_empty(puzzle.texts(), Field::Title),
+        text_or_empty(puzzle.texts(), Field::By),
+    ];
+    push_record(text, alloc, &fields)
+}
