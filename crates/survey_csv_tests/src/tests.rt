@@ -146,14 +146,7 @@ fn refused_entries_are_written(rt: HostRuntime) -> Result<(), Fail> {
         Some(b"\"7 x\" is not a clue"),
         b"7,a.mk,,,,,,,,,BadNumber,2,\"\"\"7 x\"\" is not a clue\",,\n",
     )?;
-    assert_record(
-        &rt,
-        b"a.mk",
-        b"",
-        0,
-        None,
-        b"7,a.mk,,,,,,,,,NoSize,,,,\n",
-    )?;
+    assert_record(&rt, b"a.mk", b"", 0, None, b"7,a.mk,,,,,,,,,NoSize,,,,\n")?;
     assert_record(
         &rt,
         b"",
@@ -183,7 +176,14 @@ fn lines_are_appended(rt: HostRuntime) -> Result<(), Fail> {
     push_csv_header(&mut text)?;
     let graded = outcome_of(alloc, b"a.mk", b"1 1\n1\n#\n1\n", 0);
     push_csv_row(&mut text, alloc, 1, b"a.mk", &graded, None)?;
-    push_csv_row(&mut text, alloc, 2, b"b", &Err(EntryFault::UnknownFormat), None)?;
+    push_csv_row(
+        &mut text,
+        alloc,
+        2,
+        b"b",
+        &Err(EntryFault::UnknownFormat),
+        None,
+    )?;
     let wanted = b"number,name,width,height,verdict,grade,line_cells,trial_cells,guesses,goal,\
         fault,fault_line,message,title,by\n\
         1,a.mk,1,1,one,line,1,1,0,absent,,,,,\n\

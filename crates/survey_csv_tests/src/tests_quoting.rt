@@ -45,20 +45,25 @@ fn messages_are_quoted_if_needed(rt: HostRuntime) -> Result<(), Fail> {
         wanted.extend_from_slice(b"1,a,,,,,,,,,UnknownFormat,,")?;
         wanted.extend_from_slice(field)?;
         wanted.extend_from_slice(b",,\n")?;
-        let found = record(alloc, 1, b"a", &Err(EntryFault::UnknownFormat), Some(message))?;
+        let found = record(
+            alloc,
+            1,
+            b"a",
+            &Err(EntryFault::UnknownFormat),
+            Some(message),
+        )?;
         assert_eq!(rt; found.as_slice(), wanted.as_slice());
     }
     let empty = record(alloc, 1, b"a", &Err(EntryFault::UnknownFormat), Some(b""))?;
-    assert_eq!(rt; empty.as_slice(), b"1,a,,,,,,,,,UnknownFormat,,,,\n".as_slice());
+    assert_eq!(rt;
+        empty.as_slice(),
+        b"1,a,,,,,,,,,UnknownFormat,,,,\n".as_slice()
+    );
     Ok(())
 }
 
 /// Asserts the record of entry 1, `a.non`, whose text has one cell and these lines of texts.
-fn assert_texts(
-    rt: &(impl Abort + AllocGlobal),
-    lines: &[u8],
-    wanted: &[u8],
-) -> Result<(), Fail> {
+fn assert_texts(rt: &(impl Abort + AllocGlobal), lines: &[u8], wanted: &[u8]) -> Result<(), Fail> {
     let alloc = rt.alloc();
     let mut body = Vec::new(alloc);
     body.extend_from_slice(lines)?;

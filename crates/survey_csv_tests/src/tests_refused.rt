@@ -17,10 +17,13 @@ fn is_written_or_refused(
     outcome: &Result<Answer, EntryFault>,
     wanted: &[u8],
 ) -> Result<(), Fail> {
-    sweep(alloc, || match record(alloc, 1, b"a.mk", outcome, Some(b"m,n")) {
-        Ok(found) => expected_if(found.as_slice() == wanted),
-        Err(NoMemory) => CallResult::NoMemory,
-    })?;
+    sweep(
+        alloc,
+        || match record(alloc, 1, b"a.mk", outcome, Some(b"m,n")) {
+            Ok(found) => expected_if(found.as_slice() == wanted),
+            Err(NoMemory) => CallResult::NoMemory,
+        },
+    )?;
     Ok(())
 }
 
@@ -39,11 +42,7 @@ fn graded_entries_are_written_or_refused(rt: HostRuntime) -> Result<(), Fail> {
 fn refused_entries_are_written_or_refused(rt: HostRuntime) -> Result<(), Fail> {
     let alloc = rt.alloc();
     let outcome = outcome_of(alloc, b"a.mk", b"1 1\nx\n#\n1\n", 0);
-    is_written_or_refused(
-        alloc,
-        &outcome,
-        b"1,a.mk,,,,,,,,,BadNumber,2,\"m,n\",,\n",
-    )
+    is_written_or_refused(alloc, &outcome, b"1,a.mk,,,,,,,,,BadNumber,2,\"m,n\",,\n")
 }
 
 /// Appends a header with each allocation failing in turn.
