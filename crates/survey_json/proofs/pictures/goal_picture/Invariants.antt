@@ -1,0 +1,10 @@
+-- The loop of `goal_picture`: the first `y` rows are there.
+use Rattle.std.proofs.Common.{◌≡◌, ℕ, map}
+use Rattle.std.specs.List.{range_with_len}
+use Rattle.serde_json.specs.Data.{string}
+use Rattle.serde_json.specs.View.{view}
+use Rattle.survey_json.specs.Pictures.{goal_row}
+use Rattle.survey_json.proofs.pictures.goal_picture.Given as goal
+
+abbrev pub invariant-loop-y : goal.invariant-loop-y
+invariant-loop-y l = map view l.rows.items ≡ map (λ (y : ℕ). string (goal_row l.puzzle.width l.values y)) (range_with_len 0 l.y)

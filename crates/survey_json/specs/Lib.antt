@@ -1,0 +1,9 @@
+-- The definitions that the contracts use.
+pub mod Values
+pub mod Pictures
+pub mod Puzzles
+pub mod Faults
+pub mod Entries
+pub mod Totals
+pub mod Escaping
+pub mod Lines
