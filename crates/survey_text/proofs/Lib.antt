@@ -1,5 +1,6 @@
--- The modules of lemmas on the text of a survey: goals, sequences of entries, totals, and chunks.
+-- The modules of lemmas on surveys: forms, goals, sequences of entries, totals, and chunks.
 pub mod NumberedLemmas
+pub mod FormLemmas
 pub mod PrintedLemmas
 pub mod TotalsLemmas
 pub mod GoalLemmas

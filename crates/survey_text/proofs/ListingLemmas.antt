@@ -3,13 +3,13 @@ use Rattle.std.proofs.Common.{◌≡◌, ◌≤◌, List, [], ◌∷◌, length,
 use Rattle.puzzle_text.specs.declared.collections.Entry.{Entry}
 use Rattle.puzzle_text.specs.declared.faults.EntryFault.{EntryFault}
 use Rattle.lane_core.specs.declared.answers.Answer.{Answer}
-use Rattle.survey_text.specs.Entries.{GradedEntry, shown_outcome}
+use Rattle.survey_text.specs.Forms.{FormEntry}
 use Rattle.survey_text.specs.Listings.{answered}
-use Rattle.survey_text.specs.steps.Listings.{in_hand}
+use Rattle.survey_text.specs.steps.Listings.{in_hand, textless}
 use Rattle.survey_text.specs.declared.outcomes.Outcome.{Outcome}
 
 -- if no outcome is missing from the sequence, the entries listed are all outcomes
-pub listed_in_hand : (outcomes : List Outcome) (all : List GradedEntry) → in_hand outcomes ≡ map Some all → all ≡ map shown_outcome outcomes
+pub listed_in_hand : (outcomes : List Outcome) (all : List FormEntry) → in_hand outcomes ≡ map Some all → all ≡ map textless outcomes
 listed_in_hand [] [] listed = refl
 listed_in_hand (outcome ∷ outcomes) (entry ∷ all) listed = let others = listed_in_hand outcomes all (cc) in cc
 listed_in_hand outcomes all listed = cc

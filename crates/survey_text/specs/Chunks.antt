@@ -1,17 +1,12 @@
 -- What the chunks of a survey hold: their texts, and the totals of their entries.
-use Rattle.std.specs.Prelude.{◌≡◌, ℕ, Bool, List, ◌++◌, length, count_by, codes}
-use Rattle.std.specs.List.{enumerate_from, flat_map}
-use Rattle.survey_text.specs.Entries.{GradedEntry, entry_text}
+use Rattle.std.specs.Prelude.{◌≡◌, ℕ, List, ◌++◌, length, map, count_by, codes}
+use Rattle.survey_text.specs.Entries.{GradedEntry}
+use Rattle.survey_text.specs.Forms.{Form, FormEntry, entries_in, without_text}
 use Rattle.survey_text.specs.Totals.{has_grade, has_status}
 use Rattle.streams.specs.Writing.{joined}
 use Rattle.survey_text.specs.declared.texts.ChunkTexts.{ChunkTexts}
 use Rattle.survey_text.specs.declared.texts.SurveyText.{SurveyText}
 use Rattle.survey_text.specs.declared.totals.Totals.{Totals}
-
--- the texts of `entries`, numbered from `first`
-abbrev pub texts_from : Bool → ℕ → List GradedEntry → List ℕ
-texts_from show first entries =
-    flat_map (λ numbered. entry_text show numbered.0 numbered.1) (enumerate_from first entries)
 
 -- `totals` are those of `entries`: each is the number of entries with its status or grade
 pub record IsTotals (totals : Totals) (entries : List GradedEntry) : Type 0 where
@@ -29,11 +24,12 @@ pub record IsTotals (totals : Totals) (entries : List GradedEntry) : Type 0 wher
 abbrev pub chunks_text : ChunkTexts → List ℕ
 chunks_text chunks = joined chunks.front.items ++ chunks.last.items
 
--- `chunks` are chunks of `entries`, numbered from `first`: they have their texts and their totals
-pub record AreChunks (show : Bool) (first : ℕ) (chunks : ChunkTexts) (entries : List GradedEntry)
+-- `chunks` are chunks of `entries`, numbered from `first`: they have their texts in `form`, and
+-- their totals
+pub record AreChunks (form : Form) (first : ℕ) (chunks : ChunkTexts) (entries : List FormEntry)
     : Type 0 where
-  pub text : chunks_text chunks ≡ texts_from show first entries
-  pub totals : IsTotals chunks.totals entries
+  pub text : chunks_text chunks ≡ entries_in form first entries
+  pub totals : IsTotals chunks.totals (map without_text entries)
 
 -- the whole text of `survey`
 abbrev pub whole_text : SurveyText → List ℕ

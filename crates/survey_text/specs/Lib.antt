@@ -3,7 +3,10 @@ pub mod Grids
 pub mod Goals
 pub mod Entries
 pub mod Totals
+pub mod Survey
+pub mod Forms
+pub mod FormSurveys
+pub mod Listed
 pub mod Listings
 pub mod Chunks
-pub mod Survey
 pub mod steps

@@ -70,7 +70,7 @@ fn push_verdict(text: &mut Vec<u8>, puzzle: &Puzzle, findings: &Findings) -> Res
 /// spent, and the word for the goal, each followed by a space.
 fn push_counts(text: &mut Vec<u8>, found: &GradedPuzzle<'_>) -> Result<(), NoMemory>
     ensures { OnOk result (text.new.items
-        ≡ text.old.items ++ counts_text found.now.puzzle.now found.now.findings.now ++ codes " ") }
+        ≡ text.old.items ++ counts_text found.now.answer.now.puzzle found.now.findings.now ++ codes " ") }
 {
     let findings = found.findings;
     push_number(text, u64::from(findings.line_known))?;
@@ -85,10 +85,10 @@ fn push_counts(text: &mut Vec<u8>, found: &GradedPuzzle<'_>) -> Result<(), NoMem
 /// Appends the size of a puzzle and all that was found of it, followed by a space.
 fn push_found(text: &mut Vec<u8>, found: &GradedPuzzle<'_>) -> Result<(), NoMemory>
     ensures { OnOk result (text.new.items
-        ≡ text.old.items ++ result_text (Ok (found.now.puzzle.now, found.now.findings.now))
+        ≡ text.old.items ++ result_text (Ok (found.now.answer.now.puzzle, found.now.findings.now))
         ++ codes " ") }
 {
-    push_verdict(text, found.puzzle, found.findings)?;
+    push_verdict(text, found.puzzle(), found.findings)?;
     push_counts(text, found)
 }
 
@@ -213,7 +213,8 @@ pub fn print_graded(
         (record { name = name.now; result = found_of answer.now.puzzle answer.now.outcome })) }
     ensures report { OnOk result (IsOk answer.now.outcome) }
 {
-    let entry = ListedEntry::graded(name, answer)?;
+    // The text form doesn't print the entry's text, so that may be any.
+    let entry = ListedEntry::graded(name, b"", answer)?;
     let mut text = Vec::new(alloc);
     push_entry(&mut text, number, &entry, show)?;
     Ok(text)

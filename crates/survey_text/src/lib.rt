@@ -1,7 +1,9 @@
-//! The text of surveys: grids, entries, totals, and whole surveys, printed at once or in chunks.
+//! Surveys as text, or in another form: grids, entries, totals, and whole surveys, printed at once or
+//! in chunks.
 #![tactic(auto)]
 
 mod entries;
+mod forms;
 mod goals;
 pub mod laws;
 mod listed;
@@ -14,9 +16,12 @@ mod texts;
 mod totals;
 
 pub use entries::{print_entry, print_graded};
+pub use forms::{SurveyForm, TextForm};
+pub use listed::{GradedPuzzle, ListedEntry};
 pub use listings::AnswerListing;
 pub use names::push_name;
 pub use outcomes::Outcome;
 pub use pictures::push_grid;
 pub use printing::print_survey;
 pub use texts::{ChunkTexts, SurveyText};
+pub use totals::{GradeTotals, Totals, VerdictTotals};

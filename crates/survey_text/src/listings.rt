@@ -1,8 +1,8 @@
 //! Sequences of entries with their results, as a survey prints them.
 
 ghost use Rattle.std.specs.Prelude.{◌≡◌, ◌∷◌, [], List, Option, Some, IfOk, MatchOption};
-ghost use Rattle.survey_text.specs.Entries.{GradedEntry};
-ghost use Rattle.survey_text.specs.steps.Entries.{shown_listed};
+ghost use Rattle.survey_text.specs.Forms.{FormEntry};
+ghost use Rattle.survey_text.specs.Listed.{form_entry};
 ghost use Rattle.survey_text.specs.Listings.{answered};
 ghost use Rattle.survey_text.specs.steps.Listings.{in_hand};
 
@@ -15,12 +15,12 @@ use puzzle_text::{Entry, EntryFault};
 /// A sequence of entries with their results, in the order in which a survey prints them.
 pub(crate) trait Listing<'a> {
     /// The entries that are left, with `None` for each one whose answer failed with `NoMemory`.
-    ghost remaining: { Self → List (Option GradedEntry) };
+    ghost remaining: { Self → List (Option FormEntry) };
 
     /// Returns the next entry, or `None` if none is left. Fails with `NoMemory` if its answer did.
     fn next(&mut self) -> Result<Option<ListedEntry<'a>>, NoMemory>
         ensures { IfOk result (λ next. MatchOption next (remaining self.old ≡ [])
-            (λ entry. remaining self.old ≡ Some (shown_listed entry) ∷ remaining self.new)) };
+            (λ entry. remaining self.old ≡ Some (form_entry entry) ∷ remaining self.new)) };
 }
 
 /// The entries of a list of outcomes.
@@ -66,12 +66,12 @@ impl<'a, 'e: 'a> Listing<'a> for AnswerListing<'a, 'e> {
             return Ok(None);
         };
         if let Some(fault) = *fault {
-            return Ok(Some(ListedEntry::refused(entry.name, fault)));
+            return Ok(Some(ListedEntry::refused(entry.name, entry.body, fault)));
         }
         let Some(answer) = self.answers.split_off_first() else {
             return Ok(None);
         };
-        let listed = ListedEntry::graded(entry.name, answer)?;
+        let listed = ListedEntry::graded(entry.name, entry.body, answer)?;
         Ok(Some(listed))
     }
 }

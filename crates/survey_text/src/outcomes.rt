@@ -15,21 +15,22 @@ pub struct Outcome {
 
 impl Outcome {
     ghost use Rattle.std.specs.Prelude.{◌≡◌};
-    ghost use Rattle.survey_text.specs.Entries.{shown_outcome};
-    ghost use Rattle.survey_text.specs.steps.Entries.{shown_listed};
+    ghost use Rattle.survey_text.specs.Listed.{form_entry};
+    ghost use Rattle.survey_text.specs.steps.Listings.{textless};
 
-    /// Returns the entry as a survey prints it. An answer that failed with `NoMemory` becomes an
-    /// entry refused with that fault.
+    /// Returns the entry as a form prints it, with an empty text, since an outcome doesn't hold the
+    /// text of its entry. An answer that failed with `NoMemory` becomes an entry refused with that
+    /// fault.
     pub(crate) fn listed(&self) -> ListedEntry<'_>
-        ensures { shown_listed result ≡ shown_outcome self.now }
+        ensures { form_entry result ≡ textless self.now }
     {
         let name = self.name.as_slice();
         match &self.result {
-            Ok(answer) => match ListedEntry::graded(name, answer) {
+            Ok(answer) => match ListedEntry::graded(name, b"", answer) {
                 Ok(listed) => listed,
-                Err(_) => ListedEntry::refused(name, EntryFault::Text(TextFault::NoMemory)),
+                Err(_) => ListedEntry::refused(name, b"", EntryFault::Text(TextFault::NoMemory)),
             },
-            Err(fault) => ListedEntry::refused(name, *fault),
+            Err(fault) => ListedEntry::refused(name, b"", *fault),
         }
     }
 }

@@ -1,14 +1,15 @@
 //! Printing a whole survey, or a chunk of one.
 
-ghost use Rattle.std.specs.Prelude.{◌≡◌, ◌++◌, ◌∷◌, ◌+◌, ◌<◌, ◌≤◌, ◌^◌, [], List, Bool, Some, length, IfOk, OnOk, map};
-ghost use Rattle.survey_text.specs.Entries.{GradedEntry, shown_outcome};
-ghost use Rattle.survey_text.specs.steps.Entries.{shown_listed};
+ghost use Rattle.std.specs.Prelude.{◌≡◌, ◌++◌, ◌∷◌, ◌+◌, ◌<◌, ◌≤◌, ◌^◌, [], List, Some, length, IfOk, OnOk, map};
+ghost use Rattle.survey_text.specs.Entries.{shown_outcome};
+ghost use Rattle.survey_text.specs.Forms.{FormEntry};
+ghost use Rattle.survey_text.specs.Listed.{form_entry};
 ghost use Rattle.survey_text.specs.Survey.{survey_text};
 ghost use Rattle.survey_text.specs.steps.Chunks.{IsChunk};
 ghost use Rattle.survey_text.specs.steps.Tallies.{CanCount};
 
 use crate::Outcome;
-use crate::entries::push_entry;
+use crate::forms::{SurveyForm, TextForm};
 use crate::listed::ListedEntry;
 use crate::listings::{Listing, OutcomeListing};
 use crate::totals::Totals;
@@ -26,18 +27,19 @@ pub(crate) struct Chunk {
 }
 
 impl Chunk {
-    /// Prints the entries of `listing`, numbered from `first`, with their solutions if `show` is
-    /// set. Fails with `NoMemory` if an answer did, or if an allocation fails.
-    pub fn of<'a, L: Listing<'a> + Drop>(
+    /// Prints the entries of `listing`, numbered from `first`, in `form`. Fails with `NoMemory` if
+    /// an answer did, or if an allocation fails.
+    pub fn of<'a, L: Listing<'a> + Drop, F: SurveyForm>(
         alloc: Global,
         first: u32,
         listing: L,
-        show: bool,
+        form: &F,
     ) -> Result<Chunk, NoMemory>
         requires numbers { first + length (L.remaining listing) < 2 ^ 32 }
         requires few { length (L.remaining listing) < 2 ^ 31 }
-        ensures { IfOk result (λ chunk. (entries : List GradedEntry)
-            × (L.remaining listing ≡ map Some entries) × IsChunk show first chunk entries) }
+        ensures { IfOk result (λ chunk. (entries : List FormEntry)
+            × (L.remaining listing ≡ map Some entries)
+            × IsChunk (F.form form.now) first chunk entries) }
     {
         let mut listing = listing;
         let mut chunk = Chunk {
@@ -45,34 +47,28 @@ impl Chunk {
             totals: Totals::none(),
         };
         'listing: while let Some(entry) = listing.next()? {
-            chunk.add(first, &entry, show)?;
+            chunk.add(first, &entry, form)?;
         }
         Ok(chunk)
     }
 
-    /// Appends the text of `entry`, and counts it. `first` is the number of the chunk's first
-    /// entry.
-    fn add(&mut self, first: u32, entry: &ListedEntry<'_>, show: bool) -> Result<(), NoMemory>
+    /// Appends `entry` in `form`, and counts it. `first` is the number of the chunk's first entry.
+    fn add<F: SurveyForm>(
+        &mut self,
+        first: u32,
+        entry: &ListedEntry<'_>,
+        form: &F,
+    ) -> Result<(), NoMemory>
         requires can_count { CanCount self.old.totals }
         requires number { first + self.old.totals.entries < 2 ^ 32 }
-        ensures { (entries : List GradedEntry) → IsChunk show first self.old entries
-            → OnOk result (IsChunk show first self.new (entries ++ shown_listed entry.now ∷ [])) }
+        ensures { (entries : List FormEntry) → IsChunk (F.form form.now) first self.old entries
+            → OnOk result
+            (IsChunk (F.form form.now) first self.new (entries ++ form_entry entry.now ∷ [])) }
     {
         let number = first + self.totals.entries as u32;
-        push_entry(&mut self.text, number, entry, show)?;
+        form.push_entry(&mut self.text, number, entry)?;
         self.totals.count(entry);
         Ok(())
-    }
-
-    /// Returns the text of the survey that consists of this chunk: the text of its entries, and the
-    /// line of totals.
-    fn finish(self) -> Result<Vec<u8>, NoMemory>
-        ensures { (show : Bool) (entries : List GradedEntry) → IsChunk show 1 self entries
-            → IfOk result (λ text. text.items ≡ survey_text show entries) }
-    {
-        let mut text = self.text;
-        self.totals.push(&mut text)?;
-        Ok(text)
     }
 }
 
@@ -84,5 +80,10 @@ pub fn print_survey(alloc: Global, outcomes: &[Outcome], show: bool) -> Result<V
     requires { length outcomes.now ≤ MAX_ENTRIES }
     ensures { IfOk result (λ text. text.items ≡ survey_text show (map shown_outcome outcomes.now)) }
 {
-    Chunk::of(alloc, 1, OutcomeListing { outcomes }, show)?.finish()
+    // Nothing stands before the entries of a survey in text.
+    let form = TextForm { show };
+    let Chunk { text, totals } = Chunk::of(alloc, 1, OutcomeListing { outcomes }, &form)?;
+    let mut text = text;
+    form.push_tail(&mut text, &totals)?;
+    Ok(text)
 }

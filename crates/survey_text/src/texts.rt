@@ -1,8 +1,9 @@
 //! The text of a survey in chunks, which are printed apart and never copied into one text.
 
-ghost use Rattle.std.specs.Prelude.{◌≡◌, ◌++◌, ◌^◌, ◌<◌, length};
+ghost use Rattle.std.specs.Prelude.{◌≡◌, ◌+◌, ◌++◌, ◌^◌, ◌<◌, length, IfOk, OnOk};
 ghost use Rattle.streams.specs.Writing.{joined};
 
+use crate::forms::SurveyForm;
 use crate::listings::AnswerListing;
 use crate::printing::Chunk;
 use crate::totals::Totals;
@@ -26,32 +27,31 @@ pub struct ChunkTexts {
 }
 
 impl ChunkTexts {
-    ghost use Rattle.std.specs.Prelude.{◌≡◌, ◌+◌, ◌++◌, ◌^◌, ◌<◌, ℕ, Bool, List, Some, length, map, IfOk};
-    ghost use Rattle.survey_text.specs.Entries.{GradedEntry};
+    ghost use Rattle.std.specs.Prelude.{◌≡◌, ◌+◌, ◌++◌, ◌^◌, ◌<◌, ℕ, List, Some, length, map, IfOk};
+    ghost use Rattle.survey_text.specs.Forms.{Form, FormEntry, text_in};
     ghost use Rattle.survey_text.specs.Listings.{answered};
-    ghost use Rattle.survey_text.specs.Survey.{survey_text};
     ghost use Rattle.survey_text.specs.Chunks.{AreChunks, whole_text};
 
-    /// Prints the entries of `listing` as one chunk, numbered from `first`, with their solutions if
-    /// `show` is set. Fails with `NoMemory` if an answer did, or if an allocation fails.
-    pub fn of(
+    /// Prints the entries of `listing` in `form` as one chunk, numbered from `first`. Fails with
+    /// `NoMemory` if an answer did, or if an allocation fails.
+    pub fn of<F: SurveyForm>(
         alloc: Global,
         first: u32,
         listing: AnswerListing<'_, '_>,
-        show: bool,
+        form: &F,
     ) -> Result<ChunkTexts, NoMemory>
         requires numbers { first
             + length (answered listing.entries.now listing.faults.now listing.answers.now)
             < 2 ^ 32 }
         requires few { length (answered listing.entries.now listing.faults.now listing.answers.now)
             < 2 ^ 31 }
-        ensures { IfOk result (λ chunks. (entries : List GradedEntry)
+        ensures { IfOk result (λ chunks. (entries : List FormEntry)
             × (answered
             listing.entry.entries.now listing.entry.faults.now listing.entry.answers.now
             ≡ map Some entries)
-            × AreChunks show first chunks entries) }
+            × AreChunks (F.form form.now) first chunks entries) }
     {
-        let Chunk { text, totals } = Chunk::of(alloc, first, listing, show)?;
+        let Chunk { text, totals } = Chunk::of(alloc, first, listing, form)?;
         let bytes = text.len() as u64;
         Ok(ChunkTexts {
             front: Vec::new(alloc),
@@ -65,11 +65,11 @@ impl ChunkTexts {
     /// on. Fails with `NoMemory` if an allocation does, or if all texts have more bytes than a
     /// `u64` counts.
     pub fn followed_by(self, others: ChunkTexts) -> Result<ChunkTexts, NoMemory>
-        ensures { (show : Bool) (first : ℕ) (entries behind : List GradedEntry)
-            → AreChunks show first self entries
-            → AreChunks show (first + length entries) others behind
+        ensures { (form : Form) (first : ℕ) (entries behind : List FormEntry)
+            → AreChunks form first self entries
+            → AreChunks form (first + length entries) others behind
             → length (entries ++ behind) < 2 ^ 31
-            → IfOk result (λ chunks. AreChunks show first chunks (entries ++ behind)) }
+            → IfOk result (λ chunks. AreChunks form first chunks (entries ++ behind)) }
     {
         let Some(bytes) = self.bytes.checked_add(others.bytes) else {
             return Err(NoMemory);
@@ -88,24 +88,52 @@ impl ChunkTexts {
         })
     }
 
-    /// Returns the text of the survey that consists of these chunks: their texts, and the line of
-    /// totals. Fails with `NoMemory` if an allocation does, or if a `u64` can't count the bytes.
-    pub fn finish(self) -> Result<SurveyText, NoMemory>
-        ensures { (show : Bool) (entries : List GradedEntry) → AreChunks show 1 self entries
-            → IfOk result (λ survey. whole_text survey ≡ survey_text show entries) }
+    /// Returns the text in `form` of the survey that consists of these chunks: what stands before
+    /// the entries, the texts of the chunks, and what stands after the entries. Fails with
+    /// `NoMemory` if an allocation does, or if a `u64` can't count the bytes.
+    pub fn finish<F: SurveyForm>(self, alloc: Global, form: &F) -> Result<SurveyText, NoMemory>
+        ensures { (entries : List FormEntry) → AreChunks (F.form form.now) 1 self entries
+            → IfOk result (λ survey. whole_text survey ≡ text_in (F.form form.now) entries) }
     {
+        let head = head_of(alloc, form)?;
         let mut last = self.last;
         let printed = last.len();
-        self.totals.push(&mut last)?;
-        let added = last.len().saturating_sub(printed) as u64;
-        if self.bytes.checked_add(added).is_none() {
-            return Err(NoMemory);
-        }
-        Ok(SurveyText {
-            front: self.front,
-            last,
-        })
+        form.push_tail(&mut last, &self.totals)?;
+        let bytes = add_count(self.bytes, last.len().saturating_sub(printed))?;
+        add_count(bytes, head.len())?;
+        let mut front = self.front;
+        put_head(&mut front, head)?;
+        Ok(SurveyText { front, last })
     }
+}
+
+/// Returns what stands before the entries in `form`.
+fn head_of<F: SurveyForm>(alloc: Global, form: &F) -> Result<Vec<u8>, NoMemory>
+    ensures { IfOk result (λ head. head.items ≡ (F.form form.now).head) }
+{
+    let mut head = Vec::new(alloc);
+    form.push_head(&mut head)?;
+    Ok(head)
+}
+
+/// Adds `more` to a count of bytes. Fails with `NoMemory` if a `u64` can't hold the sum.
+fn add_count(bytes: u64, more: usize) -> Result<u64, NoMemory>
+    ensures { IfOk result (λ sum. sum ≡ bytes + more) }
+{
+    match bytes.checked_add(more as u64) {
+        Some(sum) => Ok(sum),
+        None => Err(NoMemory),
+    }
+}
+
+/// Puts `head` before the texts of `front`, unless it is empty.
+fn put_head(front: &mut Vec<Vec<u8>>, head: Vec<u8>) -> Result<(), NoMemory>
+    ensures { OnOk result (joined front.new.items ≡ head.items ++ joined front.old.items) }
+{
+    if !head.is_empty() {
+        front.insert(0, head)?;
+    }
+    Ok(())
 }
 
 /// The text of a survey, in chunks. It has fewer than 2^64 bytes.

@@ -15,11 +15,15 @@ use solve_core::{Grade, Verdict};
 
 /// How many puzzles have each verdict.
 #[derive(Clone, Copy)]
-pub(crate) struct VerdictTotals {
-    none: usize,
-    one: usize,
-    several: usize,
-    unsettled: usize,
+pub struct VerdictTotals {
+    /// How many have no solution.
+    pub none: usize,
+    /// How many have one solution.
+    pub one: usize,
+    /// How many have several solutions.
+    pub several: usize,
+    /// How many are unsettled.
+    pub unsettled: usize,
 }
 
 impl VerdictTotals {
@@ -64,10 +68,13 @@ impl VerdictTotals {
 
 /// How many puzzles have each grade.
 #[derive(Clone, Copy)]
-pub(crate) struct GradeTotals {
-    by_lines: usize,
-    by_trials: usize,
-    by_search: usize,
+pub struct GradeTotals {
+    /// How many have the grade `line`.
+    pub by_lines: usize,
+    /// How many have the grade `trials`.
+    pub by_trials: usize,
+    /// How many have the grade `search`.
+    pub by_search: usize,
 }
 
 impl GradeTotals {
@@ -106,18 +113,20 @@ impl GradeTotals {
 
 /// How many entries there are, how many are refused, and how many have each verdict and each grade.
 #[derive(Clone, Copy)]
-pub(crate) struct Totals {
+pub struct Totals {
     /// How many entries there are.
     pub entries: usize,
     /// How many entries are refused.
     pub refused: usize,
-    verdicts: VerdictTotals,
-    grades: GradeTotals,
+    /// How many puzzles have each verdict.
+    pub verdicts: VerdictTotals,
+    /// How many puzzles have each grade.
+    pub grades: GradeTotals,
 }
 
 impl Totals {
     /// Returns the totals of no entries: all are 0.
-    pub fn none() -> Totals
+    pub(crate) fn none() -> Totals
         ensures { IsTotals result [] }
     {
         Totals {
@@ -138,7 +147,7 @@ impl Totals {
     }
 
     /// Counts `entry`, and either that it is refused or its verdict and its grade.
-    pub fn count(&mut self, entry: &ListedEntry<'_>)
+    pub(crate) fn count(&mut self, entry: &ListedEntry<'_>)
         requires { CanCount self.old }
         ensures entries { self.new.entries ≡ self.old.entries + 1 }
         ensures refused { self.new.refused
@@ -177,7 +186,7 @@ impl Totals {
     }
 
     /// Adds the totals of the entries that follow.
-    pub fn add(&mut self, behind: &Totals)
+    pub(crate) fn add(&mut self, behind: &Totals)
         ensures { (entries others : List GradedEntry)
             → IsTotals self.old entries → IsTotals behind.now others
             → length (entries ++ others) < 2 ^ 31 → IsTotals self.new (entries ++ others) }
@@ -210,7 +219,7 @@ impl Totals {
 
     /// Appends the last line of a survey: how many entries there are, how many are refused, and how
     /// many have each verdict and each grade.
-    pub fn push(&self, text: &mut Vec<u8>) -> Result<(), NoMemory>
+    pub(crate) fn push(&self, text: &mut Vec<u8>) -> Result<(), NoMemory>
         ensures { OnOk result (text.new.items ≡ text.old.items ++ totals_text self.now) }
     {
         push_bytes(text, b"entries ")?;
