@@ -11,15 +11,13 @@ use Rattle.lane_core.specs.Answers.{AreAnswersTo}
 use Rattle.lane_core.specs.declared.answers.Answer.{Answer}
 use Rattle.lane_core.specs.declared.jobs.Job.{Job}
 use Rattle.survey_text.proofs.NumberedLemmas.{made-more, numbered-append}
-use Rattle.survey_text.specs.Entries.{GradedEntry}
+use Rattle.survey_text.specs.Forms.{FormEntry}
 use Rattle.survey_text.specs.Listings.{answered}
-use Rattle.survey_text.specs.Survey.{GuessSettings, graded}
+use Rattle.survey_text.specs.Survey.{GuessSettings}
 use Rattle.survey_core.proofs.ListingLemmas.{listed_graded}
-use Rattle.survey_core.specs.GuessSettings.{guess_settings}
 use Rattle.survey_core.specs.Results.{AreResultsOf, parsed, parsed_all}
-use Rattle.survey_core.specs.steps.Graded.{AreAnswersAt, AreGraded, graded_of, puzzle_count, results_of}
+use Rattle.survey_core.specs.steps.Graded.{AreAnswersAt, AreGraded, puzzle_count, results_of, surveyed_all}
 use Rattle.survey_core.specs.steps.ParsedEntries.{NumberedPuzzle, fault_of, job_of, jobs_from, shown_job}
-use Rattle.survey_core.specs.declared.grading.Printing.{Printing}
 
 -- one more entry appends its job, if it is a puzzle
 pub jobs_from-more : (guesses : GuessSettings) (first : ℕ) (entries : List Entry) (i : ℕ) (d : Entry) → i < length entries
@@ -87,62 +85,59 @@ graded_apart guesses (Ok p ∷ read) others (answer ∷ answers) graded =
     rw more (graded_apart guesses read others answers graded.1)
 
 -- if the answers at an index are those to two lists of entries, they are those to the first
-pub answers_in_front : (printing : Printing) (first : ℕ) (xs ys : List Entry) → AreAnswersAt printing first (xs ++ ys)
-    → AreAnswersAt printing first xs
-answers_in_front printing first xs ys are = record {
+pub answers_in_front : (guesses : GuessSettings) (all : List (Option EntryFault)) (answers : List Answer) (first : ℕ) (xs ys : List Entry)
+    → AreAnswersAt guesses all answers first (xs ++ ys) → AreAnswersAt guesses all answers first xs
+answers_in_front guesses all answers first xs ys are = record {
   behind = ys ++ are.behind;
   few = omega (arith, are.few, length-append xs ys);
   faults = rw (append_assoc xs ys are.behind) at are.faults;
-  answers = rw (append_assoc xs ys are.behind) at are.answers;
+  graded = rw (append_assoc xs ys are.behind) at are.graded;
 }
 
 -- if the answers at an index are those to two lists of entries, those to the second list follow the first
-pub answers_behind : (printing : Printing) (first : ℕ) (xs ys : List Entry) → AreAnswersAt printing first (xs ++ ys)
-    → AreAnswersAt printing (first + length xs) ys
+pub answers_behind : (guesses : GuessSettings) (all : List (Option EntryFault)) (answers : List Answer) (first : ℕ) (xs ys : List Entry)
+    → AreAnswersAt guesses all answers first (xs ++ ys) → AreAnswersAt guesses all answers (first + length xs) ys
 unfolding answers_in_front
-answers_behind printing first xs ys are =
-    let answers = printing.answers.now in
-    let front = answers_in_front printing first xs ys are in
-    let before = take first printing.faults.now in
+answers_behind guesses all answers first xs ys are =
+    let front = answers_in_front guesses all answers first xs ys are in
+    let before = take first all in
     let these = map fault_of (parsed_all xs) in
     let those = map fault_of (parsed_all (ys ++ are.behind)) in
-    let here : drop first printing.faults.now ≡ these ++ those = front.faults ∙ faults-append xs (ys ++ are.behind) in
+    let here : drop first all ≡ these ++ those = front.faults ∙ faults-append xs (ys ++ are.behind) in
     let count : length these ≡ length xs = simp length-map in
-    let counted : puzzle_count (take (first + length xs) printing.faults.now) ≡ puzzle_count before + puzzle_count these =
-    rw (take-add first (length xs) printing.faults.now, here, take_at these those (length xs) count)
+    let counted : puzzle_count (take (first + length xs) all) ≡ puzzle_count before + puzzle_count these =
+    rw (take-add first (length xs) all, here, take_at these those (length xs) count)
     (sum_by-append (λ (fault : Option EntryFault). cond (is_none fault) 1 0) before these) in
     record {
       behind = are.behind;
       few = omega (arith, are.few, length-append xs ys);
-      faults = rw (← drop-drop (length xs) first printing.faults.now, here) (drop_at these those (length xs) count);
-      answers = rw (counted, ← drop-drop (puzzle_count these) (puzzle_count before) answers)
-          (graded_apart (guess_settings printing.settings.now) (parsed_all xs) (parsed_all (ys ++ are.behind))
-          (drop (puzzle_count before) answers)
-          (rw (map-append parsed xs (ys ++ are.behind)) at front.answers));
+      faults = rw (← drop-drop (length xs) first all, here) (drop_at these those (length xs) count);
+      graded = rw (counted, ← drop-drop (puzzle_count these) (puzzle_count before) answers)
+          (graded_apart guesses (parsed_all xs) (parsed_all (ys ++ are.behind)) (drop (puzzle_count before) answers)
+          (rw (map-append parsed xs (ys ++ are.behind)) at front.graded));
     }
 
--- if no entry of a chunk is missing from what it lists, it lists its entries, graded
-pub chunk_graded : (printing : Printing) (first : ℕ) (entries : List Entry) (before faults : List (Option EntryFault))
-    (answers : List Answer) (all : List GradedEntry) → AreAnswersAt printing first entries
-    → before ≡ take (min first (length printing.faults.now)) printing.faults.now
-    → faults ≡ drop (min first (length printing.faults.now)) printing.faults.now
-    → answers ≡ drop (min (puzzle_count before) (length printing.answers.now)) printing.answers.now
-    → answered entries faults answers ≡ map Some all → all ≡ graded_of printing entries
-chunk_graded printing first entries before faults answers all are passed here left listed =
-    let same : faults ≡ map fault_of (parsed_all (entries ++ are.behind)) = here ∙ drop_min first printing.faults.now ∙ are.faults in
-    let from : answers ≡ drop (puzzle_count (take first printing.faults.now)) printing.answers.now =
-    rw (← take_min first printing.faults.now, ← passed) (left ∙ drop_min (puzzle_count before) printing.answers.now) in
-    listed_graded (guess_settings printing.settings.now) entries (parsed_all (entries ++ are.behind)) (parsed_all are.behind) answers all
-    (map-append parsed entries are.behind) (rw from are.answers) (rw (← same) listed)
+-- if no entry of a chunk is missing from what it lists, it lists its entries, surveyed
+pub chunk_surveyed : (guesses : GuessSettings) (all : List (Option EntryFault)) (answers : List Answer) (first : ℕ) (entries : List Entry)
+    (before faults : List (Option EntryFault)) (left : List Answer) (listed : List FormEntry)
+    → AreAnswersAt guesses all answers first entries → before ≡ take (min first (length all)) all
+    → faults ≡ drop (min first (length all)) all → left ≡ drop (min (puzzle_count before) (length answers)) answers
+    → answered entries faults left ≡ map Some listed → listed ≡ surveyed_all guesses entries
+chunk_surveyed guesses all answers first entries before faults left listed are passed here behind lists =
+    let same : faults ≡ map fault_of (parsed_all (entries ++ are.behind)) = here ∙ drop_min first all ∙ are.faults in
+    let from : left ≡ drop (puzzle_count (take first all)) answers =
+    rw (← take_min first all, ← passed) (behind ∙ drop_min (puzzle_count before) answers) in
+    listed_graded guesses entries (parsed_all (entries ++ are.behind)) (parsed_all are.behind) left listed
+    (map-append parsed entries are.behind) (rw from are.graded) (rw (← same) lists)
 
--- the graded entries of two lists are those of the first, followed by those of the second
-pub graded_both : (printing : Printing) (xs ys : List Entry)
-    → graded_of printing (xs ++ ys) ≡ graded_of printing xs ++ graded_of printing ys
-graded_both printing xs ys = simp map-append
+-- the surveyed entries of two lists are those of the first, followed by those of the second
+pub surveyed_both : (guesses : GuessSettings) (xs ys : List Entry)
+    → surveyed_all guesses (xs ++ ys) ≡ surveyed_all guesses xs ++ surveyed_all guesses ys
+surveyed_both guesses xs ys = simp map-append
 
--- there are as many graded entries as entries
-pub graded_count : (printing : Printing) (xs : List Entry) → length (graded_of printing xs) ≡ length xs
-graded_count printing xs = simp length-map
+-- there are as many surveyed entries as entries
+pub surveyed_count : (guesses : GuessSettings) (xs : List Entry) → length (surveyed_all guesses xs) ≡ length xs
+surveyed_count guesses xs = simp length-map
 
 -- if `A` implies that each result has `P`, each result has the property that `A` implies `P`
 pub when_ok : {X E : Type 0} (A : Type 0) (P : X → Type 0) (r : Result X E) → (A → IfOk r P) → IfOk r (λ x. A → P x)
@@ -150,14 +145,14 @@ when_ok A P (Ok x) h = h
 when_ok A P (Err e) h = tt
 
 -- faults and answers of all entries are those at index 0
-pub all_answered : (printing : Printing) (entries : List Entry) → length entries ≤ MAX_ENTRIES
-    → printing.faults.now ≡ map fault_of (parsed_all entries)
-    → AreGraded (guess_settings printing.settings.now) (parsed_all entries) printing.answers.now → AreAnswersAt printing 0 entries
-all_answered printing entries few faults graded_so = record {
+pub all_answered : (guesses : GuessSettings) (all : List (Option EntryFault)) (answers : List Answer) (entries : List Entry)
+    → length entries ≤ MAX_ENTRIES → all ≡ map fault_of (parsed_all entries) → AreGraded guesses (parsed_all entries) answers
+    → AreAnswersAt guesses all answers 0 entries
+all_answered guesses all answers entries few faults graded_so = record {
   behind = [];
   few = omega (arith, few);
   faults = rw append-nil faults;
-  answers = rw append-nil graded_so;
+  graded = rw append-nil graded_so;
 }
 
 -- the results of entries that were read are their faults, and the answers to the puzzles among them

@@ -5,10 +5,10 @@ ghost use Rattle.std.specs.Prelude.{◌≡◌, ◌≤◌, ◌+◌, ◌++◌, ℕ
 ghost use Rattle.puzzle_text.specs.Shown.{shown_entry};
 ghost use Rattle.puzzle_text.specs.declared.collections.Entry.{Entry};
 ghost use Rattle.survey_text.specs.Chunks.{AreChunks, whole_text};
-ghost use Rattle.survey_text.specs.Survey.{survey_of_list};
+ghost use Rattle.survey_text.specs.FormSurveys.{survey_of_list_in};
 ghost use Rattle.survey_core.specs.GuessSettings.{guess_settings};
 ghost use Rattle.survey_core.specs.Results.{AreResultsOf, parsed_all};
-ghost use Rattle.survey_core.specs.steps.Graded.{AreAnswersAt, AreGradedEntries, graded_of, puzzle_count, results_of};
+ghost use Rattle.survey_core.specs.steps.Graded.{AreAnswersAt, AreGradedEntries, puzzle_count, results_of, surveyed_all};
 
 use crate::Settings;
 use crate::chunks::{ChunkTask, chunk_count, run_chunked};
@@ -20,24 +20,29 @@ use puzzle_text::{Entry, EntryFault, MAX_ENTRIES};
 use std::alloc::Global;
 use std::sync::Wait;
 use std::thread::Threads;
-use survey_text::{AnswerListing, ChunkTexts, SurveyText};
+use survey_text::{AnswerListing, ChunkTexts, SurveyForm, SurveyText};
 
-/// The task of printing entries that were read, with the answers to the puzzles among them.
+/// The task of printing entries that were read, with the answers to the puzzles among them, in a
+/// form.
 #[derive(Drop)]
-struct Printing<'s> {
+struct Printing<'s, F> {
     alloc: Global,
     settings: &'s Settings,
+    form: &'s F,
     /// For each entry its fault, or `None` if it is a puzzle.
     faults: &'s [Option<EntryFault>],
     /// The answers to the puzzles among the entries, in order.
     answers: &'s [Answer],
 }
 
-impl<'s, 'e> ChunkTask<Entry<'e>> for Printing<'s> {
+impl<'s, 'e, F: SurveyForm> ChunkTask<Entry<'e>> for Printing<'s, F> {
     type Output = ChunkTexts;
 
-    ghost gives = { λ printing first entries chunks. AreAnswersAt printing first entries
-        → AreChunks printing.settings.now.show (first + 1) chunks (graded_of printing entries) };
+    ghost gives = { λ printing first entries chunks.
+        AreAnswersAt (guess_settings printing.settings.now)
+        printing.faults.now printing.answers.now first entries
+        → AreChunks (F.form printing.form.now) (first + 1) chunks
+        (surveyed_all (guess_settings printing.settings.now) entries) };
 
     fn run(&self, first: usize, entries: &[Entry<'e>]) -> Result<ChunkTexts, NoMemory> {
         // The answers for this chunk follow those to the puzzles before it. `min` keeps both splits
@@ -50,19 +55,23 @@ impl<'s, 'e> ChunkTask<Entry<'e>> for Printing<'s> {
             faults,
             answers,
         };
-        ChunkTexts::of(self.alloc, first as u32 + 1, listing, self.settings.show)
+        ChunkTexts::of(self.alloc, first as u32 + 1, listing, self.form)
     }
 
     fn merge(&self, front: ChunkTexts, behind: ChunkTexts) -> Result<ChunkTexts, NoMemory>
         ensures { (first : ℕ) (xs ys : List Entry)
-            → (AreAnswersAt self.now first xs
-            → AreChunks self.now.settings.now.show (first + 1) front (graded_of self.now xs))
-            → (AreAnswersAt self.now (first + length xs) ys
-            → AreChunks self.now.settings.now.show (first + length xs + 1) behind
-            (graded_of self.now ys))
-            → IfOk result (λ chunks. AreAnswersAt self.now first (xs ++ ys)
-            → AreChunks self.now.settings.now.show (first + 1) chunks
-            (graded_of self.now (xs ++ ys))) }
+            → (AreAnswersAt (guess_settings self.now.settings.now)
+            self.now.faults.now self.now.answers.now first xs
+            → AreChunks (F.form self.now.form.now) (first + 1) front
+            (surveyed_all (guess_settings self.now.settings.now) xs))
+            → (AreAnswersAt (guess_settings self.now.settings.now)
+            self.now.faults.now self.now.answers.now (first + length xs) ys
+            → AreChunks (F.form self.now.form.now) (first + length xs + 1) behind
+            (surveyed_all (guess_settings self.now.settings.now) ys))
+            → IfOk result (λ chunks. AreAnswersAt (guess_settings self.now.settings.now)
+            self.now.faults.now self.now.answers.now first (xs ++ ys)
+            → AreChunks (F.form self.now.form.now) (first + 1) chunks
+            (surveyed_all (guess_settings self.now.settings.now) (xs ++ ys))) }
     {
         front.followed_by(behind)
     }
@@ -129,18 +138,20 @@ fn graded_entries<H: Threads + Wait + Sync, G: Gate + Sync>(
     }
 }
 
-/// Grades `entries`, at most 10,000, over lanes, and returns the text of their survey. Fails with
-/// `NoMemory` if an allocation does, and with `Thread` if the thread of a worker can't be started.
-pub(crate) fn survey_text<H: Threads + Wait + Sync, G: Gate + Sync>(
+/// Grades `entries`, at most 10,000, over lanes, and returns the text of their survey in `form`.
+/// Fails with `NoMemory` if an allocation does, and with `Thread` if the thread of a worker can't be
+/// started.
+pub(crate) fn survey_text<H: Threads + Wait + Sync, F: SurveyForm + Sync, G: Gate + Sync>(
     rt: &H,
     alloc: Global,
     entries: &[Entry<'_>],
     settings: &Settings,
+    form: &F,
     gate: &G,
 ) -> Result<SurveyText, CollectFault>
     requires { length entries.now ≤ MAX_ENTRIES }
     ensures { IfOk result (λ survey. whole_text survey
-        ≡ survey_of_list (guess_settings settings.now) settings.now.show
+        ≡ survey_of_list_in (F.form form.now) (guess_settings settings.now)
         (map shown_entry entries.now)) }
 {
     let chunks = chunk_count(entries.len(), settings.lanes);
@@ -148,10 +159,11 @@ pub(crate) fn survey_text<H: Threads + Wait + Sync, G: Gate + Sync>(
     let printing = Printing {
         alloc,
         settings,
+        form,
         faults: &graded.faults,
         answers: &graded.answers,
     };
-    Ok(run_chunked(rt, &printing, entries, chunks)?.finish()?)
+    Ok(run_chunked(rt, &printing, entries, chunks)?.finish(alloc, form)?)
 }
 
 /// Returns the result of each entry: its fault if it has one, and otherwise the next answer.

@@ -1,5 +1,5 @@
 //! Surveys of collections: reading a collection, grading its puzzles over lanes or on one thread,
-//! and writing the survey.
+//! and writing the survey as text or in another form.
 #![tactic(auto)]
 
 mod chunks;
@@ -28,5 +28,7 @@ pub use grading::grade_entries;
 pub use progress_gate::ProgressGate;
 pub use settings::{DEFAULT_GUESSES, DEFAULT_LANES, DEFAULT_RING, MAX_LANES, MAX_RING, Settings};
 pub use streams::{Counted, write_text};
-pub use survey_text::{Outcome, print_entry, print_graded, print_survey, push_grid};
-pub use surveys::{run_survey, survey_entries};
+pub use survey_text::{
+    Outcome, SurveyForm, TextForm, print_entry, print_graded, print_survey, push_grid,
+};
+pub use surveys::{run_survey, run_survey_as, survey_entries, survey_entries_as};

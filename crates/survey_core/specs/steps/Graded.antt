@@ -6,13 +6,13 @@ use Rattle.lane_core.specs.declared.answers.Answer.{Answer}
 use Rattle.puzzle_text.specs.Shown.{shown_entry}
 use Rattle.puzzle_text.specs.declared.collections.Entry.{Entry}
 use Rattle.puzzle_text.specs.declared.limits.TheConstants.{MAX_ENTRIES}
-use Rattle.survey_text.specs.Entries.{GradedEntry}
+use Rattle.survey_text.specs.Forms.{FormEntry}
+use Rattle.survey_text.specs.FormSurveys.{surveyed}
+use Rattle.survey_text.specs.Survey.{GuessSettings}
 use Rattle.survey_core.specs.GuessSettings.{guess_settings}
 use Rattle.survey_core.specs.Results.{IsAnswerOn, parsed_all}
-use Rattle.survey_text.specs.Survey.{GuessSettings, graded}
 use Rattle.survey_core.specs.steps.ParsedEntries.{fault_of}
 use Rattle.survey_core.specs.declared.grading.GradedEntries.{GradedEntries}
-use Rattle.survey_core.specs.declared.grading.Printing.{Printing}
 use Rattle.survey_core.specs.declared.settings.Settings.{Settings}
 
 -- the answers are those to the puzzles among what was read, in order
@@ -34,19 +34,20 @@ pub record AreGradedEntries (settings : Settings) (entries : List Entry) (graded
 abbrev pub puzzle_count : List (Option EntryFault) → ℕ
 puzzle_count faults = count_by is_none faults
 
--- `entries`, graded by the settings of `printing`
-abbrev pub graded_of : Printing → List Entry → List GradedEntry
-graded_of printing entries =
-    map (graded (guess_settings printing.settings.now)) (map shown_entry entries)
+-- `entries`, each with its puzzle and the report on that, or with its fault
+abbrev pub surveyed_all : GuessSettings → List Entry → List FormEntry
+surveyed_all guesses entries = map (surveyed guesses) (map shown_entry entries)
 
--- in `printing`, the faults from index `first` on are those of `entries` and of some others after
--- them, and the answers from there on are those to the puzzles among all of these
-pub record AreAnswersAt (printing : Printing) (first : ℕ) (entries : List Entry) : Type 0 where
+-- `all` from index `first` on are the faults of `entries` and of some others after them, and the
+-- answers from there on, of `answers`, are those to the puzzles among all of these
+pub record AreAnswersAt (guesses : GuessSettings) (all : List (Option EntryFault))
+    (answers : List Answer) (first : ℕ) (entries : List Entry)
+    : Type 0 where
   pub behind : List Entry
   pub few : first + length entries ≤ MAX_ENTRIES
-  pub faults : drop first printing.faults.now ≡ map fault_of (parsed_all (entries ++ behind))
-  pub answers : AreGraded (guess_settings printing.settings.now) (parsed_all (entries ++ behind))
-      (drop (puzzle_count (take first printing.faults.now)) printing.answers.now)
+  pub faults : drop first all ≡ map fault_of (parsed_all (entries ++ behind))
+  pub graded : AreGraded guesses (parsed_all (entries ++ behind))
+      (drop (puzzle_count (take first all)) answers)
 
 -- for each of these faults of entries the fault, and where there is none the next answer, as far as
 -- there are answers

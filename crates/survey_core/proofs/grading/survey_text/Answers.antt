@@ -5,6 +5,7 @@ use Rattle.survey_core.proofs.grading.survey_text.Goals as goal
 
 pub returns : goal.returns
 returns g c =
-    c.in_ok-finish.ensures c.args.settings.now.show _
-    (c.in_ok-run_chunked.ensures (all_answered _ c.args.entries.now c.requires (c.deref.ensures.value ∙ c.in_ok-graded.ensures.faults)
+    c.in_ok-finish.ensures _
+    (c.in_ok-run_chunked.ensures
+    (all_answered _ _ _ c.args.entries.now c.requires (c.deref.ensures.value ∙ c.in_ok-graded.ensures.faults)
     (rw (← c.deref-2.ensures.value) at c.in_ok-graded.ensures.answers)))
