@@ -139,8 +139,8 @@ fn graded_entries<H: Threads + Wait + Sync, G: Gate + Sync>(
 }
 
 /// Grades `entries`, at most 10,000, over lanes, and returns the text of their survey in `form`.
-/// Fails with `NoMemory` if an allocation does, and with `Thread` if the thread of a worker can't be
-/// started.
+/// Fails with `NoMemory` if an allocation does, and with `Thread` if the thread of a worker can't
+/// be started.
 pub(crate) fn survey_text<H: Threads + Wait + Sync, F: SurveyForm + Sync, G: Gate + Sync>(
     rt: &H,
     alloc: Global,

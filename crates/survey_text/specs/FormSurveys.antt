@@ -15,7 +15,11 @@ use Rattle.survey_text.specs.Survey.{GuessSettings}
 -- the puzzle with the report on it, or the fault
 abbrev pub report_in : GuessSettings → Result Nonogram EntryFault → Result ReportedPuzzle EntryFault
 report_in guesses (Ok p) =
-    Ok (record { puzzle = p; guesses = guesses; findings = findings_of guesses.pick p guesses.limit })
+    Ok (record {
+      puzzle = p;
+      guesses = guesses;
+      findings = findings_of guesses.pick p guesses.limit;
+    })
 report_in guesses (Err fault) = Err fault
 
 -- `entry` with its puzzle and the report on that, or with its fault

@@ -70,7 +70,8 @@ fn push_verdict(text: &mut Vec<u8>, puzzle: &Puzzle, findings: &Findings) -> Res
 /// spent, and the word for the goal, each followed by a space.
 fn push_counts(text: &mut Vec<u8>, found: &GradedPuzzle<'_>) -> Result<(), NoMemory>
     ensures { OnOk result (text.new.items
-        ≡ text.old.items ++ counts_text found.now.answer.now.puzzle found.now.findings.now ++ codes " ") }
+        ≡ text.old.items
+        ++ counts_text found.now.answer.now.puzzle found.now.findings.now ++ codes " ") }
 {
     let findings = found.findings;
     push_number(text, u64::from(findings.line_known))?;

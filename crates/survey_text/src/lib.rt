@@ -1,5 +1,5 @@
-//! Surveys as text, or in another form: grids, entries, totals, and whole surveys, printed at once or
-//! in chunks.
+//! Surveys as text, or in another form: grids, entries, totals, and whole surveys, printed at once
+//! or in chunks.
 #![tactic(auto)]
 
 mod entries;
