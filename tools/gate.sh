@@ -35,6 +35,8 @@ lacking() {
     hash sshd ssh rsync gawk shellcheck || echo openssh-server openssh-client rsync gawk shellcheck
     hash make mandoc man zsh fish lintian valgrind || echo make mandoc man-db zsh fish lintian valgrind
     hash python3 rustc || echo python3 rustc
+    hash chromium chromedriver pdftotext tidy || echo chromium chromium-driver poppler-utils tidy
+    /usr/bin/python3 -c 'import PIL, selenium' || echo python3-pil python3-selenium
 } 2>/dev/null
 
 # Installs the packages of which something is missing.
@@ -155,7 +157,8 @@ begin tests/solving_test.py "${compared[@]}"
 begin tests/program_test.py "${compared[@]}"
 begin tests/traps_test.py --program crates/nonograde/out/nonograde
 begin tests/findings_test.py --program crates/nonograde/out/nonograde
+begin tests/page_test.py
 begin benches/run.py test
 take "${others[@]}" tests/texts_test.py tests/solving_test.py tests/program_test.py tests/traps_test.py tests/findings_test.py \
-    benches/run.py
+    tests/page_test.py benches/run.py
 end_gate 0
