@@ -8,6 +8,8 @@ mod tests_messages;
 #[cfg(test)]
 mod tests_refused;
 #[cfg(test)]
+mod tests_refused_messages;
+#[cfg(test)]
 mod tests_refused_texts;
 #[cfg(test)]
 mod tests_texts;

@@ -2,21 +2,24 @@
 
 use check_text::{push_diagnosis_message, push_refused_message};
 use diagnosis::diagnose;
-use grid_core::NoMemory;
+use grid_core::{NoMemory, Puzzle};
 use puzzle_text::{Entry, EntryFault, read_entry, read_non};
 use solve_core::{Pick, report};
 use std::alloc::Global;
 use std::process::Abort;
 use std::test::Fail;
 
-/// Returns the message on the puzzle of a text in `.non` under a limit on guesses.
+/// Returns the message on `puzzle` under a limit on guesses.
 #[tactic(auto, using(diagnosis::proofs::Reports::report_on))]
-fn message_on(alloc: Global, text: &[u8], guesses: u32) -> Result<Vec<u8>, Fail> {
-    let puzzle = read_non(alloc, text)?;
-    let findings = report(alloc, &puzzle, guesses, Pick::First)?;
-    let diagnosis = diagnose(alloc, &puzzle, &findings)?;
+pub(crate) fn message_on(
+    alloc: Global,
+    puzzle: &Puzzle,
+    guesses: u32,
+) -> Result<Vec<u8>, NoMemory> {
+    let findings = report(alloc, puzzle, guesses, Pick::First)?;
+    let diagnosis = diagnose(alloc, puzzle, &findings)?;
     let mut message = Vec::new(alloc);
-    push_diagnosis_message(&mut message, alloc, &puzzle, guesses, &findings, &diagnosis)?;
+    push_diagnosis_message(&mut message, alloc, puzzle, guesses, &findings, &diagnosis)?;
     Ok(message)
 }
 
@@ -77,14 +80,15 @@ static PUZZLES: [PuzzleCase; 9] = [
 #[test]
 fn first_sentences_on_puzzles(rt: HostRuntime) -> Result<(), Fail> {
     for (text, guesses, wanted) in &PUZZLES {
-        let found = message_on(rt.alloc(), text, *guesses)?;
+        let puzzle = read_non(rt.alloc(), text)?;
+        let found = message_on(rt.alloc(), &puzzle, *guesses)?;
         assert_eq!(rt; found.as_slice(), *wanted);
     }
     Ok(())
 }
 
 /// Returns the message on the text `body` of the file `name`, if it is refused for `fault`.
-fn message_on_text(
+pub(crate) fn message_on_text(
     alloc: Global,
     name: &[u8],
     body: &[u8],
