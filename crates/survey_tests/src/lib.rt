@@ -10,6 +10,8 @@ mod tests_collect;
 #[cfg(test)]
 mod tests_counted;
 #[cfg(test)]
+mod tests_forms;
+#[cfg(test)]
 mod tests_parts;
 #[cfg(test)]
 mod tests_progress;

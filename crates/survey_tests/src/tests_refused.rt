@@ -3,6 +3,7 @@
 
 use crate::tests::{one_thread_survey, repeated};
 use crate::tests_answers::{assert_answers, eight_jobs};
+use crate::tests_forms::{NumberedForm, THREE, THREE_NUMBERED};
 use crate::tests_progress::{Errors, Taken, enter};
 use crate::tests_samples::{TEN, TEN_SURVEY, settings};
 use alloc_failures::{CallResult, arm, disarm, expected_if, sweep};
@@ -12,7 +13,7 @@ use std::sync::Wait;
 use std::sync::atomic::{AtomicU32, Ordering};
 use std::test::Fail;
 use std::thread::Threads;
-use survey_core::{Counted, MAX_JOBS, ProgressGate, RunFault, collect, run_survey};
+use survey_core::{Counted, MAX_JOBS, ProgressGate, RunFault, collect, run_survey, run_survey_as};
 
 /// More allocations and starts of threads than any call here makes.
 const MOST_GROWTHS: usize = 3000;
@@ -103,6 +104,39 @@ fn surveys_in_parts_are_written_or_refused(rt: HostRuntime) -> Result<(), Fail> 
     let wanted = one_thread_survey(alloc, &collection, false)?;
     sweep(alloc, || match Vec::with_capacity(alloc, 5000) {
         Ok(text) => result_of_survey(&rt, &collection, 3, text, &wanted),
+        Err(_) => CallResult::NoMemory,
+    })?;
+    Ok(())
+}
+
+/// Surveys `THREE` in the form of `NumberedForm` into `text`, whose capacity has to suffice, and
+/// classifies the result. A survey that fails has to leave `text` empty.
+fn result_of_form<R: Threads + Wait + Sync + AllocGlobal>(rt: &R, text: Vec<u8>) -> CallResult {
+    let mut reader = Counted::new(THREE.as_bytes());
+    let mut output = Counted::new(text);
+    let settings = settings(3, 1, false);
+    let form = NumberedForm { mark: b"[" };
+    match run_survey_as(
+        rt,
+        rt.alloc(),
+        &mut reader,
+        &mut output,
+        &settings,
+        &form,
+        &OpenGate,
+    ) {
+        Ok(()) => expected_if(output.inner.as_slice() == THREE_NUMBERED.as_bytes()),
+        Err(RunFault::NoMemory | RunFault::Thread) if output.inner.is_empty() =>
+            CallResult::NoMemory,
+        Err(_) => CallResult::Other,
+    }
+}
+
+#[test]
+fn forms_are_written_or_refused(rt: HostRuntime) -> Result<(), Fail> {
+    let alloc = rt.alloc();
+    sweep(alloc, || match Vec::with_capacity(alloc, 1000) {
+        Ok(text) => result_of_form(&rt, text),
         Err(_) => CallResult::NoMemory,
     })?;
     Ok(())

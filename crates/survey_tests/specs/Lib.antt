@@ -1,0 +1,2 @@
+-- The definitions that the tests use.
+pub mod NumberedForm
