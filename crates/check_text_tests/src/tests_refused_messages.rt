@@ -20,7 +20,10 @@ fn messages_on_puzzles_are_printed_or_refused(rt: HostRuntime) -> Result<(), Fai
     let alloc = rt.alloc();
     let puzzle = read_mk(alloc, b"2 3\n1 1\n2 1\n#\n1\n1\n1\n")?;
     let wanted = b"no solution: row 2 needs 4 cells (2 1) and has 3";
-    sweep(alloc, || result_of_message(message_on(alloc, &puzzle, 1000), wanted))?;
+    sweep(
+        alloc,
+        || result_of_message(message_on(alloc, &puzzle, 1000), wanted),
+    )?;
     Ok(())
 }
 

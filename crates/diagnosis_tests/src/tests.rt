@@ -176,7 +176,9 @@ fn solutions_differ_in_cells(rt: HostRuntime) -> Result<(), Fail> {
     let findings = findings_on(alloc, &puzzle_of_two)?;
     let found = diagnose(alloc, &puzzle_of_two, &findings)?;
     match &found.outcome {
-        Outcome::Ambiguous { differing, .. } => assert!(rt; differing.as_slice() == wanted.as_slice()),
+        Outcome::Ambiguous { differing, .. } => assert!(rt;
+            differing.as_slice() == wanted.as_slice()
+        ),
         Outcome::Refuted(_) | Outcome::Unique(_) | Outcome::Unsettled => {
             assert!(rt; false, "one verdict of several")
         }
