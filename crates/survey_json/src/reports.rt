@@ -72,7 +72,7 @@ fn differing_value(alloc: Global, puzzle: &Puzzle, verdict: &Verdict) -> Result<
 {
     match verdict {
         Verdict::Several(first, second) => differences_value(alloc, first, second),
-        _ => Ok(Value::Null),
+        Verdict::Nothing | Verdict::One(_) | Verdict::Unsettled(_) => Ok(Value::Null),
     }
 }
 
