@@ -172,13 +172,25 @@ fn writers_fail_before_entries_and_after(rt: HostRuntime) -> Result<(), Fail> {
     let collection = repeated(rt.alloc(), b"@ a.mk\n", 200)?;
     let wanted = refused_numbered(rt.alloc(), 200)?;
     let length = wanted.len();
-    for limit in [0, 1, 2, 3, length / 2, length - 7, length - 1] {
+    let limits = [
+        0,
+        1,
+        2,
+        3,
+        length / 2,
+        length.saturating_sub(7),
+        length.saturating_sub(1),
+    ];
+    for limit in limits {
         let (outcome, taken) = numbered_within(&rt, &collection, limit)?;
         assert!(rt;
             outcome == Err(RunFault::Write(limit as u64)),
             "{limit} bytes"
         );
-        assert!(rt; taken.as_slice() == &wanted[..limit], "{limit} bytes");
+        assert!(rt;
+            taken.len() == limit && wanted.starts_with(&taken),
+            "{limit} bytes"
+        );
     }
     Ok(())
 }
