@@ -338,6 +338,8 @@ def chosen(found, search="", verdict="all", grade="all", sort="number", is_rever
 
 def check_choosing(browser, found):
     """Checks the filters, the search and the orders of a page, by script, with the names shown and their count."""
+    for name in (b"p100.non", b"p9.non", b"p1.non", b"p10.non", b"p2.non"):
+        found = [*found, made(len(found) + 1, name, [picture_of(5)])]
     browser.open(found)
     by_filter = product(["", "A", "CUP OF", ".non", "no such"], ["all", *VERDICTS, "refused", "message"], ["all", *GRADES])
     by_order = product(["", "goal"], ["all"], ["all", "search"], ["number", "name", "size", "grade", "guesses"], [False, True])
@@ -422,9 +424,12 @@ def check_sharpness(browser):
         subject = f"{size} by {size} with {ratio} pixels, {scheme}"
         browser.results.compare("sharp picture", subject, (wanted.size, True), (shot.size, is_sharp(shot, wanted)))
     browser.prefer("light")
-    browser.resize(1280, 900)
+    browser.resize(1280, 900, 1.5)
+    browser.open([made(1, b"sharp.non", [picture_of(256)])])
+    browser.resize(1279, 900)
     wanted = wanted_picture(picture_of(256), 1, PAPER["light"])
     browser.wait("a picture on another screen", lambda: is_sharp(browser.screenshot("svg.picture"), wanted))
+    browser.resize(1280, 900)
 
 
 def luminance(colour):
@@ -538,25 +543,35 @@ def check_print(browser, what, found):
     pages = pages_of(pdf, "-raw")
     behind = next((number for number, page in enumerate(pages) if "Solutions" in page), 0)
     browser.results.compare("pages of puzzles", what, True, behind > 0 and "Search" not in "".join(pages))
-    for part in (pages[:behind], pages[behind:]):
-        shown = re.sub(r"\s", "", "\n".join(part))
-        missing = [title for title in titles if len(title) < 60 and title.replace(" ", "") not in shown]
-        browser.results.compare("titles that are not in print", what, [], missing)
+    titled = [[title for title in titles if title_in_print(title).search(page)] for page in pages]
+    browser.results.compare("titles behind", what, titles, sum(titled[behind:], []))
     check_margins(browser, what, pdf)
     browser.run("document.querySelectorAll('.sheet :is(h2, p)').forEach(it => { it.style.visibility = 'hidden'; })")
-    check_numbers(browser, what, graded, pages_of(browser.pdf())[:behind])
+    found_on = puzzles_on(browser, what, graded, pages_of(browser.pdf())[:behind])
+    wanted = [[titles[index] for index in page] for page in found_on]
+    browser.results.compare("titles of each page", what, wanted, titled[:behind])
     browser.check_quiet(f"print of {what}")
 
 
-def check_numbers(browser, what, graded, pages):
-    """Checks that each of these pages has just the numbers of some puzzles, so that none is cut at its end."""
-    waiting = [[n for _, _, n in clues_of(it)] for it in graded]
+def title_in_print(title):
+    """Returns the pattern of how a title begins in a page's text, in which it may be broken anywhere."""
+    return re.compile(r"(?<!\d)" + r"\s*".join(map(re.escape, title.replace(" ", "")[:20])))
+
+
+def puzzles_on(browser, what, graded, pages):
+    """Returns for each of these pages the indices of its puzzles. Checks that it has just their numbers, so that none is cut
+    at its end."""
+    waiting, found_on = list(enumerate([n for _, _, n in clues_of(it)] for it in graded)), []
     for number, page in enumerate(pages, 1):
-        given, wanted = sorted(map(int, page.split())), []
+        given, wanted, indices = sorted(map(int, page.split())), [], []
         while waiting and len(wanted) < len(given):
-            wanted += waiting.pop(0)
+            index, numbers = waiting.pop(0)
+            wanted += numbers
+            indices.append(index)
         browser.results.compare(f"numbers of page {number}", what, sorted(wanted), given)
-    browser.results.compare("puzzles that are not in print", what, 0, len(waiting))
+        found_on.append(indices)
+    browser.results.compare("puzzles that are not in print", what, [], waiting)
+    return found_on
 
 
 def check_margins(browser, what, pdf):
@@ -676,7 +691,8 @@ def test(results, folder):
         check_without_script(browser, files)
         check_print(browser, "files", files)
         long = [(keyword, keyword.title() + b" of a large puzzle" * 20) for keyword in readers.TEXT_KEYWORDS]
-        check_print(browser, "large", [made(1, b"large.non", [disc(256)], texts=long), made(2, b"5.non", [picture_of(5)])])
+        grids = disc(256), tuple(row[90:110] for row in disc(200)), disc(200)[90:110], picture_of(5)
+        check_print(browser, "large", [made(number, b"a.non", [grid], texts=long) for number, grid in enumerate(grids, 1)])
         check_button(browser, files)
         check_more(browser)
         check_many(browser)
