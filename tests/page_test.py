@@ -530,6 +530,34 @@ CLUES = """
     }))"""
 
 
+# Returns of the first printed puzzle, for each axis, how wide the line before each of its cells is, and at the end of the
+# last; first across the grid, and then across the clues at its edge.
+LINES = """
+    const [svg] = document.querySelectorAll(".clues");
+    const width = point => Math.max(0, ...[...svg.querySelectorAll("path")].map(path =>
+        path.isPointInStroke(point) ? Number.parseFloat(getComputedStyle(path).strokeWidth) : 0));
+    const numbers = count => [...Array(count + 1).keys()].map(number => number * 20);
+    return [10, -10].flatMap(beside => [
+        numbers(arguments[0]).map(x => width(new DOMPoint(x, beside))),
+        numbers(arguments[1]).map(y => width(new DOMPoint(beside, y))),
+    ]);"""
+
+
+def check_lines(browser):
+    """Checks the lines of printed puzzles: every fifth and the last are stronger, and go on between the clues."""
+    for width, height in ((1, 1), (5, 10), (12, 19)):
+        browser.open([made(1, b"lines.non", [tuple(row[:width] for row in disc(20)[:height])])], "#print")
+        browser.driver.execute_cdp_cmd("Emulation.setEmulatedMedia", {"media": "print"})
+        script = "return parseFloat(getComputedStyle(document.querySelector(arguments[0])).strokeWidth)"
+        thin, thick = browser.run(script, ".thin"), browser.run(script, ".thick")
+        sides = [[thick if n % 5 == 0 or n == side else thin for n in range(side + 1)] for side in (width, height)]
+        beside = [[n if n == thick else 0 for n in side] for side in sides]
+        given = browser.run(LINES, width, height)
+        browser.results.compare("lines of a printed puzzle", (width, height), sides + beside, given)
+        browser.results.compare("strength of the lines", (thin, thick), True, thick > 2 * thin > 0)
+    browser.driver.execute_cdp_cmd("Emulation.setEmulatedMedia", {"media": ""})
+
+
 def check_print(browser, what, found):
     """Checks the printed puzzles: their clues, their titles, each on one page, and their solutions on pages behind."""
     browser.open(found, "#print")
@@ -693,6 +721,7 @@ def test(results, folder):
         long = [(keyword, keyword.title() + b" of a large puzzle" * 20) for keyword in readers.TEXT_KEYWORDS]
         grids = disc(256), tuple(row[90:110] for row in disc(200)), disc(200)[90:110], picture_of(5)
         check_print(browser, "large", [made(number, b"a.non", [grid], texts=long) for number, grid in enumerate(grids, 1)])
+        check_lines(browser)
         check_button(browser, files)
         check_more(browser)
         check_many(browser)
