@@ -2,6 +2,7 @@
 pub mod Grids
 pub mod Goals
 pub mod Entries
+pub mod Faults
 pub mod Totals
 pub mod Survey
 pub mod Forms

@@ -3,6 +3,7 @@
 #![tactic(auto)]
 
 mod entries;
+mod faults;
 mod forms;
 mod goals;
 pub mod laws;
@@ -14,8 +15,10 @@ mod pictures;
 mod printing;
 mod texts;
 mod totals;
+mod words;
 
 pub use entries::{print_entry, print_graded};
+pub use faults::{fault_line, fault_name};
 pub use forms::{SurveyForm, TextForm};
 pub use listed::{GradedPuzzle, ListedEntry};
 pub use listings::AnswerListing;
@@ -25,3 +28,4 @@ pub use pictures::push_grid;
 pub use printing::print_survey;
 pub use texts::{ChunkTexts, SurveyText};
 pub use totals::{GradeTotals, Totals, VerdictTotals};
+pub use words::{goal_text, grade_word, verdict_word};

@@ -1,6 +1,6 @@
 //! Entries with their results, as a form prints them.
 
-ghost use Rattle.std.specs.Prelude.{◌≡◌};
+ghost use Rattle.std.specs.Prelude.{◌≡◌, Ok};
 ghost use Rattle.survey_text.specs.Goals.{goal_word};
 
 use crate::goals::goal_word;
@@ -18,6 +18,7 @@ pub struct GradedPuzzle<'a> {
     pub findings: &'a Findings,
     /// Whether the puzzle has a goal, and whether that meets the clues.
     pub goal: GoalWord,
+    pub ghost found_is: { answer.now.outcome ≡ Ok findings.now },
     pub ghost goal_is: { goal ≡ goal_word answer.now.puzzle },
 }
 
