@@ -1,6 +1,7 @@
 -- The definitions that public contracts use.
 pub mod Ambiguity
 pub mod ClueTexts
+pub mod EntryMessages
 pub mod Findings
 pub mod Goals
 pub mod Grades

@@ -3,6 +3,7 @@
 
 mod ambiguity;
 mod clue_texts;
+mod entry_messages;
 mod findings;
 mod goals;
 mod grades;
@@ -24,6 +25,7 @@ mod unsettled;
 mod unsolvable;
 mod windows;
 
+pub use entry_messages::{diagnosis_of, push_message};
 pub use heads::Level;
 pub use messages::{push_diagnosis_message, push_refused_message};
 pub use puzzle_findings::{CheckOptions, push_graded};
