@@ -1,4 +1,3 @@
--- The lemmas on records and fault words.
-pub mod ColonLemmas
+-- The lemmas on records.
 pub mod ReadBack
 pub mod TableLemmas

@@ -1,5 +1,5 @@
 -- The records of a table of entries are read back as their fields.
-use Rattle.std.proofs.Common.{◌≡◌, ◌∙◌, refl, ap, Option, Result, List, ℕ, [], ◌∷◌, ◌++◌, map, Ok, Err, Some}
+use Rattle.std.proofs.Common.{◌≡◌, ◌∙◌, refl, ap, Result, List, ℕ, [], ◌∷◌, ◌++◌, map, Ok, Err, Some}
 use Rattle.std.specs.List.{flat_map}
 use Rattle.csv.specs.Reading.{default_config, records, strip_bom}
 use Rattle.csv.specs.Writing.{default_writer, fields_text, is_blank, read_back, row_text}
@@ -8,19 +8,19 @@ use Rattle.csv.proofs.RoundTrip.{read-write}
 use Rattle.grid_core.specs.Nonogram.{Nonogram}
 use Rattle.puzzle_text.specs.declared.faults.EntryFault.{EntryFault}
 use Rattle.solve_core.specs.declared.findings.Findings.{Findings}
-use Rattle.survey_csv.specs.Fields.{column_names, csv_fields, csv_header}
+use Rattle.survey_csv.specs.Fields.{column_names, csv_header, result_fields}
 use Rattle.survey_csv.specs.Laws.{RowIsReadBack, TableEntry, TableIsReadBack, entry_fields, entry_row}
 use Rattle.survey_csv.proofs.TableLemmas.{table_records, table_text}
 
 -- a record of the fields of an entry is read back as these fields
-same_csv_fields : (number : ℕ) (name : List ℕ) (result : Result (Nonogram × Findings) EntryFault) (message : Option (List ℕ))
-    → read_back (csv_fields number name result message) ≡ csv_fields number name result message
-same_csv_fields number name (Ok found) message = refl
-same_csv_fields number name (Err fault) message = refl
+same_result_fields : (number : ℕ) (name : List ℕ) (found : Result (Nonogram × Findings) EntryFault) (message : List ℕ)
+    → read_back (result_fields number name found message) ≡ result_fields number name found message
+same_result_fields number name (Ok found) message = refl
+same_result_fields number name (Err fault) message = refl
 
 -- the same for an entry of a table
-same_fields : (entry : TableEntry) → read_back (entry_fields entry) ≡ entry_fields entry
-same_fields entry = same_csv_fields entry.number entry.name entry.result entry.message
+same_fields : (listed : TableEntry) → read_back (entry_fields listed) ≡ entry_fields listed
+same_fields listed = same_result_fields listed.number listed.entry.name listed.entry.result listed.message
 
 -- the same for records of several entries
 all_same_fields : (entries : List TableEntry) → map read_back (map entry_fields entries) ≡ map entry_fields entries

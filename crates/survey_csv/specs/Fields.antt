@@ -1,13 +1,14 @@
 -- The columns of a survey in csv, and the fields of an entry.
-use Rattle.std.specs.Prelude.{ℕ, List, [], ◌∷◌, codes, decimal, Option, unwrap_or, Result, Ok, Err}
+use Rattle.std.specs.Prelude.{ℕ, List, [], ◌∷◌, codes, decimal, unwrap_or, Result, Ok, Err}
+use Rattle.std.specs.Option.{option_map_or}
 use Rattle.grid_core.specs.Description.{text_of}
 use Rattle.grid_core.specs.Nonogram.{Nonogram}
 use Rattle.grid_core.specs.declared.fields.Field.TheVariants.{By, Title}
 use Rattle.puzzle_text.specs.declared.faults.EntryFault.{EntryFault}
 use Rattle.solve_core.specs.declared.findings.Findings.{Findings}
-use Rattle.survey_text.specs.Entries.{grade_word, verdict_word}
+use Rattle.survey_text.specs.Entries.{GradedEntry, grade_word, verdict_word}
+use Rattle.survey_text.specs.Faults.{fault_line, fault_name}
 use Rattle.survey_text.specs.Goals.{goal_text, goal_word}
-use Rattle.survey_csv.specs.Faults.{fault_line, fault_name}
 
 -- the names of the columns
 abbrev pub column_names : List (List ℕ)
@@ -31,17 +32,20 @@ graded_fields number name p findings message =
     ∷ goal_text (goal_word p) ∷ [] ∷ [] ∷ message
     ∷ unwrap_or (text_of p.texts Title) [] ∷ unwrap_or (text_of p.texts By) [] ∷ []
 
--- the fields of entry `number`, which is refused: only its number and name, its fault, the line of
--- that, and the message are not empty
+-- the fields of entry `number`, which is refused: only its number and name, its fault, the line
+-- that it names, if any, and the message are not empty
 abbrev pub refused_fields : ℕ → List ℕ → EntryFault → List ℕ → List (List ℕ)
 refused_fields number name fault message =
     decimal number ∷ name ∷ [] ∷ [] ∷ [] ∷ [] ∷ [] ∷ [] ∷ [] ∷ [] ∷ fault_name fault
-    ∷ fault_line fault ∷ message ∷ [] ∷ [] ∷ []
+    ∷ option_map_or decimal (fault_line fault) [] ∷ message ∷ [] ∷ [] ∷ []
 
--- the fields of entry `number` with this name, this result and this message, if there is one
-abbrev pub csv_fields
-    : ℕ → List ℕ → Result (Nonogram × Findings) EntryFault → Option (List ℕ) → List (List ℕ)
-csv_fields number name (Ok found) message =
-    graded_fields number name found.0 found.1 (unwrap_or message [])
-csv_fields number name (Err fault) message =
-    refused_fields number name fault (unwrap_or message [])
+-- the fields of entry `number` with this name, this result and this message
+abbrev pub result_fields
+    : ℕ → List ℕ → Result (Nonogram × Findings) EntryFault → List ℕ → List (List ℕ)
+result_fields number name (Ok found) message =
+    graded_fields number name found.0 found.1 message
+result_fields number name (Err fault) message = refused_fields number name fault message
+
+-- the fields of `entry`, which has the number `number`, with this message
+abbrev pub csv_fields : ℕ → GradedEntry → List ℕ → List (List ℕ)
+csv_fields number entry message = result_fields number entry.name entry.result message

@@ -1,5 +1,5 @@
 -- The definitions that public contracts use.
-pub mod Faults
 pub mod Fields
+pub mod Forms
 pub mod Laws
 pub mod Rows

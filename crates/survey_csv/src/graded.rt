@@ -4,26 +4,28 @@ ghost use Rattle.std.specs.Prelude.{◌≡◌, ◌++◌, OnOk};
 ghost use Rattle.csv.specs.Writing.{default_writer, row_text};
 ghost use Rattle.survey_csv.specs.Fields.{graded_fields};
 
+use crate::fields::{goal_field, grade_field, text_or_empty, verdict_field};
 use crate::records::push_record;
-use crate::words::{goal_text, grade_word, text_or_empty, verdict_word};
-use grid_core::{Field, NoMemory, Puzzle};
+use grid_core::{Field, NoMemory};
 use itoa::Buffer;
-use solve_core::Findings;
 use std::alloc::Global;
+use survey_text::GradedPuzzle;
 
-/// Appends the record of an entry whose puzzle was graded with these findings.
+/// Appends the record of an entry with this name and this graded puzzle.
 pub(crate) fn push_graded_row<'a>(
     text: &mut Vec<u8>,
     alloc: Global,
     number: u32,
     name: &'a [u8],
-    puzzle: &'a Puzzle,
-    findings: &'a Findings,
-    message: &'a [u8],
+    graded: &GradedPuzzle<'a>,
+    message: &[u8],
 ) -> Result<(), NoMemory>
-    ensures { OnOk result (text.new.items ≡ text.old.items ++ row_text default_writer
-        (graded_fields number name.now puzzle.now findings.now message.now)) }
+    ensures { OnOk result (text.new.items ≡ text.old.items ++ row_text default_writer (graded_fields
+        number name.now graded.now.answer.now.puzzle graded.now.findings.now message.now)) }
 {
+    let puzzle = graded.puzzle();
+    let findings = graded.findings;
+    let goal = graded.goal;
     let mut number_digits = Buffer::new();
     let mut width_digits = Buffer::new();
     let mut height_digits = Buffer::new();
@@ -35,12 +37,12 @@ pub(crate) fn push_graded_row<'a>(
         name,
         width_digits.format(puzzle.width()).as_bytes(),
         height_digits.format(puzzle.height()).as_bytes(),
-        verdict_word(&findings.verdict),
-        grade_word(&findings.grade),
+        verdict_field(&findings.verdict),
+        grade_field(&findings.grade),
         line_digits.format(findings.line_known).as_bytes(),
         trial_digits.format(findings.trial_known).as_bytes(),
         guess_digits.format(findings.spent).as_bytes(),
-        goal_text(puzzle),
+        goal_field(&goal),
         b"",
         b"",
         message,

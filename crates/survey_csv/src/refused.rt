@@ -4,12 +4,13 @@ ghost use Rattle.std.specs.Prelude.{◌≡◌, ◌++◌, OnOk};
 ghost use Rattle.csv.specs.Writing.{default_writer, row_text};
 ghost use Rattle.survey_csv.specs.Fields.{refused_fields};
 
-use crate::faults::split_at_colon;
+use crate::fields::{fault_field, optional_number};
 use crate::records::push_record;
 use grid_core::NoMemory;
 use itoa::Buffer;
-use puzzle_text::{EntryFault, fault_text};
+use puzzle_text::EntryFault;
 use std::alloc::Global;
+use survey_text::fault_line;
 
 /// Appends the record of an entry that is refused for `fault`.
 pub(crate) fn push_refused_row(
@@ -17,15 +18,14 @@ pub(crate) fn push_refused_row(
     alloc: Global,
     number: u32,
     name: &[u8],
-    fault: &EntryFault,
+    fault: EntryFault,
     message: &[u8],
 ) -> Result<(), NoMemory>
     ensures { OnOk result (text.new.items ≡ text.old.items ++ row_text default_writer
-        (refused_fields number name.now fault.now message.now)) }
+        (refused_fields number name.now fault message.now)) }
 {
     let mut number_digits = Buffer::new();
-    let word = fault_text(alloc, fault)?;
-    let (fault_name, fault_line) = split_at_colon(&word);
+    let mut line_digits = Buffer::new();
     let fields: [&[u8]; 15] = [
         number_digits.format(number).as_bytes(),
         name,
@@ -37,8 +37,8 @@ pub(crate) fn push_refused_row(
         b"",
         b"",
         b"",
-        fault_name,
-        fault_line,
+        fault_field(&fault),
+        optional_number(&mut line_digits, fault_line(fault)),
         message,
         b"",
         b"",

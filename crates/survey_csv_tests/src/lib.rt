@@ -4,6 +4,8 @@
 #[cfg(test)]
 mod tests;
 #[cfg(test)]
+mod tests_forms;
+#[cfg(test)]
 mod tests_quoting;
 #[cfg(test)]
 mod tests_refused;

@@ -1,10 +1,13 @@
 //! Tests of the bytes of names, titles and messages. The lines are written by hand: a field with a
 //! comma, a quote, CR or LF is in quotes, with each quote in it twice, and all bytes are kept.
 
-use crate::tests::{outcome_of, record};
+use crate::tests::{listed, outcome_of, record};
+use grid_core::NoMemory;
 use puzzle_text::EntryFault;
+use std::alloc::Global;
 use std::process::Abort;
 use std::test::Fail;
+use survey_text::ListedEntry;
 
 /// A name and its field.
 type Named = (&'static [u8], &'static [u8]);
@@ -22,6 +25,13 @@ static NAMES: [Named; 10] = [
     (b"\xC3\xA9,\xE2\x82", b"\"\xC3\xA9,\xE2\x82\""),
 ];
 
+/// Returns the record of entry 1, which has no format.
+fn refused_record(alloc: Global, name: &[u8], message: &[u8]) -> Result<Vec<u8>, NoMemory> {
+    let entry = ListedEntry::refused(name, b"", EntryFault::UnknownFormat);
+    let text = record(alloc, 1, &entry, message)?;
+    Ok(text)
+}
+
 #[test]
 fn names_are_quoted_if_needed(rt: HostRuntime) -> Result<(), Fail> {
     let alloc = rt.alloc();
@@ -30,13 +40,13 @@ fn names_are_quoted_if_needed(rt: HostRuntime) -> Result<(), Fail> {
         wanted.extend_from_slice(b"1,")?;
         wanted.extend_from_slice(field)?;
         wanted.extend_from_slice(b",,,,,,,,,UnknownFormat,,,,\n")?;
-        let found = record(alloc, 1, name, &Err(EntryFault::UnknownFormat), None)?;
+        let found = refused_record(alloc, name, b"")?;
         assert_eq!(rt; found.as_slice(), wanted.as_slice());
     }
     Ok(())
 }
 
-/// Messages are quoted by the same rule. An empty one is written as none.
+/// Messages are quoted by the same rule.
 #[test]
 fn messages_are_quoted_if_needed(rt: HostRuntime) -> Result<(), Fail> {
     let alloc = rt.alloc();
@@ -45,20 +55,9 @@ fn messages_are_quoted_if_needed(rt: HostRuntime) -> Result<(), Fail> {
         wanted.extend_from_slice(b"1,a,,,,,,,,,UnknownFormat,,")?;
         wanted.extend_from_slice(field)?;
         wanted.extend_from_slice(b",,\n")?;
-        let found = record(
-            alloc,
-            1,
-            b"a",
-            &Err(EntryFault::UnknownFormat),
-            Some(message),
-        )?;
+        let found = refused_record(alloc, b"a", message)?;
         assert_eq!(rt; found.as_slice(), wanted.as_slice());
     }
-    let empty = record(alloc, 1, b"a", &Err(EntryFault::UnknownFormat), Some(b""))?;
-    assert_eq!(rt;
-        empty.as_slice(),
-        b"1,a,,,,,,,,,UnknownFormat,,,,\n".as_slice()
-    );
     Ok(())
 }
 
@@ -69,7 +68,7 @@ fn assert_texts(rt: &(impl Abort + AllocGlobal), lines: &[u8], wanted: &[u8]) ->
     body.extend_from_slice(lines)?;
     body.extend_from_slice(b"width 1\nheight 1\nrows\n1\ncolumns\n1\n")?;
     let outcome = outcome_of(alloc, b"a.non", &body, 0);
-    let found = record(alloc, 1, b"a.non", &outcome, None)?;
+    let found = record(alloc, 1, &listed(b"a.non", &body, &outcome)?, b"")?;
     assert_eq!(rt; found.as_slice(), wanted);
     Ok(())
 }
