@@ -11,6 +11,7 @@ use Rattle.solve_core.specs.declared.findings.Findings.{Findings}
 use Rattle.solve_core.specs.declared.findings.Verdict.{Verdict}
 use Rattle.solve_core.specs.declared.findings.Verdict.TheVariants.{Nothing, One, Several, Unsettled}
 use Rattle.survey_text.specs.Entries.{solutions_of}
+use Rattle.survey_text.specs.Faults.{fault_line}
 use Rattle.serde_json.specs.Data.{Data, Items, Members, array, depth, item, items_depth, member, members_depth, no_items, no_members, null, object, put, string}
 use Rattle.serde_json.specs.Read.{max_depth}
 use Rattle.serde_json.specs.View.{items_of}
@@ -20,7 +21,6 @@ use Rattle.diagnosis.specs.Sums.{sums_of}
 use Rattle.diagnosis.specs.declared.misfits.Misfit.{Misfit}
 use Rattle.diagnosis.specs.declared.sums.Sums.{Sums}
 use Rattle.survey_json.specs.Entries.{clue_members, description_members, differing_data, entry_object, graded_keys, graded_members, heading_members, null_members, puzzle_members, report_members, result_members, solution_members}
-use Rattle.survey_json.specs.Faults.{fault_line}
 use Rattle.survey_json.specs.Pictures.{grid_data, picture_or_null}
 use Rattle.survey_json.specs.Puzzles.{clue_data, clues_data, misfit_data, sums_data}
 use Rattle.survey_json.specs.Values.{array_of, number_data, number_or_null, object_with, text_or_null, with_members}
@@ -165,10 +165,10 @@ flat_puzzle p = (
   (flat_number 2 _, (flat_clues _, (flat_clues _, (flat_string 2 _, (deeper 1 2 _ (omega arith) (flat_goal p p.goal), tt))))),
 )
 
-flat_clue_checks : (p : Nonogram) → AreFlat 2 (clue_members p)
-flat_clue_checks p = (
-  flat_map_array 1 misfit_data (misfits_of p) flat_misfit,
-  (deeper 1 2 (sums_data (sums_of p)) (omega arith) (flat_sums (sums_of p)), tt),
+flat_clue_checks : (misfits : List Misfit) (sums : Sums) → AreFlat 2 (clue_members misfits sums)
+flat_clue_checks misfits sums = (
+  flat_map_array 1 misfit_data misfits flat_misfit,
+  (deeper 1 2 (sums_data sums) (omega arith) (flat_sums sums), tt),
 )
 
 flat_report : (findings : Findings) → AreFlat 2 (report_members findings)
@@ -183,12 +183,12 @@ flat_solutions verdict = (
 flat_graded : (p : Nonogram) (findings : Findings) → AreFlat 2 (graded_members p findings)
 flat_graded p findings =
     let puzzle = puzzle_members p in
-    let clues = clue_members p in
+    let clues = clue_members (misfits_of p) (sums_of p) in
     let report = report_members findings in
     let solutions = solution_members findings.verdict in
     flat_append 2 (description_members p.texts) (puzzle ++ (clues ++ (report ++ solutions))) (flat_description p.texts)
     (flat_append 2 puzzle (clues ++ (report ++ solutions)) (flat_puzzle p)
-    (flat_append 2 clues (report ++ solutions) (flat_clue_checks p)
+    (flat_append 2 clues (report ++ solutions) (flat_clue_checks (misfits_of p) (sums_of p))
     (flat_append 2 report solutions (flat_report findings) (flat_solutions findings.verdict))))
 
 flat_result : (result : Result (Nonogram × Findings) EntryFault) → AreFlat 2 (result_members result)

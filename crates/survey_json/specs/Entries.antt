@@ -6,11 +6,16 @@ use Rattle.solve_core.specs.declared.findings.Findings.{Findings}
 use Rattle.solve_core.specs.declared.findings.Verdict.{Verdict}
 use Rattle.solve_core.specs.declared.findings.Verdict.TheVariants.{Nothing, One, Several, Unsettled}
 use Rattle.puzzle_text.specs.declared.faults.EntryFault.{EntryFault}
+use Rattle.diagnosis.specs.Misfits.{misfits_of}
 use Rattle.diagnosis.specs.Sums.{sums_of}
+use Rattle.diagnosis.specs.declared.misfits.Misfit.{Misfit}
+use Rattle.diagnosis.specs.declared.sums.Sums.{Sums}
 use Rattle.survey_text.specs.Entries.{grade_word, solutions_of, verdict_word}
+use Rattle.survey_text.specs.Faults.{fault_line, fault_name}
+use Rattle.survey_text.specs.Forms.{FormEntry, found_in}
 use Rattle.survey_text.specs.Goals.{goal_text, goal_word}
+use Rattle.check_text.specs.EntryMessages.{entry_message}
 use Rattle.serde_json.specs.Data.{Data, null, string}
-use Rattle.survey_json.specs.Faults.{fault_line, fault_name}
 use Rattle.survey_json.specs.Pictures.{differences_data, goal_data, grid_data}
 use Rattle.survey_json.specs.Puzzles.{clues_data, misfits_data, sums_data}
 use Rattle.survey_json.specs.Values.{array_of, number_data, number_or_null, object_with, text_data, text_or_null}
@@ -53,9 +58,10 @@ puzzle_members p =
     ∷ (codes "goal_rows", goal_data p)
     ∷ []
 
--- the clues of `p` that don't fit their line, and how many cells its clues fill
-abbrev pub clue_members : Nonogram → List (List ℕ × Data)
-clue_members p = (codes "misfits", misfits_data p) ∷ (codes "sums", sums_data (sums_of p)) ∷ []
+-- the clues that don't fit their line, and how many cells the clues fill
+abbrev pub clue_members : List Misfit → Sums → List (List ℕ × Data)
+clue_members misfits sums =
+    (codes "misfits", misfits_data misfits) ∷ (codes "sums", sums_data sums) ∷ []
 
 -- what a puzzle took: its verdict and grade, and the counts of its report
 abbrev pub report_members : Findings → List (List ℕ × Data)
@@ -84,8 +90,8 @@ solution_members verdict =
 -- what a graded entry has of its puzzle `p` and of the findings on that
 abbrev pub graded_members : Nonogram → Findings → List (List ℕ × Data)
 graded_members p findings =
-    description_members p.texts ++ puzzle_members p ++ clue_members p ++ report_members findings
-    ++ solution_members findings.verdict
+    description_members p.texts ++ puzzle_members p ++ clue_members (misfits_of p) (sums_of p)
+    ++ report_members findings ++ solution_members findings.verdict
 
 -- the keys of `graded_members`
 abbrev pub graded_keys : List (List ℕ)
@@ -111,3 +117,13 @@ abbrev pub entry_object :
     ℕ → List ℕ → Result (Nonogram × Findings) EntryFault → Option (List ℕ) → Data
 entry_object number name result message =
     object_with (heading_members number name message ++ result_members result)
+
+-- `bytes`, or nothing if they are empty
+abbrev pub if_any : List ℕ → Option (List ℕ)
+if_any [] = None
+if_any (byte ∷ bytes) = Some (byte ∷ bytes)
+
+-- the object of `entry`, which has this number
+abbrev pub object_of : ℕ → FormEntry → Data
+object_of number entry =
+    entry_object number entry.name (found_in entry.result) (if_any (entry_message entry))

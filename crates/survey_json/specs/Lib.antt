@@ -2,8 +2,8 @@
 pub mod Values
 pub mod Pictures
 pub mod Puzzles
-pub mod Faults
 pub mod Entries
 pub mod Totals
 pub mod Escaping
 pub mod Lines
+pub mod Forms

@@ -2,7 +2,8 @@
 use Rattle.std.specs.Prelude.{ℕ, ◌+◌, ◌*◌, Bool, false, List, map, Option, Some, None, if◌then◌else◌, slice_index_or}
 use Rattle.std.specs.List.{range_with_len}
 use Rattle.grid_core.specs.Nonogram.{Nonogram}
-use Rattle.grid_core.specs.PartialGrid.{PartialGrid, cell_at}
+use Rattle.grid_core.specs.PartialGrid.{PartialGrid}
+use Rattle.grid_core.specs.Rows.{row_of}
 use Rattle.diagnosis.specs.Differences.{is_different}
 use Rattle.survey_text.specs.Grids.{cell_byte}
 use Rattle.serde_json.specs.Data.{Data, null, string}
@@ -10,7 +11,7 @@ use Rattle.survey_json.specs.Values.{array_of}
 
 -- row `y` of `g`: `#` for a filled cell, `.` for a blank one, `?` for an unknown one
 abbrev pub grid_row : PartialGrid → ℕ → List ℕ
-grid_row g y = map (λ x. cell_byte (cell_at g x y)) (range_with_len 0 g.width)
+grid_row g y = map cell_byte (row_of g y)
 
 -- the picture of `g`
 abbrev pub grid_data : PartialGrid → Data

@@ -1,9 +1,7 @@
 -- What an entry's object has of its puzzle: clues, and what is wrong with them.
 use Rattle.std.specs.Prelude.{ℕ, List, [], ◌∷◌, codes, map}
-use Rattle.grid_core.specs.Nonogram.{Nonogram}
 use Rattle.grid_core.specs.declared.axes.Axis.{Axis}
 use Rattle.grid_core.specs.declared.axes.Axis.TheVariants.{Rows, Columns}
-use Rattle.diagnosis.specs.Misfits.{misfits_of}
 use Rattle.diagnosis.specs.declared.misfits.Misfit.{Misfit}
 use Rattle.diagnosis.specs.declared.sums.Sums.{Sums}
 use Rattle.serde_json.specs.Data.{Data, string}
@@ -32,9 +30,9 @@ misfit_data misfit = object_with (
     ∷ []
     )
 
--- the clues of `p` that don't fit their line
-abbrev pub misfits_data : Nonogram → Data
-misfits_data p = array_of (map misfit_data (misfits_of p))
+-- the clues that don't fit their line
+abbrev pub misfits_data : List Misfit → Data
+misfits_data misfits = array_of (map misfit_data misfits)
 
 -- how many cells clues fill
 abbrev pub sums_data : Sums → Data

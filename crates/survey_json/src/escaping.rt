@@ -1,21 +1,11 @@
 //! Lines for the data of a page.
 
 ghost use Rattle.std.specs.Prelude.{◌≡◌, ◌++◌, OnOk};
-ghost use Rattle.survey_json.specs.Escaping.{escaped, escaped_byte};
+ghost use Rattle.survey_json.specs.Escaping.{escaped};
 
 use grid_core::NoMemory;
+use memchr::memchr;
 use puzzle_text::push_bytes;
-
-/// Appends a byte of a line, `\u003c` for `<`.
-fn push_escaped_byte(text: &mut Vec<u8>, byte: u8) -> Result<(), NoMemory>
-    ensures { OnOk result (text.new.items ≡ text.old.items ++ escaped_byte byte) }
-{
-    if byte == b'<' {
-        return push_bytes(text, b"\\u003c");
-    }
-    text.push(byte)?;
-    Ok(())
-}
 
 /// Appends `line` with each `<` as `\u003c`, which means the same in a string of JSON, so that the
 /// line doesn't end the element of a page in which it stands. Fails with `NoMemory` if an allocation
@@ -23,8 +13,11 @@ fn push_escaped_byte(text: &mut Vec<u8>, byte: u8) -> Result<(), NoMemory>
 pub fn push_escaped(text: &mut Vec<u8>, line: &[u8]) -> Result<(), NoMemory>
     ensures { OnOk result (text.new.items ≡ text.old.items ++ escaped line.now) }
 {
-    for byte in line {
-        push_escaped_byte(text, *byte)?;
+    let mut rest = line;
+    while let Some(at) = memchr(b'<', rest) {
+        push_bytes(text, &rest[..at])?;
+        push_bytes(text, b"\\u003c")?;
+        rest = &rest[at + 1..];
     }
-    Ok(())
+    push_bytes(text, rest)
 }

@@ -1,54 +1,16 @@
-//! A fault as its word alone, and the number of its line.
+//! What an entry's object has of the fault for which it is refused.
 
 ghost use Rattle.std.specs.Prelude.{◌≡◌, None, OnOk, Some};
 ghost use Rattle.serde_json.specs.View.{members_view, view};
 ghost use Rattle.survey_json.specs.Entries.{fault_members};
-ghost use Rattle.survey_json.specs.Faults.{fault_line, fault_name, text_fault_name};
 ghost use Rattle.survey_json.specs.Values.{number_or_null, with_members};
 
 use crate::values::{Members, word_value};
 use grid_core::NoMemory;
-use puzzle_text::{EntryFault, TextFault};
+use puzzle_text::EntryFault;
 use serde_json::{Value, put};
 use std::alloc::Global;
-
-/// Returns the name of a fault of a puzzle's text.
-fn text_fault_name(fault: TextFault) -> &'static str
-    ensures { result.now ≡ text_fault_name fault }
-{
-    match fault {
-        TextFault::TooLong => "TooLong",
-        TextFault::NoSize => "NoSize",
-        TextFault::BadSize => "BadSize",
-        TextFault::NoSection => "NoSection",
-        TextFault::BadLine(_) => "BadLine",
-        TextFault::Twice(_) => "Twice",
-        TextFault::BadCount => "BadCount",
-        TextFault::BadNumber(_) => "BadNumber",
-        TextFault::BadGoal(_) => "BadGoal",
-        TextFault::NoMemory => "NoMemory",
-    }
-}
-
-/// Returns the name of an entry's fault: its word without the number of a line.
-fn fault_name(fault: EntryFault) -> &'static str
-    ensures { result.now ≡ fault_name fault }
-{
-    match fault {
-        EntryFault::UnknownFormat => "UnknownFormat",
-        EntryFault::Text(fault) => text_fault_name(fault),
-    }
-}
-
-/// Returns the number of the line of the text that a fault names, if it names one.
-fn fault_line(fault: EntryFault) -> Option<u32>
-    ensures { result ≡ fault_line fault }
-{
-    match fault {
-        EntryFault::UnknownFormat => None,
-        EntryFault::Text(fault) => fault.line_number(),
-    }
-}
+use survey_text::{fault_line, fault_name};
 
 /// Returns a number, or null if there is none.
 fn optional_number(number: Option<u32>) -> Value

@@ -3,22 +3,13 @@
 ghost use Rattle.std.specs.Prelude.{◌≡◌, ◌==◌, ℕ, List, false, map};
 ghost use Rattle.std.specs.List.{list_any};
 ghost use Rattle.grid_core.specs.Nonogram.{Nonogram};
-ghost use Rattle.puzzle_text.specs.Words.{numbered_word, word_of};
-ghost use Rattle.puzzle_text.specs.declared.faults.EntryFault.{EntryFault};
 ghost use Rattle.solve_core.specs.declared.findings.Findings.{Findings};
 ghost use Rattle.survey_json.specs.Entries.{graded_keys, graded_members};
 ghost use Rattle.survey_json.specs.Escaping.{escaped};
-ghost use Rattle.survey_json.specs.Faults.{fault_line, fault_name};
 
 /// An escaped line has no `<`.
 pub fn escaped_lines_have_no_less_than_sign()
     ensures { (line : List ℕ) → list_any (λ byte. byte == 60) (escaped line) ≡ false }
-{}
-
-/// The name of a fault and the number of its line are what its word consists of.
-pub fn fault_words_are_names_and_lines()
-    ensures { (fault : EntryFault) → word_of fault
-        ≡ numbered_word (fault_name fault) (fault_line fault) }
 {}
 
 /// The object of a graded entry and that of a refused one have the same keys.

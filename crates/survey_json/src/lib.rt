@@ -4,6 +4,7 @@
 mod entries;
 mod escaping;
 mod faults;
+mod forms;
 pub mod laws;
 mod lines;
 mod pictures;
@@ -14,4 +15,5 @@ mod values;
 
 pub use entries::push_json_line;
 pub use escaping::push_escaped;
+pub use forms::JsonForm;
 pub use totals::{EntryCounts, push_json_totals};

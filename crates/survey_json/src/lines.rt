@@ -19,7 +19,7 @@ pub(crate) fn push_line(text: &mut Vec<u8>, alloc: Global, value: &Value) -> Res
     ensures line { OnOk result (text.new.items ≡ text.old.items ++ line_of (view value.now)) }
     ensures reads_back { OnOk result (ReadsBack (view value.now)) }
 {
-    let line = value.to_vec(alloc)?;
-    push_bytes(text, &line)?;
-    push_bytes(text, b"\n")
+    let mut line = value.to_vec(alloc)?;
+    line.push(b'\n')?;
+    push_bytes(text, &line)
 }

@@ -2,17 +2,17 @@
 
 ghost use Rattle.std.specs.Prelude.{◌≡◌, IfOk, OnOk};
 ghost use Rattle.serde_json.specs.View.{members_view, view};
-ghost use Rattle.survey_text.specs.Goals.{goal_text, goal_word};
 ghost use Rattle.survey_json.specs.Entries.{clue_members, description_members, puzzle_members};
 ghost use Rattle.survey_json.specs.Puzzles.{axis_word, clue_data, clues_data, misfit_data, misfits_data, sums_data};
 ghost use Rattle.survey_json.specs.Values.{with_members};
 
 use crate::pictures::goal_value;
 use crate::values::{Members, optional_text, word_value};
-use diagnosis::{Misfit, Sums, puzzle_misfits, puzzle_sums};
-use grid_core::{Axis, Clue, Field, GoalWord, NoMemory, Puzzle, Texts};
+use diagnosis::{Misfit, Sums};
+use grid_core::{Axis, Clue, Field, NoMemory, Texts};
 use serde_json::{Value, put};
 use std::alloc::Global;
+use survey_text::{GradedPuzzle, goal_text};
 
 /// Returns the array of a clue's numbers.
 fn clue_value(alloc: Global, clue: &Clue) -> Result<Value, NoMemory>
@@ -64,12 +64,11 @@ fn misfit_value(alloc: Global, misfit: Misfit) -> Result<Value, NoMemory>
 }
 
 /// Returns the array of the clues that don't fit their line.
-fn misfits_value(alloc: Global, puzzle: &Puzzle) -> Result<Value, NoMemory>
-    ensures { IfOk result (λ value. view value ≡ misfits_data puzzle.now) }
+fn misfits_value(alloc: Global, misfits: &[Misfit]) -> Result<Value, NoMemory>
+    ensures { IfOk result (λ value. view value ≡ misfits_data misfits.now) }
 {
-    let misfits = puzzle_misfits(alloc, puzzle)?;
     let mut values = Vec::with_capacity(alloc, misfits.len())?;
-    for misfit in &misfits {
+    for misfit in misfits {
         values.push(misfit_value(alloc, *misfit)?)?;
     }
     Ok(Value::from(values))
@@ -83,24 +82,6 @@ fn sums_value(alloc: Global, sums: Sums) -> Result<Value, NoMemory>
     put(&mut members, alloc, "columns", Value::from(sums.columns))?;
     put(&mut members, alloc, "rows", Value::from(sums.rows))?;
     Ok(Value::from(members))
-}
-
-/// Returns the word for whether a goal meets its clues.
-fn goal_text(word: GoalWord) -> &'static str
-    ensures { result.now ≡ goal_text word }
-{
-    match word {
-        GoalWord::Absent => "absent",
-        GoalWord::Meets => "meets",
-        GoalWord::Misses => "misses",
-    }
-}
-
-/// Returns the word for the puzzle's goal: it is absent, or it meets the clues or misses them.
-fn goal_word(puzzle: &Puzzle) -> GoalWord
-    ensures { result ≡ goal_word puzzle.now }
-{
-    puzzle.goal_word()
 }
 
 /// Puts the texts that describe a puzzle, null for each that it doesn't have.
@@ -145,15 +126,17 @@ pub(crate) fn put_description(
     Ok(())
 }
 
-/// Puts the puzzle's size, its clues and its goal.
+/// Puts the size of a graded puzzle, its clues and its goal.
 pub(crate) fn put_puzzle(
     members: &mut Members,
     alloc: Global,
-    puzzle: &Puzzle,
+    graded: &GradedPuzzle<'_>,
 ) -> Result<(), NoMemory>
     ensures { OnOk result (members_view members.new.entries
-        ≡ with_members (puzzle_members puzzle.now) (members_view members.old.entries)) }
+        ≡ with_members (puzzle_members graded.now.answer.now.puzzle)
+        (members_view members.old.entries)) }
 {
+    let puzzle = graded.puzzle();
     put(members, alloc, "width", Value::from(puzzle.width()))?;
     put(members, alloc, "height", Value::from(puzzle.height()))?;
     put(
@@ -167,7 +150,7 @@ pub(crate) fn put_puzzle(
         members,
         alloc,
         "goal",
-        word_value(alloc, goal_text(goal_word(puzzle)))?,
+        word_value(alloc, goal_text(graded.goal))?,
     )?;
     put(members, alloc, "goal_rows", goal_value(alloc, puzzle)?)?;
     Ok(())
@@ -177,17 +160,13 @@ pub(crate) fn put_puzzle(
 pub(crate) fn put_clue_checks(
     members: &mut Members,
     alloc: Global,
-    puzzle: &Puzzle,
+    misfits: &[Misfit],
+    sums: Sums,
 ) -> Result<(), NoMemory>
     ensures { OnOk result (members_view members.new.entries
-        ≡ with_members (clue_members puzzle.now) (members_view members.old.entries)) }
+        ≡ with_members (clue_members misfits.now sums) (members_view members.old.entries)) }
 {
-    put(members, alloc, "misfits", misfits_value(alloc, puzzle)?)?;
-    put(
-        members,
-        alloc,
-        "sums",
-        sums_value(alloc, puzzle_sums(puzzle))?,
-    )?;
+    put(members, alloc, "misfits", misfits_value(alloc, misfits)?)?;
+    put(members, alloc, "sums", sums_value(alloc, sums)?)?;
     Ok(())
 }

@@ -3,7 +3,7 @@
 ghost use Rattle.std.specs.Prelude.{◌≡◌, IfOk, OnOk, map};
 ghost use Rattle.diagnosis.specs.Diagnoses.{HaveSizeOf};
 ghost use Rattle.serde_json.specs.View.{members_view, view};
-ghost use Rattle.survey_text.specs.Entries.{grade_word, solutions_of, verdict_word};
+ghost use Rattle.survey_text.specs.Entries.{solutions_of};
 ghost use Rattle.survey_json.specs.Entries.{differing_data, report_members, solution_members};
 ghost use Rattle.survey_json.specs.Pictures.{grid_data};
 ghost use Rattle.survey_json.specs.Values.{array_of, with_members};
@@ -12,31 +12,9 @@ use crate::pictures::{differences_value, grid_value};
 use crate::values::{Members, word_value};
 use grid_core::{Grid, NoMemory, Puzzle};
 use serde_json::{Value, put};
-use solve_core::{Findings, Grade, Verdict};
+use solve_core::{Findings, Verdict};
 use std::alloc::Global;
-
-/// Returns the word for a verdict.
-fn verdict_word(verdict: &Verdict) -> &'static str
-    ensures { result.now ≡ verdict_word verdict.now }
-{
-    match verdict {
-        Verdict::Nothing => "none",
-        Verdict::One(_) => "one",
-        Verdict::Several(_, _) => "several",
-        Verdict::Unsettled(_) => "unsettled",
-    }
-}
-
-/// Returns the word for a grade.
-fn grade_word(grade: Grade) -> &'static str
-    ensures { result.now ≡ grade_word grade }
-{
-    match grade {
-        Grade::Lines => "line",
-        Grade::Trials => "trials",
-        Grade::Search => "search",
-    }
-}
+use survey_text::{grade_word, verdict_word};
 
 /// Returns the array of the pictures of `grids`.
 fn grids_value(alloc: Global, grids: &[&Grid]) -> Result<Value, NoMemory>

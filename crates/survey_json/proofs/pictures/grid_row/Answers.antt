@@ -1,13 +1,16 @@
--- `grid_row`: one cell more.
-use Rattle.std.proofs.Common.{ℕ, arith}
-use Rattle.std.proofs.lemmas.Grind.{common_steps}
-use Rattle.std.proofs.lemmas.List.FromFn.{map-range_with_len_more}
-use Rattle.grid_core.specs.PartialGrid.{cell_at}
-use Rattle.survey_text.specs.Grids.{cell_byte}
+-- `grid_row`: the bytes of the part are the row, and are UTF-8.
+use Rattle.std.proofs.Common.{◌≡◌, ◌+◌, ◌-◌, ◌*◌, take, drop, ◌∙◌, arith, refl}
+use Rattle.survey_json.specs.Pictures.{grid_row}
+use Rattle.survey_json.proofs.RowLemmas.{row_at, row_is_utf8}
 use Rattle.survey_json.proofs.pictures.grid_row.Goals as goal
 
-pub loop-x-preserved : goal.loop-x-preserved
-loop-x-preserved c =
-    let i = c.loop-x.x in
-    let more = map-range_with_len_more (λ (x : ℕ). cell_byte (cell_at c.args.grid.now x c.args.y)) 0 i i (omega arith) in
-    grind (arith, common_steps, more)
+pub returns : goal.returns
+returns c =
+    let g = c.args.grid.now in
+    let y = c.args.y in
+    let first = c.from.result * (c.from-width.result + 1) in
+    let start : first ≡ y * (g.width + 1) = rw (c.from.ensures, c.from-width.ensures, c.width.ensures.width) refl in
+    let count : first + c.from-width.result - first ≡ g.width = omega (arith, c.from-width.ensures, c.width.ensures.width) in
+    let is_row : take (first + c.from-width.result - first) (drop first c.args.text.now) ≡ grid_row g y =
+    rw (count, start, c.requires.text) (row_at g y c.requires.row) in
+    c.in_ok-from_utf8_lossy.ensures.ok (rw is_row (row_is_utf8 g y)) ∙ is_row

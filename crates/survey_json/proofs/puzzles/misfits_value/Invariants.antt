@@ -5,4 +5,4 @@ use Rattle.survey_json.specs.Puzzles.{misfit_data}
 use Rattle.survey_json.proofs.puzzles.misfits_value.Given as goal
 
 abbrev pub invariant-loop-misfit : goal.invariant-loop-misfit
-invariant-loop-misfit l = map view l.values.items ≡ map misfit_data (take l.misfit-index l.misfit-items)
+invariant-loop-misfit l = map view l.values.items ≡ map misfit_data (take l.misfit-index l.misfits)
