@@ -1,0 +1,2 @@
+-- The lemmas on the data of pages.
+pub mod DataLemmas

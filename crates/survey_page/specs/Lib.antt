@@ -1,0 +1,2 @@
+-- The definitions that public contracts use.
+pub mod Forms
