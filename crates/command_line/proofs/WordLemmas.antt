@@ -1,24 +1,25 @@
 -- The values that `clap` parsed, the definitions of commands, and words that give no request.
-use Rattle.std.proofs.Common.{◌≡◌, ◌∙◌, ◌≤◌, ◌<◌, ◌^◌, ℕ, Bool, List, [], Option, Some, None, Result, Ok, Err, IfOk, IsErrAnd, ◌||◌, ◌≢◌, inl, inr, true, refl, ap, arith, option_map, subst}
+use Rattle.std.proofs.Common.{◌≡◌, ◌∙◌, ◌≤◌, ◌<◌, ◌^◌, ℕ, Bool, List, [], Option, Some, None, Result, Ok, Err, IfOk, IsErrAnd, ◌||◌, ◌≢◌, ◌↔◌, inl, inr, true, false, codes, refl, sym, ap, arith, option_map, subst}
 use Rattle.std.specs.Prelude.{unwrap_or}
 use Rattle.std.specs.Borrow.{Bor}
-use Rattle.std.specs.Str.Parse.{ExplainsUnsignedError, HasUnsignedDigitsIfOk, ParsesUnsigned, digits_value, without_leading_plus}
+use Rattle.std.specs.Str.Parse.{ExplainsUnsignedError, HasUnsignedDigitsIfOk, ParsesBool, ParsesUnsigned, digits_value, without_leading_plus}
 use Rattle.std.specs.declared.num.ParseIntError.{ParseIntError}
 use Rattle.std.proofs.Common.{length, map, max, min, take}
 use Rattle.std.proofs.Math.Seq.{take-length}
 use Rattle.clap.specs.Matches.{ReadsOne, first_value, matched_of, one_text, raw_values}
 use Rattle.clap.specs.Walk.{Rule, Text, one_of, rows_of, rule_of}
-use Rattle.clap.specs.Words.{AddsArg, with_rule}
+use Rattle.clap.specs.Words.{AddsArg, AddsSubcommand, shape_of, with_rule, with_subcommand}
 use Rattle.clap.specs.declared.builder.arg.Arg.{Arg}
 use Rattle.clap.specs.Simple.{App}
 use Rattle.clap.specs.declared.builder.command.Command.{Command}
+use Rattle.clap.specs.declared.builder.command.Command.TheViews.{out-Command}
 use Rattle.clap.specs.declared.parser.matches.Found.{Found}
 use Rattle.clap.proofs.WalkLemmas.{first_value-rows, one_text-rows, raw_values-rows}
 use Rattle.clap.specs.Words.{HasKind, HasMatchesOf, IsAmong, app_of, fault_of, is_simple, is_simple_and_free, kind_of, subcommand_rows_of}
 use Rattle.clap.specs.declared.parser.matches.ArgMatches.{ArgMatches}
 use Rattle.clap.specs.declared.error.Error.{Error}
 use Rattle.clap.specs.declared.error.kind.ErrorKind.TheVariants.{OutOfMemory}
-use Rattle.command_line.specs.Words.{AreRefused, AsksIn, Choices, IsAsked, IsNumberIn, IsProgram, WordsGive, program_app, text_in, texts_in}
+use Rattle.command_line.specs.Words.{AreRefused, AsksIn, Choices, IsAsked, IsFlagIn, IsNumberIn, IsProgram, WordsGive, program_app, text_in, texts_in}
 use Rattle.command_line.specs.declared.command.CommandFault.{CommandFault}
 use Rattle.command_line.specs.declared.command.CommandFault.TheVariants.{Words, NoMemory}
 use Rattle.command_line.specs.declared.command.Request.{Request}
@@ -80,6 +81,35 @@ pub flag_of_entry : (f : Found) (id word : Text) (flag value : Bool) → (one_te
     one_of id (rows_of f) ≡ Some word → flag ≡ value
 flag_of_entry f id word flag value reads is = reads (one_text-rows f id ∙ is)
 
+-- a flag that a typed getter read is set exactly if its text is `true`
+true_of_text : (E : Type 0) (text : Option Text) (given : Option Bool) → (text ≡ None → given ≡ None)
+    → ((t : Text) → text ≡ Some t → ReadsOne (ParsesBool {E = E}) t given)
+    → (unwrap_or given false ≡ true) ↔ (text ≡ Some (codes "true"))
+true_of_text E None given none reads =
+    let is : given ≡ None = none refl in
+    (λ set. absurd (let bad : false ≡ true = ap (λ g. unwrap_or g false) (sym is) ∙ set in cc), λ bad. absurd cc)
+true_of_text E (Some t) None none reads = (
+  λ bad. absurd cc,
+  λ is. absurd ((reads t refl).1.0 (let same : t ≡ codes "true" = cc in same)),
+)
+true_of_text E (Some t) (Some true) none reads = (λ set. ap (λ (w : Text). Some w) (reads t refl), λ is. refl)
+true_of_text E (Some t) (Some false) none reads = (
+  λ bad. absurd cc,
+  λ is. absurd (let other : t ≡ codes "false" = reads t refl in let same : t ≡ codes "true" = cc in cc),
+)
+
+-- the same of the flag's entry
+pub true_of_entry : (E : Type 0) (f : Found) (id : Text) (given : Option Bool) → (one_text f id ≡ None → given ≡ None)
+    → ((t : Text) → one_text f id ≡ Some t → ReadsOne (ParsesBool {E = E}) t given)
+    → (unwrap_or given false ≡ true) ↔ (one_of id (rows_of f) ≡ Some (codes "true"))
+true_of_entry E f id given none reads =
+    true_of_text E (one_of id (rows_of f)) given (λ is. none (one_text-rows f id ∙ is)) (λ t is. reads t (one_text-rows f id ∙ is))
+
+-- a flag that is set exactly if its text is `true` has the value of its text
+pub flag_of_text : (flag : Bool) (text : Option Text) → ((flag ≡ true) ↔ (text ≡ Some (codes "true"))) → IsFlagIn text flag
+flag_of_text true text is = (λ _. refl, λ other. let set : text ≡ Some (codes "true") = is.0 refl in absurd cc)
+flag_of_text false text is = (is.1, λ _. refl)
+
 -- the first n elements of a list of n elements are all of it
 pub take_end : (n : ℕ) (xs : List (Bor Text)) → length xs ≤ n → n ≤ length xs → take n xs ≡ xs
 take_end n xs past within =
@@ -100,10 +130,26 @@ pub added_if_ok : (app : App) (rule : Rule) (old : Command) (arg : Arg) (result 
 added_if_ok app rule old arg (Ok new) command argument adds = added app rule old new arg command argument adds
 added_if_ok app rule old arg (Err _) command argument adds = tt
 
+-- adding a command to another adds its definition
+pub joined : (app sub : App) (old command new : Command) → IsCommand app old → IsCommand sub command → AddsSubcommand old command new
+    → IsCommand (with_subcommand app sub.top) new
+joined app sub old command new whole part adds = record {
+  shape = adds.shape part.local ∙ ap (λ a. with_subcommand a (shape_of command)) whole.shape
+      ∙ ap (λ (a : App). with_subcommand app a.top) part.shape;
+  local = adds.globals ∙ ap (λ b. b || (out-Command command).has_globals) whole.local ∙ part.local;
+}
+
+-- adding a command to another, which can fail, adds its definition
+pub joined_if_ok : (app sub : App) (old command : Command) (result : Result Command AllocError) →
+    IsCommand app old → IsCommand sub command → IfOk result (AddsSubcommand old command)
+    → IfOk result (IsCommand (with_subcommand app sub.top))
+joined_if_ok app sub old command (Ok new) whole part adds = joined app sub old command new whole part adds
+joined_if_ok app sub old command (Err _) whole part adds = tt
+
 -- `clap`'s definitions say what it makes of all words for the program
-pub program_is_simple : (formats grades picks : Choices)
-    → (is_simple (program_app formats grades picks) ≡ true) × (is_simple_and_free (program_app formats grades picks) ≡ true)
-program_is_simple formats grades picks = (refl, refl)
+pub program_is_simple : (forms formats grades picks : Choices) → (is_simple (program_app forms formats grades picks) ≡ true)
+    × (is_simple_and_free (program_app forms formats grades picks) ≡ true)
+program_is_simple forms formats grades picks = (refl, refl)
 
 -- what the entries that `clap` found ask for, the words ask for
 pub request_parses : (app : App) (program : Command) (words : List Text) (found : ArgMatches) (asked : Option Request)

@@ -23,8 +23,10 @@ use Rattle.command_line.specs.declared.command.CommandFault.{CommandFault}
 use Rattle.command_line.specs.declared.command.CommandFault.TheVariants.{Words, NoMemory}
 use Rattle.command_line.specs.declared.checks.CheckRequest.{CheckRequest}
 use Rattle.command_line.specs.declared.command.Request.{Request}
-use Rattle.command_line.specs.declared.command.SurveyRequest.{SurveyRequest}
 use Rattle.command_line.specs.declared.command.Request.TheVariants.{Survey, Check, Solve, Convert, Lines}
+use Rattle.command_line.specs.declared.surveys.SurveyFormat.{SurveyFormat}
+use Rattle.command_line.specs.declared.surveys.SurveyFormat.TheVariants as form
+use Rattle.command_line.specs.declared.surveys.SurveyRequest.{SurveyRequest}
 
 -- the words that an option takes as its value
 abbrev pub Choices : Type 0
@@ -58,6 +60,10 @@ abbrev pub pick_rule : Choices → Rule
 pick_rule picks =
     record (option_rule (codes "pick") (Names picks)) { defaults = codes "first" ∷ [] }
 
+abbrev pub form_rule : Choices → Rule
+form_rule forms =
+    record (option_rule (codes "format") (Names forms)) { defaults = codes "text" ∷ [] }
+
 abbrev pub grade_rule : Choices → Rule
 grade_rule grades = option_rule (codes "grade") (Names grades)
 
@@ -83,11 +89,11 @@ command_app name rules =
 abbrev pub grading_rules : Choices → List Rule
 grading_rules picks = lanes_rule ∷ ring_rule ∷ guesses_rule ∷ pick_rule picks ∷ []
 
-abbrev pub survey_app : Choices → App
-survey_app picks =
+abbrev pub survey_app : Choices → Choices → App
+survey_app forms picks =
     command_app (codes "survey")
-    (grading_rules picks ++ flag_rule (codes "show") ∷ flag_rule (codes "progress") ∷ files_rule
-    ∷ [])
+    (grading_rules picks ++ form_rule forms ∷ flag_rule (codes "show")
+    ∷ flag_rule (codes "progress") ∷ files_rule ∷ [])
 
 abbrev pub check_app : Choices → Choices → App
 check_app grades picks =
@@ -106,8 +112,8 @@ abbrev pub lines_app : App
 lines_app = command_app (codes "lines") (file_rule ∷ [])
 
 -- the program, with its five commands
-abbrev pub program_app : Choices → Choices → Choices → App
-program_app formats grades picks = record {
+abbrev pub program_app : Choices → Choices → Choices → Choices → App
+program_app forms formats grades picks = record {
   top = record (new_app (codes "nonograde")).top {
     no_binary_name = true;
     has_version = true;
@@ -115,7 +121,7 @@ program_app formats grades picks = record {
     subcommand_required = true;
     is_leaf = false;
   };
-  subs = (survey_app picks).top ∷ (check_app grades picks).top ∷ (solve_app picks).top
+  subs = (survey_app forms picks).top ∷ (check_app grades picks).top ∷ (solve_app picks).top
       ∷ (convert_app formats).top ∷ lines_app.top ∷ [];
 }
 
@@ -146,6 +152,14 @@ pick_of_word text =
     if bytes_eq text (codes "first") then Some First
     else if bytes_eq text (codes "most") then Some Most else None
 
+-- the format of a survey that a word names, if it names one
+abbrev pub form_of_word : Text → Option SurveyFormat
+form_of_word text =
+    if bytes_eq text (codes "text") then Some form.Text
+    else if bytes_eq text (codes "csv") then Some form.Csv
+    else if bytes_eq text (codes "json") then Some form.Json
+    else if bytes_eq text (codes "html") then Some form.Html else None
+
 -- the greatest grade that a word names, if it names one
 abbrev pub grade_of_word : Text → Option Grade
 grade_of_word text =
@@ -159,10 +173,12 @@ pub record AreSettingsIn (rows : List Row) (settings : Settings) : Type 0 where
   pub guesses : IsNumberIn 0 MAX_GUESSES (one_of (codes "guesses") rows) settings.guesses
   pub pick : pick_of_word (text_in (codes "pick") rows) ≡ Some settings.pick
 
--- the parsed values ask for this survey
+-- the parsed values ask for this survey; its solutions are shown in text alone
 pub record AsksSurvey (rows : List Row) (survey : SurveyRequest) : Type 0 where
   pub settings : AreSettingsIn rows survey.settings
+  pub format : form_of_word (text_in (codes "format") rows) ≡ Some survey.format
   pub show : IsFlagIn (one_of (codes "show") rows) survey.settings.show
+  pub shown : survey.settings.show ≡ true → survey.format ≡ form.Text
   pub progress : IsFlagIn (one_of (codes "progress") rows) survey.progress
   pub files : map string_bytes survey.files.items ≡ texts_in (codes "file") rows
 
@@ -201,15 +217,19 @@ abbrev pub IsAsked : (Request → Type 0) → Option Request → Type 0
 IsAsked asks None = (request : Request) → asks request → ⊥
 IsAsked asks (Some request) = asks request
 
--- `app` is the program, with the words of all formats, grades to ask for, and guess rules
+-- `app` is the program, with the words of all formats of surveys and of puzzles, grades to ask for,
+-- and guess rules
 pub record IsProgram (app : App) : Type 0 where
+  pub forms : Choices
   pub formats : Choices
   pub grades : Choices
   pub picks : Choices
+  pub form_words : map (λ s. s.now) forms.now
+      ≡ codes "text" ∷ codes "csv" ∷ codes "json" ∷ codes "html" ∷ []
   pub format_words : map (λ s. s.now) formats.now ≡ map word all_formats
   pub grade_words : map (λ s. s.now) grades.now ≡ codes "line" ∷ codes "trials" ∷ []
   pub pick_words : map (λ s. s.now) picks.now ≡ codes "first" ∷ codes "most" ∷ []
-  pub is : app ≡ program_app formats grades picks
+  pub is : app ≡ program_app forms formats grades picks
 
 -- the words after the program's name ask for this request, as `clap` parses them for the program's
 -- commands

@@ -7,10 +7,9 @@ ghost use Rattle.command_line.specs.Ranges.{HasSettingsInRange};
 ghost use Rattle.command_line.specs.Words.{Asks, IsAsked, check_app, grade_of_word, grade_rule, text_in};
 ghost use Rattle.command_line.specs.steps.Words.{IsArgument, IsCommand};
 
-use crate::command::{
-    PROGRESS_HELP, Request, described, file_words, files_of, flag, grading_command, settings_of,
-    text_in,
-};
+use crate::arguments::{PROGRESS_HELP, described, file_words, flag, grading_command};
+use crate::command::Request;
+use crate::values::{files_of, settings_of, text_in};
 use clap::{Arg, ArgMatches, Command};
 use grid_core::NoMemory;
 use solve_core::Grade;

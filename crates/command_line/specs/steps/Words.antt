@@ -34,18 +34,20 @@ bare_app = record {
 }
 
 -- the program with the commands that grade many puzzles
-abbrev pub surveying_app : Choices → Choices → App
-surveying_app grades picks =
-    with_subcommand (with_subcommand bare_app (survey_app picks).top) (check_app grades picks).top
+abbrev pub surveying_app : Choices → Choices → Choices → App
+surveying_app forms grades picks =
+    with_subcommand (with_subcommand bare_app (survey_app forms picks).top)
+    (check_app grades picks).top
 
 -- the program with the commands that grade puzzles
-abbrev pub grading_app : Choices → Choices → App
-grading_app grades picks = with_subcommand (surveying_app grades picks) (solve_app picks).top
+abbrev pub grading_app : Choices → Choices → Choices → App
+grading_app forms grades picks =
+    with_subcommand (surveying_app forms grades picks) (solve_app picks).top
 
 -- the program with the commands that grade puzzles and the command `convert`
-abbrev pub converting_app : Choices → Choices → Choices → App
-converting_app formats grades picks =
-    with_subcommand (grading_app grades picks) (convert_app formats).top
+abbrev pub converting_app : Choices → Choices → Choices → Choices → App
+converting_app forms formats grades picks =
+    with_subcommand (grading_app forms grades picks) (convert_app formats).top
 
 -- what parsing the words by `clap` results in: a request that they ask for, none if they ask for
 -- none, or the fault for which `clap` refuses them

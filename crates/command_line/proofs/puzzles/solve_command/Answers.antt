@@ -1,6 +1,6 @@
 -- `solve_command`: its rules are those of its arguments, in order.
 use Rattle.command_line.proofs.WordLemmas.{added, added_if_ok}
-use Rattle.command_line.proofs.command.solve_command.Goals as goal
+use Rattle.command_line.proofs.puzzles.solve_command.Goals as goal
 
 pub returns : goal.returns
 returns c =

@@ -4,7 +4,7 @@ use Rattle.std.specs.Fmt.{digits}
 use Rattle.lane_core.specs.declared.jobs.TheConstants.{MAX_GUESSES}
 use Rattle.command_line.specs.Words.{number_rule}
 use Rattle.command_line.specs.steps.Words.{IsArgument}
-use Rattle.command_line.proofs.command.guesses_option.Goals as goal
+use Rattle.command_line.proofs.arguments.guesses_option.Goals as goal
 
 pub returns : goal.returns
 unfolding digits

@@ -3,7 +3,7 @@ use Rattle.std.proofs.Common.{ap, ◌∙◌, refl, map, List, ℕ, ◌≡◌, ta
 use Rattle.std.specs.Borrow.{Bor}
 use Rattle.clap.specs.Words.{found_of}
 use Rattle.command_line.proofs.WordLemmas.{take_end, texts_of_entry}
-use Rattle.command_line.proofs.command.files_of.Goals as goal
+use Rattle.command_line.proofs.values.files_of.Goals as goal
 
 pub returns : goal.returns
 returns c =

@@ -3,7 +3,7 @@ use Rattle.std.proofs.Common.{lit<, sym}
 use Rattle.clap.specs.Words.{found_of}
 use Rattle.survey_core.specs.declared.settings.TheConstants.{MAX_RING, MAX_LANES}
 use Rattle.command_line.proofs.WordLemmas.{kept_within, number_of_entry}
-use Rattle.command_line.proofs.command.settings_of.Goals as goal
+use Rattle.command_line.proofs.values.settings_of.Goals as goal
 
 pub returns-clause-asked : goal.returns-clause-asked
 returns-clause-asked c = record {

@@ -3,7 +3,7 @@ use Rattle.std.proofs.Common.{ap, ◌∙◌, refl, List, ℕ}
 use Rattle.std.specs.Borrow.{Bor}
 use Rattle.clap.specs.Words.{found_of}
 use Rattle.command_line.proofs.WordLemmas.{text_of_entry}
-use Rattle.command_line.proofs.command.text_in.Goals as goal
+use Rattle.command_line.proofs.values.text_in.Goals as goal
 
 pub returns : goal.returns
 returns c =

@@ -1,6 +1,6 @@
 -- `convert_command`: its rules are those of its arguments, in order.
 use Rattle.command_line.proofs.WordLemmas.{added, added_if_ok}
-use Rattle.command_line.proofs.command.convert_command.Goals as goal
+use Rattle.command_line.proofs.puzzles.convert_command.Goals as goal
 
 pub returns : goal.returns
 returns c =

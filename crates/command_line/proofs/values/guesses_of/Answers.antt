@@ -3,7 +3,7 @@ use Rattle.std.proofs.Common.{lit<}
 use Rattle.clap.specs.Words.{found_of}
 use Rattle.lane_core.specs.declared.jobs.TheConstants.{MAX_GUESSES}
 use Rattle.command_line.proofs.WordLemmas.{kept_below, number_of_entry}
-use Rattle.command_line.proofs.command.guesses_of.Goals as goal
+use Rattle.command_line.proofs.values.guesses_of.Goals as goal
 
 pub returns-clause-asked : goal.returns-clause-asked
 returns-clause-asked c =

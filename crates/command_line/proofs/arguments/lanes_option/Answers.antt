@@ -4,7 +4,7 @@ use Rattle.std.specs.Fmt.{digits}
 use Rattle.survey_core.specs.declared.settings.TheConstants.{MAX_LANES}
 use Rattle.command_line.specs.Words.{number_rule}
 use Rattle.command_line.specs.steps.Words.{IsArgument}
-use Rattle.command_line.proofs.command.lanes_option.Goals as goal
+use Rattle.command_line.proofs.arguments.lanes_option.Goals as goal
 
 pub returns : goal.returns
 unfolding digits

@@ -1,6 +1,6 @@
 -- `lines_command`: its rules are those of its arguments, in order.
 use Rattle.command_line.proofs.WordLemmas.{added_if_ok}
-use Rattle.command_line.proofs.command.lines_command.Goals as goal
+use Rattle.command_line.proofs.puzzles.lines_command.Goals as goal
 
 pub returns : goal.returns
 returns c =
