@@ -11,7 +11,8 @@ use Rattle.puzzle_text.specs.declared.faults.TextFault.TheVariants.{NoMemory}
 use Rattle.puzzle_text.specs.declared.formats.Format.{Format}
 use Rattle.survey_core.specs.GuessSettings.{guess_settings}
 use Rattle.survey_core.specs.Leaving.{LeavesAt, WritesSurvey}
-use Rattle.survey_text.specs.Survey.{survey_of_entries}
+use Rattle.survey_text.specs.FormSurveys.{survey_of_entries_in}
+use Rattle.survey_text.specs.Forms.{Form}
 use Rattle.survey_core.specs.declared.faults.RunFault.{RunFault}
 use Rattle.survey_core.specs.declared.settings.Settings.{Settings}
 use Rattle.reports.specs.Converting.{GivesConverted, converted}
@@ -103,16 +104,17 @@ unconverted_of format name given body fault r known named gives is =
     rw (is_stop r _ is) (unconverted format name body fault known (rw named at gives))
 
 -- if the entries are those of the files, their survey is that of the files
-pub files_written : (settings : Settings) (names texts : List (List ℕ)) (entries : List NamedText) (old new : Option (List ℕ))
-    → length texts ≡ length names → entries ≡ named_texts names texts
-    → WritesSurvey (survey_of_entries (guess_settings settings) settings.show entries) old new →
-    PrintsFiles {U = Unit {0}} settings names (Ok (tt {0})) old new
-files_written settings names texts entries old new same is written = (texts, same, rw is at written)
-
--- if the entries are those of the files, a survey that fails leaves both as the program does
-pub files_left : (settings : Settings) (names texts : List (List ℕ)) (entries : List NamedText) (fault : RunFault)
+pub files_written : (form : Form) (settings : Settings) (names texts : List (List ℕ)) (entries : List NamedText)
     (old new : Option (List ℕ))
     → length texts ≡ length names → entries ≡ named_texts names texts
-    → LeavesAt (survey_of_entries (guess_settings settings) settings.show entries) fault old new
-    → PrintsFiles {U = Unit {0}} settings names (Err (Run fault)) old new
-files_left settings names texts entries fault old new same is left = (texts, same, rw is at left)
+    → WritesSurvey (survey_of_entries_in form (guess_settings settings) entries) old new →
+    PrintsFiles {U = Unit {0}} form settings names (Ok (tt {0})) old new
+files_written form settings names texts entries old new same is written = (texts, same, rw is at written)
+
+-- if the entries are those of the files, a survey that fails leaves both as the program does
+pub files_left : (form : Form) (settings : Settings) (names texts : List (List ℕ)) (entries : List NamedText) (fault : RunFault)
+    (old new : Option (List ℕ))
+    → length texts ≡ length names → entries ≡ named_texts names texts
+    → LeavesAt (survey_of_entries_in form (guess_settings settings) entries) fault old new
+    → PrintsFiles {U = Unit {0}} form settings names (Err (Run fault)) old new
+files_left form settings names texts entries fault old new same is left = (texts, same, rw is at left)

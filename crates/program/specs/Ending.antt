@@ -1,5 +1,5 @@
 -- How the program ends: its exit status, and what it prints for a fault.
-use Rattle.std.specs.Prelude.{◌≡◌, ℕ, ◌⊎◌, ◌<◌, ◌↔◌, List, map, string_bytes, Result, Ok, Err}
+use Rattle.std.specs.Prelude.{◌≡◌, ℕ, ◌⊎◌, ◌<◌, ◌↔◌, List, string_bytes, Result, Ok, Err}
 use Rattle.std.specs.Io.KnownBytes.{Appends, Keeps}
 use Rattle.clap.specs.Words.{kind_of}
 use Rattle.clap.specs.declared.error.kind.ErrorKind.{ErrorKind}
@@ -62,8 +62,7 @@ pub record EndsUnread (status : ℕ) (output errors : Stream) : Type 0 where
 abbrev pub EndsPerforming : Request → Stream → ℕ → Stream → Stream → Type 0
 EndsPerforming (Survey survey) input status output errors =
     EndsPrinting is_done
-    (λ done. PrintsSurveyOf survey.settings (map string_bytes survey.files.items)
-    input done output.old output.new)
+    (λ done. PrintsSurveyOf survey input done output.old output.new)
     status output errors
 EndsPerforming (Check check) input status output errors =
     EndsPrinting (check_status check.strict)

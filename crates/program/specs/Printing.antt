@@ -1,5 +1,5 @@
 -- What a command prints and what it reads of standard input, by its result.
-use Rattle.std.specs.Prelude.{◌≡◌, ℕ, ◌≤◌, ◌⊎◌, List, [], ◌∷◌, length, take, Option, IfSome, OnErr, OnOk, Result, Ok, Err}
+use Rattle.std.specs.Prelude.{◌≡◌, ℕ, ◌≤◌, ◌⊎◌, List, [], ◌∷◌, length, map, string_bytes, take, Option, IfSome, OnErr, OnOk, Result, Ok, Err}
 use Rattle.std.specs.Io.KnownBytes.{Appends, IsAtEnd, Keeps}
 use Rattle.puzzle_text.specs.Collections.{Entry as NamedText}
 use Rattle.puzzle_text.specs.declared.faults.CollectionFault.{CollectionFault}
@@ -10,11 +10,14 @@ use Rattle.solve_core.specs.declared.picks.Pick.{Pick}
 use Rattle.streams.specs.Counted.{fault_count}
 use Rattle.survey_core.specs.GuessSettings.{guess_settings}
 use Rattle.survey_core.specs.Leaving.{IsWrite, LeavesAt, WritesSurvey}
-use Rattle.survey_text.specs.Survey.{survey_of, survey_of_entries}
+use Rattle.survey_text.specs.FormSurveys.{survey_in, survey_of_entries_in}
+use Rattle.survey_text.specs.Forms.{Form}
 use Rattle.streams.specs.declared.counted.Counted.{Counted}
 use Rattle.survey_core.specs.declared.settings.Settings.{Settings}
 use Rattle.reports.specs.Converting.{converted}
 use Rattle.reports.specs.Reports.{lines_text, parsed, solve_text, text_or_fault}
+use Rattle.command_line.specs.declared.surveys.SurveyRequest.{SurveyRequest}
+use Rattle.program.specs.Forms.{form_of}
 use Rattle.program.specs.Stop.{stop_of_convert}
 use Rattle.program.specs.declared.stop.Stop.{Stop}
 use Rattle.program.specs.declared.stop.Stop.TheVariants.{Entry, Run, Read, Write, NoMemory}
@@ -99,21 +102,21 @@ named_texts (name ∷ names) [] = []
 named_texts (name ∷ names) (text ∷ texts) =
     record { name = name; body = text } ∷ named_texts names texts
 
--- the survey of files with these names and these bytes
-abbrev pub files_survey : Settings → List (List ℕ) → List (List ℕ) →
+-- the survey in a form of files with these names and these bytes
+abbrev pub files_survey : Form → Settings → List (List ℕ) → List (List ℕ) →
     Result (List ℕ) CollectionFault
-files_survey settings names texts =
-    survey_of_entries (guess_settings settings) settings.show (named_texts names texts)
+files_survey form settings names texts =
+    survey_of_entries_in form (guess_settings settings) (named_texts names texts)
 
--- what a survey of the files with these names appends to the output: the survey of some texts, one
--- for each file; nothing if a file can't be read or an allocation fails
-abbrev pub PrintsFiles : {U : Type 0} → Settings → List (List ℕ) → Result U Stop →
+-- what a survey in a form of the files with these names appends to the output: the survey of some
+-- texts, one for each file; nothing if a file can't be read or an allocation fails
+abbrev pub PrintsFiles : {U : Type 0} → Form → Settings → List (List ℕ) → Result U Stop →
     Option (List ℕ) → Option (List ℕ) → Type 0
-PrintsFiles settings names (Err Read) old new = Keeps old new
-PrintsFiles settings names (Err NoMemory) old new = Keeps old new
-PrintsFiles settings names result old new =
+PrintsFiles form settings names (Err Read) old new = Keeps old new
+PrintsFiles form settings names (Err NoMemory) old new = Keeps old new
+PrintsFiles form settings names result old new =
     (texts : List (List ℕ)) × (length texts ≡ length names) ×
-    PrintsSurvey (files_survey settings names texts) result old new
+    PrintsSurvey (files_survey form settings names texts) result old new
 
 -- the result is a stop because the output failed
 abbrev pub IsUnwritten : {U : Type 0} → Result U Stop → Type 0
@@ -122,22 +125,30 @@ IsUnwritten (Err Write) = Unit {0}
 IsUnwritten (Err (Run fault)) = IsWrite fault
 IsUnwritten (Err _) = ⊥
 
--- what a survey of standard input appends to the output, if its bytes are known; nothing, whether
--- they are known or not, if it stops but for a failed output; if the survey was printed, the input
--- was read to its end
-abbrev pub PrintsInput : {U : Type 0} → Settings → Stream → Result U Stop →
+-- what a survey in a form of standard input appends to the output, if its bytes are known; nothing,
+-- whether they are known or not, if it stops but for a failed output; if the survey was printed,
+-- the input was read to its end
+abbrev pub PrintsInput : {U : Type 0} → Form → Settings → Stream → Result U Stop →
     Option (List ℕ) → Option (List ℕ) → Type 0
-PrintsInput settings input (Err NoMemory) old new = Keeps old new
-PrintsInput settings input result old new =
+PrintsInput form settings input (Err NoMemory) old new = Keeps old new
+PrintsInput form settings input result old new =
     IfSome input.old (λ bytes.
-    PrintsSurvey (survey_of (guess_settings settings) settings.show bytes) result old new) ×
+    PrintsSurvey (survey_in form (guess_settings settings) bytes) result old new) ×
     OnErr result (IsUnwritten result ⊎ Keeps old new) ×
     OnOk result (IsAtEnd input.new)
 
--- what a survey appends to the output: that of the files with these names, without touching
--- standard input, or that of standard input if there are no files
-abbrev pub PrintsSurveyOf : {U : Type 0} → Settings → List (List ℕ) → Stream → Result U Stop →
+-- what a survey in a form appends to the output: that of the files with these names, without
+-- touching standard input, or that of standard input if there are no files
+abbrev pub PrintsSurveyIn : {U : Type 0} → Form → Settings → List (List ℕ) → Stream →
+    Result U Stop → Option (List ℕ) → Option (List ℕ) → Type 0
+PrintsSurveyIn form settings [] input result old new =
+    PrintsInput form settings input result old new
+PrintsSurveyIn form settings (name ∷ names) input result old new =
+    IsUntouched input × PrintsFiles form settings (name ∷ names) result old new
+
+-- what the survey that is asked for appends to the output, in the form of its format
+abbrev pub PrintsSurveyOf : {U : Type 0} → SurveyRequest → Stream → Result U Stop →
     Option (List ℕ) → Option (List ℕ) → Type 0
-PrintsSurveyOf settings [] input result old new = PrintsInput settings input result old new
-PrintsSurveyOf settings (name ∷ names) input result old new =
-    IsUntouched input × PrintsFiles settings (name ∷ names) result old new
+PrintsSurveyOf survey input result old new =
+    PrintsSurveyIn (form_of survey.format survey.settings.show) survey.settings
+    (map string_bytes survey.files.items) input result old new

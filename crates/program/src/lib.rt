@@ -3,6 +3,7 @@
 
 mod checks;
 mod files;
+mod forms;
 mod performing;
 mod running;
 mod stop;

@@ -5,9 +5,11 @@ ghost use Rattle.std.specs.Io.KnownBytes.{Appends};
 ghost use Rattle.streams.specs.Counted.{fault_count};
 ghost use Rattle.survey_core.specs.declared.faults.RunFault.TheVariants.{Read as reader_failed};
 ghost use Rattle.streams.specs.Reading.{ReadsWithin};
+ghost use Rattle.program.specs.Forms.{form_in};
 ghost use Rattle.program.specs.Printing.{IsUnwritten, PrintsFile, PrintsFiles, PrintsInput, PrintsSurveyOf, convert_answer, lines_answer, solve_answer, stream};
 
 use crate::files::{entries_of, read_file, read_files};
+use crate::forms::AnyForm;
 use crate::stop::Stop;
 use command_line::SurveyRequest;
 use lane_core::{Gate, MAX_GUESSES, OpenGate};
@@ -19,7 +21,7 @@ use std::rt::Files;
 use std::sync::Wait;
 use std::thread::Threads;
 use std::time::Clock;
-use survey_core::{Counted, ProgressGate, Settings, run_survey, survey_entries, write_text};
+use survey_core::{Counted, ProgressGate, Settings, run_survey_as, survey_entries_as, write_text};
 
 /// Prints `text` and flushes.
 pub fn print_text<W: Write>(writer: &mut Counted<W>, text: &[u8]) -> Result<(), Stop>
@@ -38,17 +40,18 @@ pub fn print_text<W: Write>(writer: &mut Counted<W>, text: &[u8]) -> Result<(), 
     }
 }
 
-/// Prints the survey of the collection on `input`. Each job enters `gate` before it is graded.
+/// Prints the survey of the collection on `input` in `form`. Each job enters `gate` before it is graded.
 fn survey_input<R: Threads + Wait + Sync + AllocGlobal, I: Read, O: Write, G: Gate + Sync>(
     rt: &R,
     settings: &Settings,
+    form: &AnyForm,
     input: &mut Counted<I>,
     output: &mut Counted<O>,
     gate: &G,
 ) -> Result<(), Stop>
     requires reading { fault_count input.old < 2 ^ 32 - 1 }
     requires writing { fault_count output.old < 2 ^ 32 - 1 }
-    ensures answer { PrintsInput settings.now (stream I.remaining input.old input.new) result
+    ensures answer { PrintsInput (form_in form.now) settings.now (stream I.remaining input.old input.new) result
         (O.contents output.old.inner) (O.contents output.new.inner) }
     ensures bound { ReadsWithin (MAX_COLLECTION_LEN + 1)
         (I.remaining input.old.inner) (I.remaining input.new.inner) }
@@ -56,28 +59,29 @@ fn survey_input<R: Threads + Wait + Sync + AllocGlobal, I: Read, O: Write, G: Ga
         ↔ (fault_count input.old < fault_count input.new) }
     ensures write { IsUnwritten result ↔ (fault_count output.old < fault_count output.new) }
 {
-    match run_survey(rt, rt.alloc(), input, output, settings, gate) {
+    match run_survey_as(rt, rt.alloc(), input, output, settings, form, gate) {
         Ok(()) => Ok(()),
         Err(fault) => Err(Stop::Run(fault)),
     }
 }
 
-/// Prints the survey of the files at `paths`. Each job enters `gate` before it is graded.
+/// Prints the survey of the files at `paths` in `form`. Each job enters `gate` before it is graded.
 fn survey_files<R: Files + Threads + Wait + Sync + AllocGlobal, O: Write, G: Gate + Sync>(
     rt: &R,
     settings: &Settings,
+    form: &AnyForm,
     paths: &[String],
     output: &mut Counted<O>,
     gate: &G,
 ) -> Result<(), Stop>
     requires { fault_count output.old < 2 ^ 32 - 1 }
-    ensures answer { PrintsFiles settings.now (map string_bytes paths.now) result
+    ensures answer { PrintsFiles (form_in form.now) settings.now (map string_bytes paths.now) result
         (O.contents output.old.inner) (O.contents output.new.inner) }
     ensures write { IsUnwritten result ↔ (fault_count output.old < fault_count output.new) }
 {
     let bodies = read_files(rt, paths)?;
     let entries = entries_of(rt.alloc(), paths, &bodies)?;
-    match survey_entries(rt, rt.alloc(), &entries, output, settings, gate) {
+    match survey_entries_as(rt, rt.alloc(), &entries, output, settings, form, gate) {
         Ok(()) => Ok(()),
         Err(fault) => Err(Stop::Run(fault)),
     }
@@ -98,15 +102,15 @@ where
     G: Gate + Sync,
     requires reading { fault_count input.old < 2 ^ 32 - 1 }
     requires writing { fault_count output.old < 2 ^ 32 - 1 }
-    ensures answer { PrintsSurveyOf survey.now.settings (map string_bytes survey.now.files.items)
-        (stream I.remaining input.old input.new) result
+    ensures answer { PrintsSurveyOf survey.now (stream I.remaining input.old input.new) result
         (O.contents output.old.inner) (O.contents output.new.inner) }
     ensures write { IsUnwritten result ↔ (fault_count output.old < fault_count output.new) }
 {
+    let form = AnyForm::of(rt.alloc(), survey.format, survey.settings.show);
     if survey.files.is_empty() {
-        survey_input(rt, &survey.settings, input, output, gate)
+        survey_input(rt, &survey.settings, &form, input, output, gate)
     } else {
-        survey_files(rt, &survey.settings, &survey.files, output, gate)
+        survey_files(rt, &survey.settings, &form, &survey.files, output, gate)
     }
 }
 
@@ -133,8 +137,7 @@ where
     P: Write + Drop + Send + 'static,
     requires reading { fault_count input.old < 2 ^ 32 - 1 }
     requires writing { fault_count output.old < 2 ^ 32 - 1 }
-    ensures answer { PrintsSurveyOf survey.now.settings (map string_bytes survey.now.files.items)
-        (stream I.remaining input.old input.new) result
+    ensures answer { PrintsSurveyOf survey.now (stream I.remaining input.old input.new) result
         (O.contents output.old.inner) (O.contents output.new.inner) }
     ensures write { IsUnwritten result ↔ (fault_count output.old < fault_count output.new) }
 {
