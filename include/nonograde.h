@@ -21,7 +21,7 @@ extern "C" {
 #endif
 
 /* The version of this header. nonograde_version returns that of the library. */
-#define NONOGRADE_VERSION "0.2.0"
+#define NONOGRADE_VERSION "0.3.0"
 
 /* How a call ended. */
 enum nonograde_status {

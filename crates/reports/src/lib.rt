@@ -6,7 +6,7 @@ mod converting;
 mod reports;
 
 /// The version of `nonograde`, as MAJOR.MINOR.PATCH.
-pub const VERSION: &str = "0.2.0";
+pub const VERSION: &str = "0.3.0";
 
 pub use converting::{ConvertFault, convert};
 pub use reports::{lines_report, solve_report};
