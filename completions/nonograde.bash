@@ -10,12 +10,13 @@ _nonograde() {
         1:*) words='survey check solve convert lines help --help --version' ;;
         *:help) words='survey check solve convert lines help' ;;
         *:--pick) words='first most' ;;
+        *:--format) words='text csv json html' ;;
         *:--grade) words='line trials' ;;
         *:--to) words='non mk nin' ;;
         *:--lanes | *:--ring | *:--guesses) ;;
         *)
             case ${COMP_WORDS[1]} in
-                survey) words='--lanes --ring --guesses --pick --show --progress --help' ;;
+                survey) words='--lanes --ring --guesses --pick --format --show --progress --help' ;;
                 check) words='--lanes --ring --guesses --pick --grade --all --strict --progress --help' ;;
                 solve) words='--guesses --pick --help' ;;
                 convert) words='--to --help' ;;

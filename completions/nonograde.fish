@@ -17,6 +17,7 @@ complete -c nonograde -n '__fish_seen_subcommand_from survey check solve' -l gue
 complete -c nonograde -n '__fish_seen_subcommand_from survey check solve' -l pick -x -a 'first most' -d 'Guess the first unknown cell, or the one with the most known neighbours'
 complete -c nonograde -n '__fish_seen_subcommand_from survey check' -l lanes -x -d 'The number of lanes, 1 to 16'
 complete -c nonograde -n '__fish_seen_subcommand_from survey check' -l ring -x -d 'The capacity of a lane\'s rings, 1 to 64'
+complete -c nonograde -n '__fish_seen_subcommand_from survey' -l format -x -a 'text csv json html' -d 'The format of the survey'
 complete -c nonograde -n '__fish_seen_subcommand_from survey' -l show -d 'Show the solutions'
 complete -c nonograde -n '__fish_seen_subcommand_from survey check' -l progress -d 'Show progress on standard error'
 complete -c nonograde -n '__fish_seen_subcommand_from check' -l grade -x -a 'line trials' -d 'Warn of puzzles that need more than this'

@@ -61,10 +61,11 @@ class Program:
         with open(os.path.join(self._folder, os.fsencode(name)), "wb") as file:
             file.write(text)
 
-    def run(self, *words, text=b""):
-        """Runs the program on these words with `text` on standard input. Returns its exit status, standard output and
-        standard error."""
-        ran = subprocess.run([self._path, *words], cwd=self._folder, input=text, capture_output=True, timeout=TIME_LIMIT)
+    def run(self, *words, text=b"", output=subprocess.PIPE):
+        """Runs the program on these words with `text` on standard input. Returns its exit status, standard output, or None if
+        that is another file, and standard error."""
+        streams = {"input": text, "stdout": output, "stderr": subprocess.PIPE}
+        ran = subprocess.run([self._path, *words], cwd=self._folder, **streams, timeout=TIME_LIMIT, check=False)
         return ran.returncode, ran.stdout, ran.stderr
 
     def printed(self, *words, text=b""):

@@ -1,15 +1,17 @@
 #!/usr/bin/python3
 """Opens the page of a survey, `page/page.html`, in headless Chromium, and checks what it shows and prints.
 
-Usage: page_test.py
+Usage: page_test.py [--program PROGRAM]
 
 It needs Debian's chromium, chromium-driver, python3-selenium, python3-pil, poppler-utils and tidy, and so runs in Debian's
 own Python. The pages that it opens have, in place of the sample, data that `survey_data.py` makes. The entries are puzzles
-of the repository and of `traps.py`, and made ones: large pictures, odd texts, and 10,000 entries.
+of the repository and of `traps.py`, and made ones: large pictures, odd texts, and 10,000 entries. With `--program` it opens
+pages that the program prints too.
 
 Each comparison counts once. The last line is `N passed, M failed`, and the exit status is 1 if a comparison failed.
 """
 
+import argparse
 import base64
 import io
 import json
@@ -24,7 +26,7 @@ from itertools import product
 import readers
 import solving
 import survey_data
-from comparing import Results, TooManyFailures
+from comparing import Program, Results, TooManyFailures
 from findings import Options
 from PIL import Image, ImageChops
 from selenium import webdriver
@@ -32,13 +34,11 @@ from selenium.webdriver.chrome.service import Service
 from selenium.webdriver.common.by import By
 from selenium.webdriver.common.keys import Keys
 from selenium.webdriver.support.ui import Select
+from survey_test import COUNT, ODD_ENTRY, collection_of, found_of, made_entries, puzzle_entries, trap_entries
 from traps import FILES
 
 TOP = os.path.dirname(os.path.dirname(os.path.abspath(__file__)))
-PAGE = os.path.join(TOP, "page", "page.html")
-FIRST, LAST = b'<script type="application/json" id="survey">\n', b"</script>\n"
 WAIT = 60  # seconds for what the page does by itself
-MANY = 10_000
 
 VERDICTS = {"one": "one solution", "several": "several solutions", "none": "no solution", "unsettled": "unsettled"}
 GRADES = {"line": "line logic", "trials": "trials", "search": "search"}
@@ -50,21 +50,10 @@ HOSTILE = b"</script><script>alert(1)</script>"
 
 
 def puzzle_files():
-    """Returns the puzzles of the repository and those of `traps.py` that are no larger than 16 by 16, as entries."""
-    folder = os.path.join(TOP, "puzzles")
-    entries = []
-    for name in sorted(os.listdir(folder)):
-        if os.path.isfile(os.path.join(folder, name)):
-            with open(os.path.join(folder, name), "rb") as file:
-                entries.append((os.fsencode(name), file.read()))
+    """Returns the puzzles of the repository and some of `traps.py` that are no larger than 16 by 16, as entries."""
     chosen = ("goal-row.non", "several-goal.non", "several-inverted.non", "threes-goal.non", "sums.non", "row-long.non")
     chosen += ("search-none.mk", "goal-search.non", "search.non", "title.non", "mark.non", "notes.txt", "colours.non")
-    return entries + [(b"traps/" + name.encode(), FILES[name]) for name in chosen]
-
-
-def found_of(entries, options=Options()):
-    """Returns what is known of entries."""
-    return [survey_data.members_of(number, *entry, options) for number, entry in enumerate(entries, 1)]
+    return puzzle_entries() + [(b"traps/" + name.encode(), FILES[name]) for name in chosen]
 
 
 def picture_of(size, changed=()):
@@ -96,14 +85,6 @@ def made(number, name, grids, verdict="one", texts=(), goal=None):
 # Pages
 
 
-def page_of(found):
-    """Returns the page of a survey: that of the repository with these entries in place of the sample."""
-    with open(PAGE, "rb") as file:
-        head, _, rest = file.read().partition(FIRST)
-    tail = rest[rest.index(b"\n" + LAST) + 1 :]
-    return head + FIRST + survey_data.html_text(found) + tail
-
-
 class Browser:
     """Chromium, with the page of a survey. What is compared is counted in `results`."""
 
@@ -126,17 +107,18 @@ class Browser:
         feature = {"name": "prefers-color-scheme", "value": scheme}
         self.driver.execute_cdp_cmd("Emulation.setEmulatedMedia", {"features": [feature]})
 
-    def write(self, found):
-        """Writes the page of a survey. Returns its address, another one each time."""
+    def write(self, page):
+        """Writes a page. Returns its address, another one each time."""
         self._pages += 1
         path = os.path.join(self.folder, f"{self._pages}.html")
         with open(path, "wb") as file:
-            file.write(page_of(found))
+            file.write(page)
         return f"file://{path}"
 
-    def open(self, found, fragment=""):
-        """Opens the page of a survey. Returns how many seconds that takes until its first card is drawn."""
-        address = self.write(found) + fragment
+    def open(self, found, fragment="", page=None):
+        """Opens the page of a survey, or the one that is given. Returns how many seconds that takes until its first card is
+        drawn."""
+        address = self.write(page or survey_data.html_text(found)) + fragment
         started = time.monotonic()
         self.driver.get(address)
         if found:
@@ -284,9 +266,9 @@ def drawn_of(members, picture):
     return [[width, height], *parts, [cell for cell in marked if cell not in filled], "img", label]
 
 
-def check_cards(browser, what, found):
+def check_cards(browser, what, found, page=None):
     """Checks all cards of a page: their texts, and the cells of their pictures."""
-    browser.open(found)
+    browser.open(found, page=page)
     browser.show_all()
     cards = browser.driver.find_elements(By.CSS_SELECTOR, "#cards > li")
     browser.results.compare("number of cards", what, len(found), len(cards))
@@ -497,7 +479,7 @@ def check_narrow(browser, found):
 def check_without_script(browser, found):
     """Checks what the page shows without JavaScript."""
     browser.driver.execute_cdp_cmd("Emulation.setScriptExecutionDisabled", {"value": True})
-    browser.driver.get(browser.write(found))
+    browser.driver.get(browser.write(survey_data.html_text(found)))
     shown = browser.find("body").text
     browser.driver.execute_cdp_cmd("Emulation.setScriptExecutionDisabled", {"value": False})
     wanted = "Survey of nonograms\nThis page needs JavaScript to show the puzzles."
@@ -645,9 +627,9 @@ def check_many(browser):
     """Checks a survey of as many entries as there may be, and says how long it takes."""
     grids = [[picture_of(20, {(number, number)})] for number in range(20)]
     texts = ((b"title", b"Made"),)
-    found = [made(number, b"%d.non" % number, grids[number % 20], texts=texts) for number in range(1, MANY + 1)]
+    found = [made(number, b"%d.non" % number, grids[number % 20], texts=texts) for number in range(1, COUNT + 1)]
     took = browser.open(found)
-    print(f"{MANY:,} entries of 20 by 20 open in {took:.1f} seconds", flush=True)
+    print(f"{COUNT:,} entries of 20 by 20 open in {took:.1f} seconds", flush=True)
     drawn = len(browser.texts(".verdict"))
     browser.results.compare("cards at first", "many", True, drawn < 200)
     browser.find("#search").send_keys("9999")
@@ -675,21 +657,36 @@ def check_more(browser):
     browser.check_quiet("more")
 
 
+def check_program(browser, program):
+    """Opens pages that the program prints: all their cards, or of the largest survey how many there are."""
+    for what, entries in (("puzzles", puzzle_entries()), ("traps", trap_entries()), ("made", made_entries(ODD_ENTRY))):
+        collection = collection_of(entries)
+        found = found_of(readers.cut(collection), Options())
+        page = program.run("survey", "--format", "html", text=collection)[1]
+        browser.results.compare("page of the program", what, True, page == survey_data.html_text(found))
+        if len(found) < COUNT:
+            check_cards(browser, f"{what} by the program", found, page)
+        else:
+            browser.open(found, page=page)
+            browser.results.compare("count", what, [f"{COUNT:,} of {COUNT:,} puzzles"], browser.texts("#count"))
+            browser.show_all()
+            names = [f"{it['number']}. {text(it['name'])}" for it in found]
+            browser.results.compare("names of the cards", what, True, names == browser.texts("#cards h2"))
+            browser.check_quiet(what)
+
+
 def check_source(results, found):
     """Checks the page of the repository: its sample, its HTML, and how `tools/page.sh` splits it."""
-    with open(PAGE, "rb") as file:
-        page = file.read()
-    head, first, rest = page.partition(FIRST)
-    data, tail = rest[: rest.index(LAST)], rest[rest.index(LAST) :]
+    head, data, tail = survey_data.page_parts()
     entries = []
     for name in survey_names(data):
         with open(os.path.join(TOP, name), "rb") as file:
             entries.append((name.encode(), file.read()))
-    results.compare("sample", "page.html", survey_data.html_text(found_of(entries)), data)
+    results.compare("sample", "page.html", survey_data.escaped(survey_data.json_text(found_of(entries, Options()))), data)
     script = os.path.join(TOP, "tools", "page.sh")
     given = [run_tool(script, part) for part in ("head", "tail")]
-    results.compare("head and tail", "page.sh", [(0, head + first), (0, tail)], given)
-    for what, given in (("sample", page), ("files", page_of(found))):
+    results.compare("head and tail", "page.sh", [(0, head), (0, tail)], given)
+    for what, given in (("sample", head + data + tail), ("files", survey_data.html_text(found))):
         results.compare("tidy", what, (0, b""), run_tool("tidy", "-e", "-q", given=given))
 
 
@@ -698,9 +695,9 @@ def survey_names(data):
     return [entry["name"] for entry in map(json.loads, data.splitlines()) if "name" in entry]
 
 
-def test(results, folder):
-    """Makes all comparisons."""
-    files = found_of(puzzle_files())
+def test(results, folder, program):
+    """Makes all comparisons. The program is None if its pages aren't to be opened."""
+    files = found_of(puzzle_files(), Options())
     few = found_of(puzzle_files(), Options(guesses=3))
     check_source(results, files)
     browser = Browser(results, folder)
@@ -725,16 +722,22 @@ def test(results, folder):
         check_button(browser, files)
         check_more(browser)
         check_many(browser)
+        if program:
+            check_program(browser, program)
     finally:
         browser.driver.quit()
 
 
 def main():
     """Makes all comparisons in a folder of their own, and prints the counts. Returns the exit status."""
+    parser = argparse.ArgumentParser(description="Checks what the page of a survey shows and prints.")
+    parser.add_argument("--program", help="the program, whose pages are opened too")
+    options = parser.parse_args()
     results = Results()
     with tempfile.TemporaryDirectory() as folder:
+        program = Program(options.program, folder) if options.program else None
         try:
-            test(results, folder)
+            test(results, folder, program)
         except TooManyFailures:
             pass
     print(f"{results.passed} passed, {results.failed} failed")

@@ -17,7 +17,7 @@ import sys
 
 from comparing import run_test
 
-VERSION = b"0.2.0"
+VERSION = b"0.3.0"
 MAX_TEXT = 1_048_576
 
 # Puzzles
@@ -84,6 +84,16 @@ def totals(entries, **counts):
 
 ONE_LINE = b"1 1x1 one line 1 1 0 absent one.mk\n"
 ONE_TOTALS = totals(1, one=1, line=1)
+CSV_HEADER = b"number,name,width,height,verdict,grade,line_cells,trial_cells,guesses,goal,fault,fault_line,message,title,by\n"
+ONE_CSV = b"1,one.mk,1,1,one,line,1,1,0,absent,,,,,\n"
+TOO_LONG_CSV = b'2,too-long.mk,,,,,,,,,TooLong,,"the text has more than 1,048,576 bytes",,\n'
+ONE_JSON = (
+    b'{"by":null,"catalogue":null,"columns":[[]],"copyright":null,"differing":null,"fault":null,"fault_line":null,'
+    b'"goal":"absent","goal_rows":null,"grade":"line","guesses":0,"height":1,"license":null,"line_cells":1,"message":null,'
+    b'"misfits":[],"name":"one.mk","number":1,"rows":[[]],"solutions":[["."]],"sums":{"columns":0,"rows":0},"title":null,'
+    b'"trial_cells":1,"verdict":"one","width":1}\n'
+    b'{"totals":{"entries":1,"line":1,"none":0,"one":1,"refused":0,"search":0,"several":0,"trials":0,"unsettled":0}}\n'
+)
 SEVERAL_TOTALS = totals(1, several=1, search=1)
 UNSETTLED_TOTALS = totals(1, unsettled=1, search=1)
 TWO_ONE_GUESS = b"1 2x2 unsettled search 0 0 1 absent two.mk\n"
@@ -134,6 +144,12 @@ PRINTED = [
     (b"solve --pick most --guesses 2 two.mk", b"", TWO_SOLVED + TWO_GRIDS),
     (b"solve hard.nin", b"", hard(1000)),
     (b"solve --guesses 1001 hard.nin", b"", hard(1001)),
+    # The format, usually `text`.
+    (b"survey --format text one.mk", b"", ONE_LINE + ONE_TOTALS),
+    (b"survey --show --format=text one.mk", b"", ONE_LINE + b".\n\n" + ONE_TOTALS),
+    (b"survey --format csv", b"", CSV_HEADER),
+    (b"survey --format csv one.mk too-long.mk", b"", CSV_HEADER + ONE_CSV + TOO_LONG_CSV),
+    (b"survey --format=json one.mk", b"", ONE_JSON),
     # The rule for guesses, usually `first`.
     (b"survey --show twin.mk", b"", TWIN_LINE + TWIN_FIRST + SEVERAL_TOTALS),
     (b"survey --pick first --show twin.mk", b"", TWIN_LINE + TWIN_FIRST + SEVERAL_TOTALS),
@@ -280,6 +296,13 @@ REFUSED = [
     ("survey --guesses=-1", "invalid value '-1' for '--guesses <N>': -1 is not in 0..=1000000", None),
     ("solve --guesses 1000001 one.mk", "invalid value '1000001' for '--guesses <N>': 1000001 is not in 0..=1000000", None),
     ("survey --pick last", "invalid value 'last' for '--pick <RULE>'\n  [possible values: first, most]", None),
+    (
+        "survey --format xml",
+        "invalid value 'xml' for '--format <FORMAT>'\n  [possible values: text, csv, json, html]",
+        None,
+    ),
+    ("survey --show --format csv", "--show goes with --format text alone", USAGE),
+    ("survey --format csv --format csv", "the argument '--format <FORMAT>' cannot be used multiple times", SURVEY_USAGE),
     ("check --grade search", "invalid value 'search' for '--grade <GRADE>'\n  [possible values: line, trials]", None),
     ("check --grade line --grade line", "the argument '--grade <GRADE>' cannot be used multiple times", CHECK_USAGE),
     ("check --lanes 17 one.mk", "invalid value '17' for '--lanes <N>': 17 is not in 1..=16", None),

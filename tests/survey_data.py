@@ -1,12 +1,12 @@
 #!/usr/bin/env python3
-"""A second implementation of a survey in JSON and in CSV.
+"""A second implementation of a survey in CSV, in JSON and in HTML.
 
-It is written from what `docs/formats.md` says of both, and shares no code with the program, so that a test can compare the
+It is written from what `docs/formats.md` says of them, and shares no code with the program, so that a test can compare the
 two. It takes texts apart by `readers.py`, solves puzzles by `solving.py`, and has its messages from `findings.py`.
 
 Usage: survey_data.py [--html | --csv] [FILE]...
 
-Prints the survey of these files in JSON, or as it stands in the page of a survey (`--html`), or in CSV.
+Prints the survey of these files in JSON, or as a page (`--html`), or in CSV.
 
 >>> entries = [(b"a,b.mk", b"1 1\\n1\\n#\\n1\\n"), (b"d.mk", b"")]
 >>> print(csv_survey(entries, Options()).decode(), end="")
@@ -35,6 +35,8 @@ TEXTS = ("by", "catalogue", "copyright", "license", "title")
 OF_PUZZLE = ("columns", "goal", "grade", "guesses", "height", "line_cells", "misfits", "rows", "solutions", "sums")
 OF_PUZZLE += ("trial_cells", "verdict", "width", *TEXTS)  # the members that are null if an entry is refused
 COUNTED = ("line", "none", "one", "refused", "search", "several", "trials", "unsettled")
+PAGE = os.path.join(os.path.dirname(os.path.dirname(os.path.abspath(__file__))), "page", "page.html")
+FIRST, LAST = b'<script type="application/json" id="survey">\n', b"</script>\n"  # above and below the page's data
 
 
 def message_of(name, text, options):
@@ -152,9 +154,22 @@ def json_survey(entries, options):
     return json_text([members_of(number, *entry, options) for number, entry in enumerate(entries, 1)])
 
 
+def escaped(text):
+    """Returns lines of JSON as they stand in the page: without any `<`."""
+    return text.replace(b"<", b"\\u003c")
+
+
+def page_parts():
+    """Returns the page of the repository as what stands above its data, the data, which are a sample, and what stands below."""
+    with open(PAGE, "rb") as file:
+        head, first, rest = file.read().partition(FIRST)
+    return head + first, rest[: rest.index(LAST)], rest[rest.index(LAST) :]
+
+
 def html_text(found):
-    """Returns the same survey as it stands in the page: without any `<`."""
-    return json_text(found).replace(b"<", b"\\u003c")
+    """Returns the page of a survey of entries of which these members are known."""
+    head, _, tail = page_parts()
+    return head + escaped(json_text(found)) + tail
 
 
 # CSV

@@ -1,9 +1,10 @@
 #!/usr/bin/env bash
 # Passes all tests: `rt ci` (every proof from nothing, the wrong bodies of must-fail/, the tests in Rattle and the
-# stored run) and, beside it, the checks that need no program: ShellCheck over the scripts, and what public contracts
-# rest on. Then come the scripts and the tests in Python over the program and the libraries that `rt ci` left; those
-# that measure no time run side by side. It installs the Debian packages that it needs and doesn't find, and ends at the
-# first step that fails. It prints the time that it took, and its last line is `N passed, M failed` over all steps.
+# stored run) and, beside it, the checks that need no program: ShellCheck over the scripts, what public contracts rest
+# on, and the page of a survey. Then come the scripts and the tests in Python over the program and the libraries that
+# `rt ci` left; those that measure no time run side by side. It installs the Debian packages that it needs and doesn't
+# find, and ends at the first step that fails. It prints the time that it took, and its last line is `N passed, M failed`
+# over all steps.
 # shellcheck disable=SC2317 # `step` and `begin` call functions by their names.
 . "$(dirname "$0")/common.sh"
 cd "$tools/.." || exit
@@ -34,7 +35,7 @@ lacking() {
     parallel --version | grep -q '^GNU parallel' || echo parallel
     hash sshd ssh rsync gawk shellcheck || echo openssh-server openssh-client rsync gawk shellcheck
     hash make mandoc man zsh fish lintian valgrind || echo make mandoc man-db zsh fish lintian valgrind
-    hash python3 rustc || echo python3 rustc
+    hash python3 rustc sqlite3 || echo python3 rustc sqlite3
     hash chromium chromedriver pdftotext tidy || echo chromium chromium-driver poppler-utils tidy
     /usr/bin/python3 -c 'import PIL, selenium' || echo python3-pil python3-selenium
 } 2>/dev/null
@@ -53,8 +54,8 @@ install_packages() {
 }
 
 # Checks what needs no program: that ShellCheck finds nothing in any script, that no public contract rests on a
-# definition that only private calls need, and that the page on proofs says how many there are for the headline. Makes what
-# the program is compared with, too.
+# definition that only private calls need, that the page on proofs says how many there are for the headline, and that the
+# page of a survey is that of page/. Makes what the program is compared with, too.
 check_texts() {
     local scripts=(.ci/run bin/* tools/*.sh) said
     install_packages || return
@@ -62,8 +63,9 @@ check_texts() {
     said=$(tools/promises.py) || { tail -n 5 <<<"$said"; return 1; }
     said=$(tools/promises.py headline | tail -n 1)
     grep -qF "$said" docs/proofs.md || { echo "docs/proofs.md doesn't say $said"; return 1; }
+    tools/page.sh --check || return
     benches/run.py make || return
-    echo "$((${#scripts[@]} + 2)) passed, 0 failed"
+    echo "$((${#scripts[@]} + 3)) passed, 0 failed"
 }
 
 # Proves everything, and checks at which goals the named wrong bodies were refused.
@@ -152,13 +154,12 @@ for script in "${others[@]}"; do
     begin "$script"
 done
 compared=(--program crates/nonograde/out/nonograde --library out/library)
-begin tests/texts_test.py "${compared[@]}"
-begin tests/solving_test.py "${compared[@]}"
-begin tests/program_test.py "${compared[@]}"
-begin tests/traps_test.py --program crates/nonograde/out/nonograde
-begin tests/findings_test.py --program crates/nonograde/out/nonograde
-begin tests/page_test.py
+for test in tests/{texts,solving,program,survey}_test.py; do
+    begin "$test" "${compared[@]}"
+done
+for test in tests/{traps,findings,page}_test.py; do
+    begin "$test" --program crates/nonograde/out/nonograde
+done
 begin benches/run.py test
-take "${others[@]}" tests/texts_test.py tests/solving_test.py tests/program_test.py tests/traps_test.py tests/findings_test.py \
-    tests/page_test.py benches/run.py
+take "${others[@]}" tests/{texts,solving,program,survey,traps,findings,page}_test.py benches/run.py
 end_gate 0
