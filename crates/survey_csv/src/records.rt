@@ -15,6 +15,8 @@ fn no_memory(_error: Error) -> NoMemory {
 
 /// Returns `text` with a record of these fields behind it. Fails with `NoMemory` if an allocation
 /// fails.
+// Not inlined, so that other forms don't need the stack of the writer's buffer.
+#[inline(never)]
 fn with_record(text: Vec<u8>, fields: &[&[u8]]) -> Result<Vec<u8>, NoMemory>
     ensures { IfOk result (λ longer. longer.items
         ≡ text.items ++ row_text default_writer (map (λ field. field.now) fields.now)) }

@@ -159,6 +159,8 @@ fn entry_value(alloc: Global, number: u32, entry: &ListedEntry<'_>) -> Result<Va
 
 /// Appends the line of `entry`: its object and LF. `number` is the entry's, from 1. Fails with
 /// `NoMemory` if that is the fault for which the entry is refused, or if an allocation fails.
+// Not inlined, so that other forms don't need its stack.
+#[inline(never)]
 pub fn push_json_line(
     text: &mut Vec<u8>,
     alloc: Global,
