@@ -298,7 +298,8 @@ REFUSED = [
     ("survey --pick last", "invalid value 'last' for '--pick <RULE>'\n  [possible values: first, most]", None),
     (
         "survey --format xml",
-        "invalid value 'xml' for '--format <FORMAT>'\n  [possible values: text, csv, json, html]",
+        "invalid value 'xml' for '--format <FORMAT>'\n  [possible values: text, csv, json, html]"
+        "\n\n  tip: a similar value exists: 'html'",
         None,
     ),
     ("survey --show --format csv", "--show goes with --format text alone", USAGE),
