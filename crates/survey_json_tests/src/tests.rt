@@ -8,7 +8,7 @@ use crate::lines::{
 };
 use grid_core::{NoMemory, Puzzle};
 use lane_core::{Answer, Job, grade};
-use puzzle_text::{EntryFault, TextFault, read_mk, read_non};
+use puzzle_text::{EntryFault, TextFault, push_bytes, read_mk, read_non};
 use solve_core::Pick;
 use std::alloc::Global;
 use std::process::Abort;
@@ -200,12 +200,14 @@ fn survey_in<F: SurveyForm>(
 }
 
 /// Asserts that `text` is `line`, the line of totals, and an LF after each.
-fn assert_survey(rt: &impl Abort, text: &[u8], line: &str) {
-    let mut lines = text.split(|byte| *byte == b'\n');
-    assert!(rt; lines.next() == Some(line.as_bytes()));
-    assert!(rt; lines.next() == Some(TOTALS.as_bytes()));
-    assert!(rt; lines.next() == Some(b"".as_slice()));
-    assert!(rt; lines.next().is_none());
+fn assert_survey(rt: &(impl Abort + AllocGlobal), text: &[u8], line: &str) -> Result<(), Fail> {
+    let mut wanted = Vec::new(rt.alloc());
+    push_bytes(&mut wanted, line.as_bytes())?;
+    push_bytes(&mut wanted, b"\n")?;
+    push_bytes(&mut wanted, TOTALS.as_bytes())?;
+    push_bytes(&mut wanted, b"\n")?;
+    assert_eq!(rt; text, wanted.as_slice());
+    Ok(())
 }
 
 /// A graded entry, a refused one, and totals, in the form.
@@ -215,10 +217,9 @@ fn surveys_are_printed(rt: HostRuntime) -> Result<(), Fail> {
     let form = JsonForm { alloc };
     let answer = answer_to(alloc, read_non(alloc, ONE_PUZZLE)?, 1000);
     let graded = ListedEntry::graded(b"one.non", ONE_PUZZLE, &answer)?;
-    assert_survey(&rt, &survey_in(alloc, &form, 1, &graded)?, ONE);
+    assert_survey(&rt, &survey_in(alloc, &form, 1, &graded)?, ONE)?;
     let refused = ListedEntry::refused(b"bad.mk", BAD_TEXT, BAD_CLUE);
-    assert_survey(&rt, &survey_in(alloc, &form, 5, &refused)?, REFUSED);
-    Ok(())
+    assert_survey(&rt, &survey_in(alloc, &form, 5, &refused)?, REFUSED)
 }
 
 /// A line is appended to the text before it.
