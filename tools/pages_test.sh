@@ -398,9 +398,19 @@ compare_limit() {
     count "$1: more than the $limit of $3" "$(fault_at "$1" $((limit + 1)) | grep -qw "$2" || echo "it isn't $2")"
 }
 
+# Compares what a command prints with what it prints on the stack of the man page, whose KiB stand after the words that are
+# given.
+compare_stack() {
+    local kib command=$2
+    kib=$(number_after 1 "$1")
+    # shellcheck disable=SC2086
+    same "$command with a stack of ${kib:-no} KiB" "$(nonograde $command <puzzles/collection.txt 2>&1)" \
+        "$(ulimit -s "$kib" && env -i "$(command -v nonograde)" $command <puzzles/collection.txt 2>&1)"
+}
+
 # Compares all limits of man pages and docs/formats.md with the program, and the stack of the man page.
 compare_limits() {
-    local page=docs/formats.md kib command
+    local page=docs/formats.md command
     compare_limit side BadSize 1 'Width and height 1 to'
     compare_limit side BadSize 1 "A size isn't a number from 1 to"
     compare_limit side BadSize 5 'a width and a height, each from 1 to'
@@ -427,13 +437,11 @@ compare_limits() {
     compare_limit puzzles TooMany 1 'There are more than'
     compare_limit puzzles TooMany 5 'bytes and'
     compare_limit puzzles TooMany $page 'TooMany. \| a collection \| it has more than'
-    kib=$(number_after 1 'The main thread needs a stack of')
     for command in 'survey --show' 'survey puzzles/cat.mk' 'solve puzzles/carpet.nin' 'lines puzzles/cat.mk' \
-        'convert --to mk puzzles/demo.non' 'solve --help' 'survey --lanes 0'; do
-        # shellcheck disable=SC2086
-        same "$command with a stack of ${kib:-no} KiB" "$(nonograde $command <puzzles/collection.txt 2>&1)" \
-            "$(ulimit -s "$kib" && env -i "$(command -v nonograde)" $command <puzzles/collection.txt 2>&1)"
+        'convert --to mk puzzles/demo.non' 'solve --help' 'survey --lanes 0' 'survey --format html'; do
+        compare_stack 'The main thread needs a stack of' "$command"
     done
+    compare_stack 'for csv of' 'survey --format csv'
 }
 
 # A field of a puzzle's line, by its name among the columns of the man page.
