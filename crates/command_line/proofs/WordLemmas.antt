@@ -98,7 +98,7 @@ true_of_text E (Some t) (Some false) none reads = (
   λ is. absurd (let other : t ≡ codes "false" = reads t refl in let same : t ≡ codes "true" = cc in cc),
 )
 
--- the same of the flag's entry
+-- a flag read from a command's values is set exactly if its text there is `true`
 pub true_of_entry : (E : Type 0) (f : Found) (id : Text) (given : Option Bool) → (one_text f id ≡ None → given ≡ None)
     → ((t : Text) → one_text f id ≡ Some t → ReadsOne (ParsesBool {E = E}) t given)
     → (unwrap_or given false ≡ true) ↔ (one_of id (rows_of f) ≡ Some (codes "true"))
