@@ -7,7 +7,7 @@ use Rattle.std.proofs.Math.Seq.{take-suc}
 use Rattle.grid_core.specs.Cells.{is_known}
 use Rattle.grid_core.specs.Lines.{IsUnknownCell}
 use Rattle.line_core.specs.steps.KnownEnds.{AreKnown, IsInnerClue, IsKnownEnd, filled_first}
-use Rattle.line_core.specs.steps.Full.{IsCluePrefix, IsFilled, mirrored_if}
+use Rattle.line_core.specs.steps.CluePrefix.{IsCluePrefix, IsFilled, mirrored_if}
 use Rattle.line_core.specs.Order.{AtMost}
 use Rattle.line_core.proofs.DeductionLaws.{IsPlacing, deduced-greatest, deduced-below, deduced-above, get_or-map_colour, length-deduced, length-Extends, AtMost-antisym, full_same, Extends-refl}
 use Rattle.line_core.proofs.Joining.{filled_within, onto, runs_cut}

@@ -16,7 +16,7 @@ pub mod SupportLaws
 pub mod Packing
 pub mod Padding
 pub mod SingleRuns
-pub mod FullLines
+pub mod CluePrefixes
 pub mod KnownEnds
 pub mod LookaheadLemmas
 pub mod SupportMasks

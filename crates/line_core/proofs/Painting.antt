@@ -19,7 +19,7 @@ pub record IsLaid (l : List Cell) (clue ss : List ℕ) : Type 0 where
   pub apart : StandApart clue ss
   pub blanks : (i : ℕ) → i < length l → IsFree clue ss i → MayBe l false i
 
-pub agrees_at : (l : List Cell) (x : List Bool) (i : ℕ) → agrees l x ≡ true → i < length l
+agrees_at : (l : List Cell) (x : List Bool) (i : ℕ) → agrees l x ≡ true → i < length l
     → allows (get_or l i Unknown) (get_or x i false) ≡ true
 agrees_at (c ∷ l) (b ∷ x) i a h = search (rules, and_parts, agrees_at l x)
 agrees_at l x i a h = search rules

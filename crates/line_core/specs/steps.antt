@@ -1,5 +1,5 @@
 -- The definitions that only private contracts use.
-pub mod Full
+pub mod CluePrefix
 pub mod SingleRun
 pub mod Outermost
 pub mod Overlaps

@@ -13,7 +13,6 @@ ghost use Rattle.line_core.specs.Support.{deduced_from};
 use crate::Line;
 use crate::buffers::{GapBuffers, ensure_initialized};
 use crate::domains::{LineDomain, padded};
-use crate::full::{full_line_support, is_full};
 use crate::known_ends::{inner_clue_range, known_ends};
 use crate::lookahead::Lookahead;
 use crate::lookahead_buffers::LookaheadBuffers;
@@ -94,10 +93,9 @@ fn general_support<W: BitSet>(
     scanned_support(domain, clue, gaps)
 }
 
-/// Returns the cells that are filled in some placing, and the cells that are blank in some. Lines
-/// whose cells are all unknown or all known are computed directly; any other line is padded to the
-/// width of the sets, and scanned unless its clue is a single run. `gaps` is a buffer for the
-/// suffix gaps.
+/// Returns the cells that are filled in some placing, and the cells that are blank in some. A line
+/// whose cells are all unknown is computed directly; any other line is padded to the width of the
+/// sets, and scanned unless its clue is a single run. `gaps` is a buffer for the suffix gaps.
 pub fn line_support<W: BitSet>(
     domain: &LineDomain<W>,
     clue: &[u16],
@@ -113,9 +111,6 @@ pub fn line_support<W: BitSet>(
 {
     if is_unknown(domain) {
         return unknown_line_support(domain.len, clue);
-    }
-    if is_full(domain) {
-        return full_line_support(domain, clue);
     }
     // A padded line is mirrored without a shift. The appended cells are blank in each placing, so
     // they have to be removed from the second set only.

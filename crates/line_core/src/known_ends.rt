@@ -2,12 +2,12 @@
 
 ghost use Rattle.std.specs.Prelude.{◌≡◌, ◌+◌, ◌<◌, ◌≤◌, ℕ, length, reverse};
 ghost use Rattle.bit_sets.specs.Masks.{has};
-ghost use Rattle.line_core.specs.steps.Full.{IsCluePrefix, mirrored_if};
+ghost use Rattle.line_core.specs.steps.CluePrefix.{IsCluePrefix, mirrored_if};
 ghost use Rattle.line_core.specs.steps.Lookahead.{mirror_index};
 ghost use Rattle.line_core.specs.steps.Feasibility.{AreLengths};
 ghost use Rattle.line_core.specs.steps.KnownEnds.{AreKnown, IsInnerClue, IsKnownEnd, filled_first};
 
-use crate::full::match_clue_prefix;
+use crate::clue_prefix::match_clue_prefix;
 use bit_sets::{BitSet, prefix, reversed_within};
 use grid_core::BitLine;
 

@@ -3,10 +3,10 @@
 #![tactic(auto)]
 
 mod buffers;
+mod clue_prefix;
 mod combining;
 mod deduction;
 mod domains;
-mod full;
 mod gaps;
 mod known_ends;
 pub mod laws;

@@ -10,9 +10,3 @@ ghost-padded g a = g.line
 
 abbrev pub ghost-general_support : goal.ghost-general_support
 ghost-general_support g a = padded g.W.BitSet.WIDTH g.line
-
-abbrev pub ghost-is_full : goal.ghost-is_full
-ghost-is_full g a = g.line
-
-abbrev pub ghost-full_line_support : goal.ghost-full_line_support
-ghost-full_line_support g a = g.line

@@ -1,7 +1,7 @@
 -- `end_runs`: the runs of the first cells, or of the last cells from the other end, are compared with the clue.
 use Rattle.line_core.proofs.Names.{arith, is_filled, not, nat_eq}
-use Rattle.line_core.specs.steps.Full.{mirrored_if}
-use Rattle.line_core.proofs.FullLines.{length-mirrored_if}
+use Rattle.line_core.specs.steps.CluePrefix.{mirrored_if}
+use Rattle.line_core.proofs.CluePrefixes.{length-mirrored_if}
 use Rattle.grid_core.proofs.LineCells.{has_filled}
 use Rattle.line_core.proofs.KnownEnds.{filled_is, mirrored_values}
 use Rattle.line_core.proofs.known_ends.end_runs.Goals as goal

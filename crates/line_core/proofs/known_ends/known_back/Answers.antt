@@ -1,5 +1,4 @@
 -- `known_back`: the known end reaches to the first blank cell of the known cells at the right.
-use Rattle.line_core.proofs.Names.{arith}
 use Rattle.line_core.proofs.KnownEnds.{known_end_mirrored}
 use Rattle.line_core.proofs.known_ends.known_back.Goals as goal
 

@@ -1,5 +1,4 @@
 -- `known_front`: the known end reaches to the last blank cell of the known cells at the left.
-use Rattle.line_core.proofs.Names.{arith}
 use Rattle.line_core.proofs.KnownEnds.{known_end_is}
 use Rattle.line_core.proofs.known_ends.known_front.Goals as goal
 

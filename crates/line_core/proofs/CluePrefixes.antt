@@ -1,45 +1,11 @@
--- A full line: it is the one placing of its runs, and `match_clue_prefix` compares these with the clue.
-use Rattle.line_core.proofs.Names.{◌++◌, append-nil, append_assoc, length-reverse, lengths_mirrored, length_at, reverse, AreLengths, length-append, length-drop, take, ArePositive, rules, ◌≡◌, ◌≢◌, ◌↔◌, ℕ, zero, suc, ◌+◌, ◌<◌, ◌≤◌, Bool, true, false, not, cond, List, [], ◌∷◌, length, map, Option, Some, None, refl, sym, ap, ◌∙◌, subst, arith, add-one, drop, get_or, drop-cons, drop_of_length-le, ext_get_or, false_from_ne_true, Cell, Unknown, allows, agrees, is_filled, runs, has_by, runs_after, Has, has, IsMaskOf, has_true, true_has, mask_same, MayBe, runs_after-zero, runs_after-true, runs_after-close, runs_after-nil, none_has, add_comm, get_or-drop, common_steps}
-use Rattle.line_core.specs.steps.Full.{IsFull, IsFilled, mirrored_if}
-use Rattle.line_core.proofs.FeasibleEnds.{IsInSupport, in_support_mask, none_in_support}
-use Rattle.line_core.proofs.Joining.{length-agrees}
+-- Runs and the beginning of a clue: `match_clue_prefix` removes one run for each number.
+use Rattle.line_core.proofs.Names.{◌++◌, append-nil, append_assoc, length-reverse, lengths_mirrored, length_at, reverse, AreLengths, length-append, length-drop, take, rules, ◌≡◌, ◌≢◌, ◌↔◌, ℕ, zero, suc, ◌+◌, ◌<◌, ◌≤◌, Bool, true, false, not, cond, List, [], ◌∷◌, length, Option, Some, None, refl, sym, ap, ◌∙◌, arith, add-one, drop, get_or, drop-cons, drop_of_length-le, false_from_ne_true, runs, has_by, runs_after, Has, has, IsMaskOf, has_true, true_has, mask_same, runs_after-zero, runs_after-true, runs_after-close, runs_after-nil, none_has, add_comm, get_or-drop, common_steps}
+use Rattle.line_core.specs.steps.CluePrefix.{IsFilled, mirrored_if}
 use Rattle.line_core.proofs.RunStarts.{covered}
 use Rattle.std.proofs.Math.Seq.{take-suc}
 use Rattle.bit_sets.proofs.WordSteps.{some_index}
-use Rattle.line_core.proofs.Painting.{agrees_at}
 
--- ---- the one full line that agrees
-
--- a full line that agrees with a line has only colours that its cells can have
-may_be : (l : List Cell) (x : List Bool) (v : Bool) (i : ℕ) → agrees l x ≡ true → i < length l → get_or x i false ≡ v → MayBe l v i
-may_be l x v i agree h e = (h, subst (λ (b : Bool). allows (get_or l i Unknown) b ≡ true) e (agrees_at l x i agree h))
-
--- a full line that agrees with a line without unknown cells has all colours that its cells can have
-only_be : (l : List Cell) (x : List Bool) (v : Bool) (i : ℕ) → IsFull l → agrees l x ≡ true → MayBe l v i → get_or x i false ≡ v
-only_be l x v i full agree m = search (rules, may_be)
-
--- the filled cells of a line, as a full line, agree with it
-agrees_filled : (l : List Cell) → agrees l (map is_filled l) ≡ true
-agrees_filled [] = refl
-agrees_filled (c ∷ l) = search (rules, agrees_filled l)
-
--- no other full line agrees with a line without unknown cells
-full_is : (l : List Cell) (x : List Bool) → IsFull l → agrees l x ≡ true → x ≡ map is_filled l
-full_is l x full agree = ext_get_or false x (map is_filled l) (search (rules, length-agrees, agrees_filled)) (λ k h.
-    sym (only_be l (map is_filled l) _ k full (agrees_filled l) (may_be l x _ k agree (omega (arith, length-agrees l x agree)) refl)))
-
--- if its runs are the clue, its support is the colours of its cells
-pub full_in_support : (l : List Cell) (clue : List ℕ) (v : Bool) (m : ℕ) → ArePositive clue → IsFull l → runs (map is_filled l) ≡ clue
-    → IsMaskOf (MayBe l v) m → IsMaskOf (IsInSupport l clue v) m
-full_in_support l clue v m pos full is p = search (rules, in_support_mask, agrees_filled, only_be, may_be)
-
--- if its runs are not the clue, its support is empty
-pub dead_in_support : (l : List Cell) (clue : List ℕ) (v : Bool) (m : ℕ) → ArePositive clue → IsFull l → (runs (map is_filled l) ≡ clue → ⊥)
-    → m ≡ 0 → IsMaskOf (IsInSupport l clue v) m
-dead_in_support l clue v m pos full other e =
-    none_in_support l clue v m pos e (λ x agree is. other (ap runs (sym (full_is l x full agree)) ∙ is))
-
--- ---- comparing its runs with the clue
+-- ---- removing run by run
 
 -- the runs of cells, if the first `least` of them are blank
 abbrev pub runs_past : ℕ → List Bool → Option (List ℕ)

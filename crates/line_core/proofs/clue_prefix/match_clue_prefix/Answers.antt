@@ -1,7 +1,7 @@
 -- `match_clue_prefix`: each turn removes one more run, until a number has no run or a run has another length.
 use Rattle.line_core.proofs.Names.{◌∙◌, ◌≡◌, length, sym, eqb-true, eqb-false, arith, not, nat_eq, width_most}
-use Rattle.line_core.proofs.FullLines.{walk_more, walk_near, walk_none, walk_last, length-mirrored_if, mirrored_number}
-use Rattle.line_core.proofs.full.match_clue_prefix.Goals as goal
+use Rattle.line_core.proofs.CluePrefixes.{walk_more, walk_near, walk_none, walk_last, length-mirrored_if, mirrored_number}
+use Rattle.line_core.proofs.clue_prefix.match_clue_prefix.Goals as goal
 
 pub returns-then-is_empty : goal.returns-then-is_empty
 returns-then-is_empty g c = λ cells mask.

@@ -1,12 +1,6 @@
--- Lines whose cells are all known, and runs that are the beginning of a clue.
+-- Runs that are the beginning of a clue.
 use Rattle.std.specs.Prelude.{◌≡◌, ◌≤◌, ℕ, Bool, true, false, List, ◌++◌, length, reverse, slice_index_or, take, Option, Some, None}
-use Rattle.grid_core.specs.declared.cells.Cell.{Cell}
 use Rattle.grid_core.specs.Runs.{runs}
-use Rattle.line_core.specs.steps.Feasibility.{MayBe}
-
--- each cell of the line is known: none can still take both colours
-abbrev pub IsFull : List Cell → Type 0
-IsFull line = (i : ℕ) → MayBe line false i → MayBe line true i → ⊥
 
 -- cell `i` of a full line is filled
 abbrev pub IsFilled : List Bool → ℕ → Type 0

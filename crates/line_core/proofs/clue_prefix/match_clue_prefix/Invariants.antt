@@ -1,8 +1,8 @@
 -- The invariant of the loop of `match_clue_prefix`: the cells that are left have the runs that come after those removed.
 use Rattle.line_core.proofs.Names.{Bool, List, IsMaskOf, nat_eq, not}
-use Rattle.line_core.specs.steps.Full.{IsFilled, mirrored_if}
-use Rattle.line_core.proofs.FullLines.{IsWalked}
-use Rattle.line_core.proofs.full.match_clue_prefix.Given as goal
+use Rattle.line_core.specs.steps.CluePrefix.{IsFilled, mirrored_if}
+use Rattle.line_core.proofs.CluePrefixes.{IsWalked}
+use Rattle.line_core.proofs.clue_prefix.match_clue_prefix.Given as goal
 
 abbrev pub invariant-loop-j : goal.invariant-loop-j
 invariant-loop-j g l =
