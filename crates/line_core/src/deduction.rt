@@ -376,11 +376,9 @@ fn deduce_as<W: LineBits>(tables: &mut Tables, line: &Line, clue: &Clue) -> Opti
     ensures answer { result ≡ deduced line.now clue.now }
     ensures tables { tables.new ≡ tables.old }
 {
-    match W::deduce(tables, &line.cells.resized(), clue) {
+    match W::deduce(tables, &line.resized(), clue) {
         None => None,
-        Some(cells) => Some(Line {
-            cells: cells.widened(),
-        }),
+        Some(deduced) => Some(deduced.widened()),
     }
 }
 

@@ -10,7 +10,6 @@ mod domains;
 mod gaps;
 mod known_ends;
 pub mod laws;
-mod line;
 mod lookahead;
 mod lookahead_buffers;
 mod lookahead_tables;
@@ -22,11 +21,14 @@ mod starts;
 mod suffix_gaps;
 mod widths;
 
+use bit_sets::Bits256;
 pub use deduction::{LineBits, Tables, deduce};
 pub use grid_core::BitLine;
-pub use line::Line;
 pub use lookahead::{Lookahead, Support};
 pub use lookahead_buffers::LookaheadBuffers;
 pub use lookahead_tables::LookaheadTable;
 pub use starts::{Starts, leftmost, rightmost};
 pub use widths::{SetWidth, bits_needed};
+
+/// A line of 1 to 256 cells, in the widest sets.
+pub type Line = BitLine<Bits256>;

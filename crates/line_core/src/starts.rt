@@ -154,21 +154,21 @@ fn find_by_width(
     match SetWidth::of(bits_needed(line.len(), clue)) {
         SetWidth::Narrow => find_starts::<u64>(
             direction,
-            &line.cells.resized(),
+            &line.resized(),
             clue,
             &mut buffers.narrow,
             list,
         ),
         SetWidth::Middle => find_starts::<u128>(
             direction,
-            &line.cells.resized(),
+            &line.resized(),
             clue,
             &mut buffers.middle,
             list,
         ),
         SetWidth::Wide => find_starts::<Bits256>(
             direction,
-            &line.cells.resized(),
+            &line.resized(),
             clue,
             &mut buffers.wide,
             list,
