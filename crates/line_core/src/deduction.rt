@@ -1,6 +1,6 @@
 //! Deduction: finds the cells of a line that have the same colour in all placings.
 
-ghost use Rattle.std.specs.Prelude.{◌≡◌, ◌<◌, ◌≤◌, List, Some, length, map, vec_capacity, IfOk, All};
+ghost use Rattle.std.specs.Prelude.{◌≡◌, ◌<◌, ◌≤◌, List, Some, length, map, IfOk, All};
 ghost use Rattle.grid_core.specs.declared.cells.Cell.{Cell};
 ghost use Rattle.bit_sets.specs.Masks.{IsMaskOf};
 ghost use Rattle.line_core.specs.declared.lookahead.TheConstants.{MAX_LOOKAHEAD_LEN};
@@ -135,10 +135,10 @@ pub fn deduced_from<W: BitSet>(len: u16, fillable: W, blankable: W) -> Option<Bi
     Some(BitLine::from_sets(len, filled, blank))
 }
 
-/// Returns the deduced line for the numbers of a clue, or `None` if there is no placing. The vector
-/// is the buffer for the suffix gaps, which is initialized on first use.
+/// Returns the deduced line for the numbers of a clue, or `None` if there is no placing. `gaps` is a
+/// buffer for the suffix gaps.
 fn deduce_numbers<W: BitSet>(
-    buffer: &mut Vec<[W::Stored; MAX_GAPS]>,
+    gaps: &mut [W::Stored; MAX_GAPS],
     line: &BitLine<W>,
     clue: &[u16],
 ) -> Option<BitLine<W>>
@@ -146,35 +146,28 @@ fn deduce_numbers<W: BitSet>(
     requires cells { line.now ≡ cells }
     requires clue { AreLengths W.WIDTH clue.now }
     requires count { length clue.now ≤ MAX_RUNS }
-    requires buffer { 0 < vec_capacity buffer.old }
-    ensures answer { result ≡ deduced cells clue.now }
-    ensures buffer { 0 < vec_capacity buffer.new }
+    ensures { result ≡ deduced cells clue.now }
 {
-    ensure_initialized::<W>(buffer);
     let domain = LineDomain::of(line);
-    let (fillable, blankable) = line_support(&domain, clue, &mut buffer[0]);
+    let (fillable, blankable) = line_support(&domain, clue, gaps);
     deduced_from(domain.len, fillable, blankable)
 }
 
 /// Returns the deduced line, or `None` if there is no placing. Uses sets of 64 indices if these
-/// hold the line and the numbers of the clue, and sets of type `W` if not; the two vectors are the
-/// gap buffers of these sets.
+/// hold the line and the numbers of the clue, and sets of type `W` if not. `narrow` and `gaps` are
+/// buffers for the suffix gaps in these sets.
 fn deduce_part<W: BitSet>(
-    narrow: &mut Vec<[u64; MAX_GAPS]>,
-    buffer: &mut Vec<[W::Stored; MAX_GAPS]>,
+    narrow: &mut [u64; MAX_GAPS],
+    gaps: &mut [W::Stored; MAX_GAPS],
     line: &BitLine<W>,
     clue: &[u16],
 ) -> Option<BitLine<W>>
     requires clue { AreLengths W.WIDTH clue.now }
     requires count { length clue.now ≤ MAX_RUNS }
-    requires narrow { 0 < vec_capacity narrow.old }
-    requires buffer { 0 < vec_capacity buffer.old }
-    ensures answer { result ≡ deduced line.now clue.now }
-    ensures narrow { 0 < vec_capacity narrow.new }
-    ensures buffer { 0 < vec_capacity buffer.new }
+    ensures { result ≡ deduced line.now clue.now }
 {
     if bits_needed(line.len(), clue) > 64 {
-        return deduce_numbers(buffer, line, clue);
+        return deduce_numbers(gaps, line, clue);
     }
     match deduce_numbers::<u64>(narrow, &line.resized(), clue) {
         None => None,
@@ -183,29 +176,26 @@ fn deduce_part<W: BitSet>(
 }
 
 /// Returns the deduced line, or `None` if there is no placing. Trims the known cells at both ends
-/// first, if there are enough of them, and deduces the cells between them alone.
+/// first, if there are enough of them, and deduces the cells between them alone. `narrow` and `gaps`
+/// are buffers for the suffix gaps.
 fn deduce_trimmed<W: BitSet>(
-    narrow: &mut Vec<[u64; MAX_GAPS]>,
-    buffer: &mut Vec<[W::Stored; MAX_GAPS]>,
+    narrow: &mut [u64; MAX_GAPS],
+    gaps: &mut [W::Stored; MAX_GAPS],
     line: &BitLine<W>,
     clue: &[u16],
 ) -> Option<BitLine<W>>
     requires clue { AreLengths W.WIDTH clue.now }
     requires count { length clue.now ≤ MAX_RUNS }
-    requires narrow { 0 < vec_capacity narrow.old }
-    requires buffer { 0 < vec_capacity buffer.old }
-    ensures answer { result ≡ deduced line.now clue.now }
-    ensures narrow { 0 < vec_capacity narrow.new }
-    ensures buffer { 0 < vec_capacity buffer.new }
+    ensures { result ≡ deduced line.now clue.now }
 {
     let (front, back) = known_ends(line);
     if front == 0 && back == 0 {
-        return deduce_numbers(buffer, line, clue);
+        return deduce_numbers(gaps, line, clue);
     }
     let (from, to) = inner_clue_range(line, front, back, clue)?;
     // What remains may fit into sets of 64 indices, on which each operation costs less.
     let inner = line.slice(front, line.len() - front - back);
-    match deduce_part(narrow, buffer, &inner, &clue[from..to]) {
+    match deduce_part(narrow, gaps, &inner, &clue[from..to]) {
         None => None,
         Some(deduced) => Some(line.with_slice(front, &deduced)),
     }
@@ -241,25 +231,23 @@ impl Tables {
 }
 
 /// Returns the deduced line, or `None` if there is no placing. No number of the clue may exceed the
-/// width of the sets. The vector is the gap buffer of that width.
+/// width of the sets. `gaps` is a buffer for the suffix gaps.
 fn deduce_within<W: BitSet>(
-    buffer: &mut Vec<[W::Stored; MAX_GAPS]>,
+    gaps: &mut [W::Stored; MAX_GAPS],
     line: &BitLine<W>,
     clue: &Clue,
 ) -> Option<BitLine<W>>
-    requires clue { All (λ number. number ≤ W.WIDTH) clue.now }
-    requires buffer { 0 < vec_capacity buffer.old }
-    ensures answer { result ≡ deduced line.now clue.now }
-    ensures buffer { 0 < vec_capacity buffer.new }
+    requires { All (λ number. number ≤ W.WIDTH) clue.now }
+    ensures { result ≡ deduced line.now clue.now }
 {
-    deduce_numbers(buffer, line, clue.numbers())
+    deduce_numbers(gaps, line, clue.numbers())
 }
 
 /// Writes, for each unknown cell of a line of at most `MAX_LOOKAHEAD_LEN` cells, the line's support
-/// after that cell is filled and after it is made blank. `suffix` is the gap buffer. The entries of
-/// known cells are unspecified.
+/// after that cell is filled and after it is made blank. `suffix` is a buffer for the suffix gaps.
+/// The entries of known cells are unspecified.
 fn write_lookaheads_within<W: BitSet>(
-    suffix: &mut Vec<[W::Stored; MAX_GAPS]>,
+    suffix: &mut [W::Stored; MAX_GAPS],
     buffers: &mut LookaheadBuffers<W>,
     line: &BitLine<W>,
     clue: &Clue,
@@ -267,16 +255,13 @@ fn write_lookaheads_within<W: BitSet>(
 )
     requires clue { All (λ number. number ≤ W.WIDTH) clue.now }
     requires short { length line.now ≤ MAX_LOOKAHEAD_LEN }
-    requires suffix { 0 < vec_capacity suffix.old }
     requires buffers { length clue.now ≤ buffers.old.max_runs }
     requires lookaheads { length line.now ≤ length lookaheads.old }
     ensures lookaheads { AreLookaheadsOf clue.now line.now lookaheads.new }
     ensures count { length lookaheads.new ≡ length lookaheads.old }
-    ensures suffix { 0 < vec_capacity suffix.new }
     ensures buffers { buffers.new.max_runs ≡ buffers.old.max_runs }
 {
-    ensure_initialized::<W>(suffix);
-    buffers.write_lookaheads(line, clue.numbers(), &mut suffix[0], lookaheads);
+    buffers.write_lookaheads(line, clue.numbers(), suffix, lookaheads);
 }
 
 /// A bit set in which lines are stored and deduced.
@@ -311,7 +296,9 @@ pub trait LineBits: BitSet {
 
 impl LineBits for u64 {
     fn deduce(tables: &mut Tables, line: &BitLine<u64>, clue: &Clue) -> Option<BitLine<u64>> {
-        deduce_within(&mut tables.buffers.narrow, line, clue)
+        let narrow = &mut tables.buffers.narrow;
+        ensure_initialized::<u64>(narrow);
+        deduce_within(&mut narrow[0], line, clue)
     }
 
     fn write_lookaheads(
@@ -321,16 +308,20 @@ impl LineBits for u64 {
         clue: &Clue,
         lookaheads: &mut [Lookahead<u64>],
     ) {
-        write_lookaheads_within(&mut tables.buffers.narrow, buffers, line, clue, lookaheads);
+        let narrow = &mut tables.buffers.narrow;
+        ensure_initialized::<u64>(narrow);
+        write_lookaheads_within(&mut narrow[0], buffers, line, clue, lookaheads);
     }
 }
 
 impl LineBits for u128 {
     fn deduce(tables: &mut Tables, line: &BitLine<u128>, clue: &Clue) -> Option<BitLine<u128>> {
         let buffers = &mut tables.buffers;
+        ensure_initialized::<u64>(&mut buffers.narrow);
+        ensure_initialized::<u128>(&mut buffers.middle);
         deduce_trimmed(
-            &mut buffers.narrow,
-            &mut buffers.middle,
+            &mut buffers.narrow[0],
+            &mut buffers.middle[0],
             line,
             clue.numbers(),
         )
@@ -343,7 +334,9 @@ impl LineBits for u128 {
         clue: &Clue,
         lookaheads: &mut [Lookahead<u128>],
     ) {
-        write_lookaheads_within(&mut tables.buffers.middle, buffers, line, clue, lookaheads);
+        let middle = &mut tables.buffers.middle;
+        ensure_initialized::<u128>(middle);
+        write_lookaheads_within(&mut middle[0], buffers, line, clue, lookaheads);
     }
 }
 
@@ -354,7 +347,14 @@ impl LineBits for Bits256 {
         clue: &Clue,
     ) -> Option<BitLine<Bits256>> {
         let buffers = &mut tables.buffers;
-        deduce_trimmed(&mut buffers.narrow, &mut buffers.wide, line, clue.numbers())
+        ensure_initialized::<u64>(&mut buffers.narrow);
+        ensure_initialized::<Bits256>(&mut buffers.wide);
+        deduce_trimmed(
+            &mut buffers.narrow[0],
+            &mut buffers.wide[0],
+            line,
+            clue.numbers(),
+        )
     }
 
     fn write_lookaheads(
@@ -364,7 +364,9 @@ impl LineBits for Bits256 {
         clue: &Clue,
         lookaheads: &mut [Lookahead<Bits256>],
     ) {
-        write_lookaheads_within(&mut tables.buffers.wide, buffers, line, clue, lookaheads);
+        let wide = &mut tables.buffers.wide;
+        ensure_initialized::<Bits256>(wide);
+        write_lookaheads_within(&mut wide[0], buffers, line, clue, lookaheads);
     }
 }
 

@@ -1,6 +1,6 @@
 //! The leftmost and the rightmost placing of a line.
 
-ghost use Rattle.std.specs.Prelude.{◌≡◌, ◌<◌, ◌≤◌, [], length, map, take, slice_index, vec_capacity, ℕ, List, Some, None, IfOk, MatchBool};
+ghost use Rattle.std.specs.Prelude.{◌≡◌, ◌<◌, ◌≤◌, [], length, map, take, slice_index, ℕ, List, Some, None, IfOk, MatchBool};
 ghost use Rattle.grid_core.specs.declared.cells.Cell.{Cell};
 ghost use Rattle.bit_sets.specs.Masks.{Has};
 ghost use Rattle.line_core.specs.RunStarts.{leftmost, rightmost};
@@ -105,28 +105,24 @@ fn write_starts<W: BitSet>(
 }
 
 /// Writes the starts of the placing that is outermost in a direction, using sets of type `W`.
-/// Returns whether there is a placing; if not, the contents of `list` are unspecified. The vector
-/// is the gap buffer of these sets.
+/// Returns whether there is a placing; if not, the contents of `list` are unspecified. `gaps` is a
+/// buffer for the suffix gaps.
 fn find_starts<W: BitSet>(
     direction: Direction,
     line: &BitLine<W>,
     clue: &[u16],
-    buffer: &mut Vec<[W::Stored; MAX_GAPS]>,
+    gaps: &mut [W::Stored; MAX_GAPS],
     list: &mut StartList,
 ) -> bool
     ghost cells: { List Cell }
     requires cells { line.now ≡ cells }
     requires clue { AreLengths W.WIDTH clue.now }
     requires count { length clue.now ≤ MAX_RUNS }
-    requires buffer { 0 < vec_capacity buffer.old }
-    ensures found { MatchBool result
+    ensures { MatchBool result
         (outermost direction cells clue.now ≡ Some (take (length clue.now) list.new.starts))
         (outermost direction cells clue.now ≡ None) }
-    ensures buffer { 0 < vec_capacity buffer.new }
 {
-    ensure_initialized::<W>(buffer);
     let domain = LineDomain::of(line);
-    let gaps = &mut buffer[0];
     write_suffix_gaps(&domain, clue, gaps);
     if clue.is_empty() {
         may_have_no_run(&domain, clue, gaps)
@@ -152,27 +148,21 @@ fn find_by_width(
         (outermost direction line.now clue.now ≡ None) }
 {
     match SetWidth::of(bits_needed(line.len(), clue)) {
-        SetWidth::Narrow => find_starts::<u64>(
-            direction,
-            &line.resized(),
-            clue,
-            &mut buffers.narrow,
-            list,
-        ),
-        SetWidth::Middle => find_starts::<u128>(
-            direction,
-            &line.resized(),
-            clue,
-            &mut buffers.middle,
-            list,
-        ),
-        SetWidth::Wide => find_starts::<Bits256>(
-            direction,
-            &line.resized(),
-            clue,
-            &mut buffers.wide,
-            list,
-        ),
+        SetWidth::Narrow => {
+            ensure_initialized::<u64>(&mut buffers.narrow);
+            let gaps = &mut buffers.narrow[0];
+            find_starts::<u64>(direction, &line.resized(), clue, gaps, list)
+        }
+        SetWidth::Middle => {
+            ensure_initialized::<u128>(&mut buffers.middle);
+            let gaps = &mut buffers.middle[0];
+            find_starts::<u128>(direction, &line.resized(), clue, gaps, list)
+        }
+        SetWidth::Wide => {
+            ensure_initialized::<Bits256>(&mut buffers.wide);
+            let gaps = &mut buffers.wide[0];
+            find_starts::<Bits256>(direction, &line.resized(), clue, gaps, list)
+        }
     }
 }
 

@@ -3,5 +3,5 @@ use Rattle.line_core.proofs.Names.{rules, recursion_from_All}
 use Rattle.line_core.proofs.SupportLaws.{support-deduced}
 use Rattle.line_core.proofs.deduction.deduce_numbers.Goals as goal
 
-pub returns-clause-answer : goal.returns-clause-answer
-returns-clause-answer g c = search (rules, recursion_from_All, support-deduced)
+pub returns : goal.returns
+returns g c = search (rules, recursion_from_All, support-deduced)
