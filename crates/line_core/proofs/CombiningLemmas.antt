@@ -136,7 +136,7 @@ end_inside l clue j e some whole = omega (arith, (whole.0.1.1 (get_or clue j 0 -
 pub ruleset ends = (end_inside, length_at, part_long)
 
 module _ (l : List Cell) (clue : List ℕ) (before after : List SupportMasks) (w len : ℕ) (line : IsLineWithin w l len)
-    (supports : AreEndSupports l clue before after) where
+    (supports : AreEndSupports w l clue before after) where
   -- the prefix support at a feasible gap, in the table
   near_at : (j i : ℕ) → j ≤ length clue → IsFeasibleGap l clue j i → (d : Bool) (k : ℕ)
       → HasColour (get_or before (128 * j + i) no_support) d k ↔ CanBeBefore l (reversed_prefix 0 clue j) i d k

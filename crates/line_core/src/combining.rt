@@ -5,15 +5,14 @@ ghost use Rattle.std.specs.Prelude.{◌≡◌, ◌+◌, ◌*◌, ◌<◌, ◌≤
 ghost use Rattle.grid_core.specs.declared.cells.Cell.{Cell};
 ghost use Rattle.bit_sets.specs.Masks.{IsMaskOf};
 ghost use Rattle.line_core.specs.Lookahead.{masks_if, no_lookahead};
-ghost use Rattle.line_core.specs.steps.Lookahead.{AreMasks, AreLookaheads, AreFeasibleEnds, AreFeasibleGaps, IsFeasibleGap};
+ghost use Rattle.line_core.specs.steps.Lookahead.{AreMasks, AreLookaheads, AreFeasible, IsFeasibleGap};
 ghost use Rattle.line_core.specs.steps.Combining.{AreMore, AreLookaheadsMore, AreEndSupports, CanBeBesideGap, CanBeBesideRun, CanBeWithBlank, CanBeWithFilled, HasColour, IsLineWithin};
-ghost use Rattle.line_core.specs.steps.Feasibility.{AreLengths, IsFeasibleEnd};
+ghost use Rattle.line_core.specs.steps.Feasibility.{IsFeasibleEnd};
 
 use crate::lookahead::{Lookahead, Support};
 use crate::prefix_supports::{ROW_STRIDE, run_and_prefix};
 use crate::suffix_gaps::MAX_GAPS;
 use bit_sets::{BitSet, prefix};
-use grid_core::MAX_RUNS;
 
 /// Adds `support` to the lookahead of each cell in `from..to`: to the support after that cell is
 /// filled, if `filled`, and otherwise to the one after it is made blank.
@@ -46,10 +45,9 @@ fn support_with_gap<W: BitSet>(
 ) -> Support<W>
     ghost line: { List Cell }
     requires line { IsLineWithin W.WIDTH line len }
-    requires count { length clue.now ≤ MAX_RUNS }
     requires j { j ≤ length clue.now }
     requires index { IsFeasibleGap line clue.now j index }
-    requires supports { AreEndSupports line clue.now before.now after.now }
+    requires supports { AreEndSupports W.WIDTH line clue.now before.now after.now }
     ensures { AreMasks (CanBeBesideGap line clue.now j index) result }
 {
     let mirrored = usize::from(len - 1 - index);
@@ -70,11 +68,9 @@ fn support_with_run<W: BitSet>(
 ) -> Support<W>
     ghost line: { List Cell }
     requires line { IsLineWithin W.WIDTH line len }
-    requires clue { AreLengths W.WIDTH clue.now }
-    requires count { length clue.now ≤ MAX_RUNS }
     requires j { j < length clue.now }
     requires end { IsFeasibleEnd line clue.now j end }
-    requires supports { AreEndSupports line clue.now before.now after.now }
+    requires supports { AreEndSupports W.WIDTH line clue.now before.now after.now }
     ensures { AreMasks (CanBeBesideRun line clue.now j end) result }
 {
     let next = end + 1;
@@ -103,10 +99,9 @@ fn add_gaps<W: BitSet>(
 )
     ghost line: { List Cell }
     requires line { IsLineWithin W.WIDTH line len }
-    requires count { length clue.now ≤ MAX_RUNS }
     requires j { j ≤ length clue.now }
     requires gaps { IsMaskOf (IsFeasibleGap line clue.now j) (W.bits gaps) }
-    requires supports { AreEndSupports line clue.now before.now after.now }
+    requires supports { AreEndSupports W.WIDTH line clue.now before.now after.now }
     requires lookaheads { length line ≤ length lookaheads.old }
     ensures { AreLookaheadsMore false (λ x. CanBeWithBlank line clue.now x j)
         lookaheads.old lookaheads.new }
@@ -134,11 +129,9 @@ fn add_run<W: BitSet>(
 )
     ghost line: { List Cell }
     requires line { IsLineWithin W.WIDTH line len }
-    requires clue { AreLengths W.WIDTH clue.now }
-    requires count { length clue.now ≤ MAX_RUNS }
     requires j { j < length clue.now }
     requires ends { IsMaskOf (IsFeasibleEnd line clue.now j) (W.bits ends) }
-    requires supports { AreEndSupports line clue.now before.now after.now }
+    requires supports { AreEndSupports W.WIDTH line clue.now before.now after.now }
     requires lookaheads { length line ≤ length lookaheads.old }
     ensures { AreLookaheadsMore true (λ x. CanBeWithFilled line clue.now x j)
         lookaheads.old lookaheads.new }
@@ -178,11 +171,9 @@ pub fn combine_supports<W: BitSet>(
 )
     ghost line: { List Cell }
     requires line { IsLineWithin W.WIDTH line len }
-    requires clue { AreLengths W.WIDTH clue.now }
-    requires count { length clue.now ≤ MAX_RUNS }
-    requires gaps { AreFeasibleGaps line clue.now (map W.stored_bits gaps.now) }
-    requires ends { AreFeasibleEnds line clue.now (map W.stored_bits ends.now) }
-    requires supports { AreEndSupports line clue.now before.now after.now }
+    requires feasible { AreFeasible line clue.now
+        (map W.stored_bits gaps.now) (map W.stored_bits ends.now) }
+    requires supports { AreEndSupports W.WIDTH line clue.now before.now after.now }
     requires lookaheads { length line ≤ length lookaheads.old }
     ensures lookaheads { AreLookaheads line clue.now lookaheads.new }
     ensures count { length lookaheads.new ≡ length lookaheads.old }

@@ -7,7 +7,8 @@ ghost use Rattle.grid_core.specs.declared.limits.TheConstants.{MAX_RUNS};
 ghost use Rattle.line_core.specs.declared.lookahead.TheConstants.{MAX_LOOKAHEAD_LEN};
 ghost use Rattle.line_core.specs.declared.prefix_supports.TheConstants.{ROW_STRIDE};
 ghost use Rattle.line_core.specs.steps.PrefixScan.{IsDomainOf};
-ghost use Rattle.line_core.specs.steps.Lookahead.{AreLookaheads, ArePrefixSupports, AreFeasibleEnds, AreFeasibleGaps};
+ghost use Rattle.line_core.specs.steps.Lookahead.{AreFeasible, AreLookaheads};
+ghost use Rattle.line_core.specs.steps.PrefixSupports.{HasRowsFor, WritesPrefixSupports};
 ghost use Rattle.line_core.specs.steps.Feasibility.{AreLengths};
 
 use crate::buffers::ensure_initialized;
@@ -49,12 +50,10 @@ fn write_prefix_table<W: BitSet, const MIRRORED: bool>(
         (W.bits domain.now.not_filled) (W.bits domain.now.not_blank) }
     requires clue { AreLengths W.WIDTH clue.now }
     requires count { length clue.now ≤ MAX_RUNS }
-    requires short { length line ≤ MAX_LOOKAHEAD_LEN }
-    requires size { ROW_STRIDE * (length clue.now + 1) ≤ length table.old }
-    ensures gaps { AreFeasibleGaps line clue.now (map W.stored_bits gaps.new) }
-    ensures ends { AreFeasibleEnds line clue.now (map W.stored_bits ends.new) }
-    ensures table { ArePrefixSupports MIRRORED line clue.now table.new }
-    ensures count { length table.new ≡ length table.old }
+    requires table { HasRowsFor line clue.now table.old }
+    ensures feasible { AreFeasible line clue.now
+        (map W.stored_bits gaps.new) (map W.stored_bits ends.new) }
+    ensures table { WritesPrefixSupports MIRRORED line clue.now table.old table.new }
 {
     write_feasible(domain, clue, suffix, gaps, ends);
     write_prefix_supports::<W, MIRRORED>(domain.len, clue, gaps, ends, table);
@@ -75,10 +74,8 @@ fn write_suffix_table<W: BitSet>(
         (W.bits domain.now.not_filled) (W.bits domain.now.not_blank) }
     requires clue { AreLengths W.WIDTH clue.now }
     requires count { length clue.now ≤ MAX_RUNS }
-    requires short { length line ≤ MAX_LOOKAHEAD_LEN }
-    requires size { ROW_STRIDE * (length clue.now + 1) ≤ length table.old }
-    ensures table { ArePrefixSupports true (reverse line) (reverse clue.now) table.new }
-    ensures count { length table.new ≡ length table.old }
+    requires table { HasRowsFor line clue.now table.old }
+    ensures { WritesPrefixSupports true (reverse line) (reverse clue.now) table.old table.new }
 {
     let mut numbers = [0; MAX_RUNS];
     let mirrored = &mut numbers[..clue.len()];
@@ -104,9 +101,8 @@ fn write_lookaheads<W: BitSet>(
         (W.bits domain.now.not_filled) (W.bits domain.now.not_blank) }
     requires clue { AreLengths W.WIDTH clue.now }
     requires count { length clue.now ≤ MAX_RUNS }
-    requires short { length line ≤ MAX_LOOKAHEAD_LEN }
-    requires before { ROW_STRIDE * (length clue.now + 1) ≤ length before.old }
-    requires after { ROW_STRIDE * (length clue.now + 1) ≤ length after.old }
+    requires before { HasRowsFor line clue.now before.old }
+    requires after { HasRowsFor line clue.now after.old }
     requires lookaheads { length line ≤ length lookaheads.old }
     ensures lookaheads { AreLookaheads line clue.now lookaheads.new }
     ensures count { length lookaheads.new ≡ length lookaheads.old }
@@ -189,7 +185,6 @@ impl<W: BitSet> LookaheadBuffers<W> {
         ghost cells: { List Cell }
         requires cells { line.now ≡ cells }
         requires clue { AreLengths W.WIDTH clue.now }
-        requires count { length clue.now ≤ MAX_RUNS }
         requires short { length cells ≤ MAX_LOOKAHEAD_LEN }
         requires max_runs { length clue.now ≤ self.old.max_runs }
         requires lookaheads { length cells ≤ length lookaheads.old }

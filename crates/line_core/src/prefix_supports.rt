@@ -4,12 +4,11 @@ ghost use Rattle.std.specs.Prelude.{◌≡◌, ◌+◌, ◌-◌, ◌*◌, ◌<�
 ghost use Rattle.grid_core.specs.declared.cells.Cell.{Cell};
 ghost use Rattle.bit_sets.specs.Masks.{Has, IsMaskOf};
 ghost use Rattle.line_core.specs.steps.PrefixScan.{IsDomainOf};
-ghost use Rattle.line_core.specs.steps.Feasibility.{AreLengths, IsGapAfter, IsFeasibleEnd};
+ghost use Rattle.line_core.specs.steps.Feasibility.{AreLengths, IsGapAfter};
 ghost use Rattle.line_core.specs.Lookahead.{no_support};
 ghost use Rattle.line_core.specs.declared.lookahead.TheConstants.{MAX_LOOKAHEAD_LEN};
-ghost use Rattle.line_core.specs.declared.prefix_supports.TheConstants.{ROW_STRIDE};
-ghost use Rattle.line_core.specs.steps.Lookahead.{IsPrefixSupport, AreMasks, ArePrefixSupports, AreFeasibleEnds, AreFeasibleGaps, IsFeasibleGap};
-ghost use Rattle.line_core.specs.steps.PrefixSupports.{IsRow, IsMirroredIn};
+ghost use Rattle.line_core.specs.steps.Lookahead.{IsPrefixSupport, AreMasks, AreFeasible};
+ghost use Rattle.line_core.specs.steps.PrefixSupports.{AreFeasibleAt, HasRow, HasRowsFor, IsCellOf, IsMirroredIn, WritesPrefixSupports, WritesRow};
 ghost use Rattle.line_core.specs.steps.Combining.{AreMore, HasColour};
 
 use crate::domains::LineDomain;
@@ -38,8 +37,8 @@ pub fn write_feasible<W: BitSet>(
         (W.bits domain.now.not_filled) (W.bits domain.now.not_blank) }
     requires clue { AreLengths W.WIDTH clue.now }
     requires count { length clue.now ≤ MAX_RUNS }
-    ensures gaps { AreFeasibleGaps line clue.now (map W.stored_bits gaps.new) }
-    ensures ends { AreFeasibleEnds line clue.now (map W.stored_bits ends.new) }
+    ensures { AreFeasible line clue.now
+        (map W.stored_bits gaps.new) (map W.stored_bits ends.new) }
 {
     write_suffix_gaps(domain, clue, suffix);
     let fits = fit_table(domain.not_blank);
@@ -82,8 +81,7 @@ fn gap_support<W: BitSet, const MIRRORED: bool>(
     longer: W,
     last: &Support<W>,
 ) -> Support<W>
-    requires len { len ≤ W.WIDTH }
-    requires index { index < len }
+    requires { IsCellOf W.WIDTH len index }
     ensures { AreMasks (λ filled k.
         ((filled ≡ false) × IsMirroredIn MIRRORED len index (index + 1) k)
         ⊎ (Has (W.bits longer) index × HasColour last.now filled k)) result }
@@ -130,8 +128,7 @@ fn prefix_support<W: BitSet, const MIRRORED: bool>(
     ended: W,
     before: &[Support<W>],
 ) -> Support<W>
-    requires len { len ≤ W.WIDTH }
-    requires index { index < len }
+    requires index { IsCellOf W.WIDTH len index }
     requires number { 0 < number }
     requires indices { IsMaskOf (λ i. i < number) (W.bits indices) }
     requires ended { Has (W.bits ended) index → number ≤ index }
@@ -189,15 +186,9 @@ fn write_row<W: BitSet, const MIRRORED: bool>(
     requires len { (len ≡ length line) × (len ≤ W.WIDTH) }
     requires clue { AreLengths W.WIDTH clue.now }
     requires j { j < length clue.now }
-    requires short { length line ≤ MAX_LOOKAHEAD_LEN }
-    requires gaps { IsMaskOf (IsFeasibleGap line clue.now (j + 1)) (W.bits gaps) }
-    requires ends { IsMaskOf (IsFeasibleEnd line clue.now j) (W.bits ends) }
-    requires before { IsRow MIRRORED line clue.now j 0 rows.old }
-    requires size { 2 * ROW_STRIDE ≤ length rows.old }
-    ensures row { IsRow MIRRORED line clue.now (j + 1) ROW_STRIDE rows.new }
-    ensures before { (k : ℕ) → k < ROW_STRIDE
-        → slice_index_or rows.new k no_support ≡ slice_index_or rows.old k no_support }
-    ensures count { length rows.new ≡ length rows.old }
+    requires feasible { AreFeasibleAt line clue.now j (W.bits gaps) (W.bits ends) }
+    requires rows { HasRow MIRRORED line clue.now j rows.old }
+    ensures { WritesRow MIRRORED line clue.now j rows.old rows.new }
 {
     let number = clue[j];
     let longer = gaps.shifted_up(1);
@@ -231,12 +222,10 @@ pub fn write_prefix_supports<W: BitSet, const MIRRORED: bool>(
     requires len { (len ≡ length line) × (len ≤ W.WIDTH) }
     requires clue { AreLengths W.WIDTH clue.now }
     requires count { length clue.now ≤ MAX_RUNS }
-    requires short { length line ≤ MAX_LOOKAHEAD_LEN }
-    requires gaps { AreFeasibleGaps line clue.now (map W.stored_bits gaps.now) }
-    requires ends { AreFeasibleEnds line clue.now (map W.stored_bits ends.now) }
-    requires size { ROW_STRIDE * (length clue.now + 1) ≤ length table.old }
-    ensures table { ArePrefixSupports MIRRORED line clue.now table.new }
-    ensures count { length table.new ≡ length table.old }
+    requires feasible { AreFeasible line clue.now
+        (map W.stored_bits gaps.now) (map W.stored_bits ends.now) }
+    requires table { HasRowsFor line clue.now table.old }
+    ensures { WritesPrefixSupports MIRRORED line clue.now table.old table.new }
 {
     write_first::<W, MIRRORED>(len, W::from_stored(gaps[0]), table);
     for j in 0..clue.len() {

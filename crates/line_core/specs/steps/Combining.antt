@@ -3,11 +3,12 @@
 use Rattle.std.specs.Prelude.{◌≡◌, ℕ, ◌+◌, ◌-◌, ◌*◌, ◌<◌, ◌≤◌, ◌⊎◌, Bool, true, false, not, List, length, slice_index_or, reverse}
 use Rattle.grid_core.specs.declared.cells.Cell.{Cell}
 use Rattle.bit_sets.specs.Masks.{Has}
+use Rattle.grid_core.specs.declared.limits.TheConstants.{MAX_RUNS}
 use Rattle.line_core.specs.declared.lookahead.TheConstants.{MAX_LOOKAHEAD_LEN}
 use Rattle.line_core.specs.declared.prefix_supports.TheConstants.{ROW_STRIDE}
 use Rattle.line_core.specs.Lookahead.{SupportMasks, LookaheadMasks, coloured, masks_if, no_lookahead}
 use Rattle.line_core.specs.steps.Lookahead.{AreMasks, ArePrefixSupports, CanBeBefore, IsFeasibleGap}
-use Rattle.line_core.specs.steps.Feasibility.{reversed_prefix, MayBe, IsSuffixGap, IsFeasibleEnd}
+use Rattle.line_core.specs.steps.Feasibility.{AreLengths, reversed_prefix, MayBe, IsSuffixGap, IsFeasibleEnd}
 
 -- cell `k` is in the support `masks` as filled if the second argument is true, or else as blank
 abbrev pub HasColour : SupportMasks → Bool → ℕ → Type 0
@@ -26,9 +27,11 @@ pub record IsLineWithin (width : ℕ) (line : List Cell) (len : ℕ) : Type 0 wh
   pub short : len ≤ MAX_LOOKAHEAD_LEN
 
 -- `before` has the prefix supports of the line, and `after` those of the mirrored line, whose cells
--- keep the indices of the line itself
+-- keep the indices of the line itself; the numbers of `clue` are at most `width`
 pub record AreEndSupports
-    (line : List Cell) (clue : List ℕ) (before after : List SupportMasks) : Type 0 where
+    (width : ℕ) (line : List Cell) (clue : List ℕ) (before after : List SupportMasks) : Type 0 where
+  pub lengths : AreLengths width clue
+  pub few : length clue ≤ MAX_RUNS
   pub before_is : ArePrefixSupports false line clue before
   pub after_is : ArePrefixSupports true (reverse line) (reverse clue) after
   pub before_fits : ROW_STRIDE * (length clue + 1) ≤ length before

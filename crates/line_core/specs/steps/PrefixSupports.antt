@@ -1,9 +1,12 @@
 -- Prefix supports, row by row, and cells as they stand on the mirrored line.
-use Rattle.std.specs.Prelude.{Bool, ℕ, ◌+◌, ◌<◌, ◌≤◌, List, slice_index_or}
+use Rattle.std.specs.Prelude.{◌≡◌, Bool, ℕ, ◌+◌, ◌*◌, ◌<◌, ◌≤◌, List, length, slice_index_or}
 use Rattle.grid_core.specs.declared.cells.Cell.{Cell}
-use Rattle.line_core.specs.steps.Feasibility.{reversed_prefix}
+use Rattle.bit_sets.specs.Masks.{IsMaskOf}
+use Rattle.line_core.specs.declared.lookahead.TheConstants.{MAX_LOOKAHEAD_LEN}
+use Rattle.line_core.specs.declared.prefix_supports.TheConstants.{ROW_STRIDE}
+use Rattle.line_core.specs.steps.Feasibility.{reversed_prefix, IsFeasibleEnd}
 use Rattle.line_core.specs.Lookahead.{SupportMasks, no_support}
-use Rattle.line_core.specs.steps.Lookahead.{IsPrefixSupport, IsFeasibleGap, mirror_index}
+use Rattle.line_core.specs.steps.Lookahead.{ArePrefixSupports, IsPrefixSupport, IsFeasibleGap, mirror_index}
 
 -- from index `from` on, `table` has the prefix support of each feasible gap after the first `j`
 -- runs
@@ -18,3 +21,43 @@ IsRow mirrored line clue j from table =
 abbrev pub IsMirroredIn : Bool → ℕ → ℕ → ℕ → ℕ → Type 0
 IsMirroredIn mirrored len from to k =
     (k < len) × (from ≤ mirror_index mirrored len k) × (mirror_index mirrored len k < to)
+
+-- `i` is the index of a cell of a line of `len` cells, at most `width`
+pub record IsCellOf (width len i : ℕ) : Type 0 where
+  pub within : len ≤ width
+  pub inside : i < len
+
+-- `gaps` are the feasible gaps after run `j`, and `ends` its feasible ends
+pub record AreFeasibleAt (line : List Cell) (clue : List ℕ) (j gaps ends : ℕ) : Type 0 where
+  pub gaps_are : IsMaskOf (IsFeasibleGap line clue (j + 1)) gaps
+  pub ends_are : IsMaskOf (IsFeasibleEnd line clue j) ends
+
+-- `rows` begin with the prefix supports of the gaps after the first `j` runs, and the next row can
+-- be written for `line`
+pub record HasRow
+    (mirrored : Bool) (line : List Cell) (clue : List ℕ) (j : ℕ) (rows : List SupportMasks)
+    : Type 0 where
+  pub short : length line ≤ MAX_LOOKAHEAD_LEN
+  pub row : IsRow mirrored line clue j 0 rows
+  pub size : 2 * ROW_STRIDE ≤ length rows
+
+-- `new` is `old` with the prefix supports of the gaps after run `j` in the second row
+pub record WritesRow
+    (mirrored : Bool) (line : List Cell) (clue : List ℕ) (j : ℕ) (old new : List SupportMasks)
+    : Type 0 where
+  pub row : IsRow mirrored line clue (j + 1) ROW_STRIDE new
+  pub before : (k : ℕ) → k < ROW_STRIDE
+      → slice_index_or new k no_support ≡ slice_index_or old k no_support
+  pub count : length new ≡ length old
+
+-- `table` has a row for each gap of `clue`, long enough for `line`
+pub record HasRowsFor (line : List Cell) (clue : List ℕ) (table : List SupportMasks) : Type 0 where
+  pub short : length line ≤ MAX_LOOKAHEAD_LEN
+  pub rows : ROW_STRIDE * (length clue + 1) ≤ length table
+
+-- `new` is as long as `old`, and has the prefix support of each feasible gap
+pub record WritesPrefixSupports
+    (mirrored : Bool) (line : List Cell) (clue : List ℕ) (old new : List SupportMasks)
+    : Type 0 where
+  pub supports : ArePrefixSupports mirrored line clue new
+  pub count : length new ≡ length old

@@ -7,16 +7,16 @@ use Rattle.line_core.proofs.combining.support_with_run.Goals as goal
 
 pub returns-then-next-len : goal.returns-then-next-len
 returns-then-next-len g c =
-    let (line, (are, (count, (jl, (whole, supports))))) = c.requires.1.1 in
-    let up = up_to_is g.line _ _ _ _ _ line supports _ _ are jl whole _ _ _ c.prefix.ensures
+    let (line, (jl, (whole, supports))) = c.requires.1.1 in
+    let up = up_to_is g.line _ _ _ _ _ line supports _ _ supports.lengths jl whole _ _ _ c.prefix.ensures
     c.shifted_up-run.ensures c.run_and_prefix-support.ensures in
-    beside_is g.line _ _ _ _ _ line supports _ _ are jl whole _ _ _ _ c.if-next-len.true
+    beside_is g.line _ _ _ _ _ line supports _ _ supports.lengths jl whole _ _ _ _ c.if-next-len.true
     c.from-mirrored.ensures c.index-after-clue.is up c.add.ensures
 
 pub returns-else-next-len : goal.returns-else-next-len
 returns-else-next-len g c =
-    let (line, (are, (count, (jl, (whole, supports))))) = c.requires.1.1 in
-    let up = up_to_is g.line _ _ _ _ _ line supports _ _ are jl whole _ _ _ c.prefix.ensures
+    let (line, (jl, (whole, supports))) = c.requires.1.1 in
+    let up = up_to_is g.line _ _ _ _ _ line supports _ _ supports.lengths jl whole _ _ _ c.prefix.ensures
     c.shifted_up-run.ensures c.run_and_prefix-support.ensures in
     masks_same _ _ _ up (λ d k. (
       λ h. inl h,

@@ -7,7 +7,7 @@ write_prefix_table-requires g c = λ κs within.
     let same : c.reverse.new.self ≡ reverse c.args.clue.now = c.reverse.ensures.after ∙ ap reverse c.copy_from_slice.ensures.after in
     let lengths = rw (sym same) at (lengths_mirrored _ c.args.clue.now c.requires.1.1.1.1.0) in search (rules, same, length-reverse)
 
-pub returns-clause-table : goal.returns-clause-table
-returns-clause-table g c =
+pub returns : goal.returns
+returns g c =
     let same : c.reverse.new.self ≡ reverse c.args.clue.now = c.reverse.ensures.after ∙ ap reverse c.copy_from_slice.ensures.after in
     rw same at c.write_prefix_table.ensures.table

@@ -1,5 +1,5 @@
 -- `write_row`: each turn of the loop writes the prefix support of one more gap, which is then the last one.
-use Rattle.line_core.proofs.Names.{IsPrefixSupport, SupportMasks, ◌+◌, rules, ◌∙◌, ◌<◌, length, sym, arith, one_within, reversed_prefix, get_or-append-add, no_support}
+use Rattle.line_core.proofs.Names.{common_steps, IsPrefixSupport, SupportMasks, ◌+◌, rules, ◌∙◌, ◌<◌, length, sym, arith, one_within, reversed_prefix, get_or-append-add, no_support}
 use Rattle.line_core.proofs.GapRows.{last_more, left_inside, next_prefix_support, walk_last, walk_more}
 use Rattle.line_core.proofs.prefix_supports.write_row.Goals as goal
 
@@ -12,20 +12,22 @@ shifted_up-ended-requires g c = one_within g.W.BitSet.WIDTH g.W.BitSet.LOG2_WIDT
 pub offset_bounds-row-from : goal.offset_bounds-row-from
 offset_bounds-row-from g c =
     let inside = left_inside g.line _ _ _ _ _ _ _ c.loop-longer.invariant.walk c.first_index-index.ensures.in_mask
-    c.requires.1.1.1.1.1.1.1.0 c.requires.1.1.1.1.1.1.0 in
-    let here : c.from.result < length c.args.rows.now = omega (arith, c.requires.1.1.1.1.1.1.1.1.1.1, c.from.ensures) in
+    c.requires.1.1.1.1.1.1.0.gaps_are c.requires.1.1.1.1.1.1.1.short in
+    let here : c.from.result < length c.args.rows.now = omega (arith, c.requires.1.1.1.1.1.1.1.size, c.from.ensures) in
     search (rules, c.well_formed)
 
 pub loop-longer-preserved : goal.loop-longer-preserved
 loop-longer-preserved g c =
-    let (len, (are, (jl, (short, (gaps, (ends, (before, size))))))) = c.requires.1.1.1 in
+    let (len, (are, (jl, (feasible, rows)))) = c.requires.1.1.1 in
+    let gaps = feasible.gaps_are in
+    let ends = feasible.ends_are in
     let old = c.loop-longer.invariant in
     let first = c.first_index-index.ensures in
     let split = c.split_at_mut-before.ensures in
     let here = old.walk.within _ first.in_mask in
     let given =
-    next_prefix_support _ g.line c.args.clue.now c.args.j _ _ _ _ _ _ _ _ _ _ _ _ are jl short gaps ends c.shifted_up-longer.ensures
-    c.shifted_up-ended.ensures first.within here first.in_mask first.least split.front before old.last
+    next_prefix_support _ g.line c.args.clue.now c.args.j _ _ _ _ _ _ _ _ _ _ _ _ are jl rows.short gaps ends c.shifted_up-longer.ensures
+    c.shifted_up-ended.ensures first.within here first.in_mask first.least split.front rows.row old.last
     (rw len.0 at c.gap_support-in_gap.ensures) (rw len.0 at c.prefix_support-last.ensures) in record {
       walk = walk_more _ _ _ c.first_index-index.result _ _ _ _ _ (omega (arith, (gaps.to _ here).0.0.0, split.back_len)) c.from.ensures
           c.with_bit-left.ensures (rw c.copied.ensures given) old.walk;
@@ -33,9 +35,13 @@ loop-longer-preserved g c =
           first.in_mask first.least c.with_bit-left.ensures given old.last;
     }
 
-pub returns-clause-row : goal.returns-clause-row
-returns-clause-row g c = λ i h.
-    let none = sym c.is_empty.ensures ∙ c.loop-longer-test.false in
-    let given = walk_last _ _ _ _ _ none c.loop-longer.invariant.walk i (c.requires.1.1.1.1.1.1.1.0.from i h) in
-    let before = c.split_at_mut-before in
-    rw (rw before.ensures.front_len at (get_or-append-add before.result.0.now c.loop-longer.row i no_support)) given
+pub returns : goal.returns
+returns g c = record {
+  row = λ i h.
+      let none = sym c.is_empty.ensures ∙ c.loop-longer-test.false in
+      let given = walk_last _ _ _ _ _ none c.loop-longer.invariant.walk i (c.requires.1.1.1.1.1.1.0.gaps_are.from i h) in
+      let before = c.split_at_mut-before in
+      rw (rw before.ensures.front_len at (get_or-append-add before.result.0.now c.loop-longer.row i no_support)) given;
+  before = grind (arith, common_steps);
+  count = search rules;
+}
