@@ -6,6 +6,7 @@ use Rattle.grid_core.specs.Cells.{colour}
 use Rattle.line_core.specs.Deduction.{deduced}
 use Rattle.line_core.specs.Support.{deduced_from}
 use Rattle.bit_sets.specs.Masks.{Has}
+use Rattle.line_core.specs.declared.lookahead.TheConstants.{MAX_LOOKAHEAD_LEN}
 
 -- the bits of a line's support: the cells filled in some placing, and the cells blank in some
 pub record SupportMasks : Type 0 where
@@ -70,6 +71,17 @@ pub record AreLookaheadsOf
       → (let masks = masks_if filled (slice_index_or lookaheads x no_lookahead) in
       deduced_from (length line) masks.fillable masks.blankable
       ≡ deduced (coloured line x filled) clue)
+
+-- there is an entry in `lookaheads` for each cell of `line`, which is short enough for a table
+pub record HasEntries (line : List Cell) (lookaheads : List LookaheadMasks) : Type 0 where
+  pub short : length line ≤ MAX_LOOKAHEAD_LEN
+  pub entries : length line ≤ length lookaheads
+
+-- `new` is as long as `old`, and has the lookahead of each unknown cell of `line`
+pub record WritesLookaheads
+    (clue : List ℕ) (line : List Cell) (old new : List LookaheadMasks) : Type 0 where
+  pub are : AreLookaheadsOf clue line new
+  pub count : length new ≡ length old
 
 -- each unknown cell of `line` that is in `cells` is inert: once it is filled, if `filled`, or else
 -- made blank, nothing else is deduced

@@ -3,9 +3,8 @@
 ghost use Rattle.std.specs.Prelude.{◌≡◌, ◌<◌, ◌≤◌, List, Some, length, map, IfOk, All};
 ghost use Rattle.grid_core.specs.declared.cells.Cell.{Cell};
 ghost use Rattle.bit_sets.specs.Masks.{IsMaskOf};
-ghost use Rattle.line_core.specs.declared.lookahead.TheConstants.{MAX_LOOKAHEAD_LEN};
 ghost use Rattle.line_core.specs.Deduction.{deduced};
-ghost use Rattle.line_core.specs.Lookahead.{AreLookaheadsOf};
+ghost use Rattle.line_core.specs.Lookahead.{HasEntries, WritesLookaheads};
 ghost use Rattle.line_core.specs.steps.PrefixScan.{IsDomainOf, padded};
 ghost use Rattle.line_core.specs.steps.Feasibility.{AreLengths, AreSuffixGaps, IsFillable, IsBlankable};
 ghost use Rattle.line_core.specs.Support.{deduced_from};
@@ -254,11 +253,9 @@ fn write_lookaheads_within<W: BitSet>(
     lookaheads: &mut [Lookahead<W>],
 )
     requires clue { All (λ number. number ≤ W.WIDTH) clue.now }
-    requires short { length line.now ≤ MAX_LOOKAHEAD_LEN }
     requires buffers { length clue.now ≤ buffers.old.max_runs }
-    requires lookaheads { length line.now ≤ length lookaheads.old }
-    ensures lookaheads { AreLookaheadsOf clue.now line.now lookaheads.new }
-    ensures count { length lookaheads.new ≡ length lookaheads.old }
+    requires lookaheads { HasEntries line.now lookaheads.old }
+    ensures lookaheads { WritesLookaheads clue.now line.now lookaheads.old lookaheads.new }
     ensures buffers { buffers.new.max_runs ≡ buffers.old.max_runs }
 {
     buffers.write_lookaheads(line, clue.numbers(), suffix, lookaheads);
@@ -285,11 +282,9 @@ pub trait LineBits: BitSet {
         lookaheads: &mut [Lookahead<Self>],
     )
         requires clue { All (λ number. number ≤ Self.WIDTH) clue.now }
-        requires short { length line.now ≤ MAX_LOOKAHEAD_LEN }
         requires buffers { length clue.now ≤ buffers.old.max_runs }
-        requires lookaheads { length line.now ≤ length lookaheads.old }
-        ensures lookaheads { AreLookaheadsOf clue.now line.now lookaheads.new }
-        ensures count { length lookaheads.new ≡ length lookaheads.old }
+        requires lookaheads { HasEntries line.now lookaheads.old }
+        ensures lookaheads { WritesLookaheads clue.now line.now lookaheads.old lookaheads.new }
         ensures tables { tables.new ≡ tables.old }
         ensures buffers { buffers.new.max_runs ≡ buffers.old.max_runs };
 }

@@ -2,12 +2,11 @@
 
 ghost use Rattle.std.specs.Prelude.{◌≡◌, ◌+◌, ◌*◌, ◌<◌, ◌≤◌, List, length, map, reverse, true, vec_capacity, vec_len, IfOk};
 ghost use Rattle.grid_core.specs.declared.cells.Cell.{Cell};
-ghost use Rattle.line_core.specs.Lookahead.{AreLookaheadsOf};
+ghost use Rattle.line_core.specs.Lookahead.{HasEntries, WritesLookaheads};
 ghost use Rattle.grid_core.specs.declared.limits.TheConstants.{MAX_RUNS};
-ghost use Rattle.line_core.specs.declared.lookahead.TheConstants.{MAX_LOOKAHEAD_LEN};
 ghost use Rattle.line_core.specs.declared.prefix_supports.TheConstants.{ROW_STRIDE};
 ghost use Rattle.line_core.specs.steps.PrefixScan.{IsDomainOf};
-ghost use Rattle.line_core.specs.steps.Lookahead.{AreFeasible, AreLookaheads};
+ghost use Rattle.line_core.specs.steps.Lookahead.{AreFeasible};
 ghost use Rattle.line_core.specs.steps.PrefixSupports.{HasRowsFor, WritesPrefixSupports};
 ghost use Rattle.line_core.specs.steps.Feasibility.{AreLengths};
 
@@ -84,36 +83,6 @@ fn write_suffix_table<W: BitSet>(
     write_prefix_table::<W, true>(&reversed(domain), mirrored, suffix, gaps, ends, table);
 }
 
-/// Writes, for each unknown cell of a line, the line's support after that cell is filled and after
-/// it is made blank. All slices but `clue` and `lookaheads` are buffers.
-fn write_lookaheads<W: BitSet>(
-    domain: &LineDomain<W>,
-    clue: &[u16],
-    suffix: &mut [W::Stored; MAX_GAPS],
-    gaps: &mut [W::Stored; MAX_GAPS],
-    ends: &mut [W::Stored; MAX_GAPS],
-    before: &mut [Support<W>],
-    after: &mut [Support<W>],
-    lookaheads: &mut [Lookahead<W>],
-)
-    ghost line: { List Cell }
-    requires domain { IsDomainOf W.WIDTH line domain.now.len
-        (W.bits domain.now.not_filled) (W.bits domain.now.not_blank) }
-    requires clue { AreLengths W.WIDTH clue.now }
-    requires count { length clue.now ≤ MAX_RUNS }
-    requires before { HasRowsFor line clue.now before.old }
-    requires after { HasRowsFor line clue.now after.old }
-    requires lookaheads { length line ≤ length lookaheads.old }
-    ensures lookaheads { AreLookaheads line clue.now lookaheads.new }
-    ensures count { length lookaheads.new ≡ length lookaheads.old }
-{
-    // The mirrored line comes first: both calls write gaps and ends to the same buffers, and only
-    // those of the line itself are needed afterwards.
-    write_suffix_table(domain, clue, suffix, gaps, ends, after);
-    write_prefix_table::<W, false>(domain, clue, suffix, gaps, ends, before);
-    combine_supports(domain.len, clue, gaps, ends, before, after, lookaheads);
-}
-
 /// The buffers for computing lookahead for clues of at most `max_runs` runs. All are allocated
 /// once, and initialized as far as they are used.
 pub struct LookaheadBuffers<W: BitSet> {
@@ -185,25 +154,28 @@ impl<W: BitSet> LookaheadBuffers<W> {
         ghost cells: { List Cell }
         requires cells { line.now ≡ cells }
         requires clue { AreLengths W.WIDTH clue.now }
-        requires short { length cells ≤ MAX_LOOKAHEAD_LEN }
         requires max_runs { length clue.now ≤ self.old.max_runs }
-        requires lookaheads { length cells ≤ length lookaheads.old }
-        ensures lookaheads { AreLookaheadsOf clue.now cells lookaheads.new }
-        ensures count { length lookaheads.new ≡ length lookaheads.old }
+        requires lookaheads { HasEntries cells lookaheads.old }
+        ensures lookaheads { WritesLookaheads clue.now cells lookaheads.old lookaheads.new }
         ensures max_runs { self.new.max_runs ≡ self.old.max_runs }
     {
         ensure_initialized::<W>(&mut self.gaps);
         ensure_initialized::<W>(&mut self.ends);
         make_rows(&mut self.before, clue.len());
         make_rows(&mut self.after, clue.len());
-        write_lookaheads(
-            &LineDomain::of(line),
+        let domain = LineDomain::of(line);
+        let (gaps, ends) = (&mut self.gaps[0], &mut self.ends[0]);
+        // The mirrored line comes first: both calls write gaps and ends to the same buffers, and
+        // only those of the line itself are needed afterwards.
+        write_suffix_table(&domain, clue, suffix, gaps, ends, &mut self.after);
+        write_prefix_table::<W, false>(&domain, clue, suffix, gaps, ends, &mut self.before);
+        combine_supports(
+            domain.len,
             clue,
-            suffix,
-            &mut self.gaps[0],
-            &mut self.ends[0],
-            &mut self.before,
-            &mut self.after,
+            gaps,
+            ends,
+            &self.before,
+            &self.after,
             lookaheads,
         );
     }

@@ -4,6 +4,7 @@ ghost use Rattle.std.specs.Prelude.{◌≡◌, ◌≢◌, ◌↔◌, ◌<◌, �
 ghost use Rattle.bit_sets.specs.Masks.{IsMaskOf};
 ghost use Rattle.line_core.specs.Deduction.{deduced};
 ghost use Rattle.line_core.specs.Lookahead.{AreInert, HasOneCellMore, IsTableOf, AreLookaheadsOf, inert_if};
+ghost use Rattle.line_core.specs.steps.Lookahead.{IsNewTable};
 ghost use Rattle.line_core.specs.Support.{deduced_from};
 ghost use Rattle.line_core.specs.declared.lookahead.TheConstants.{MAX_LOOKAHEAD_LEN};
 
@@ -152,8 +153,7 @@ impl<W: LineBits> LookaheadTable<W> {
         requires clue { All (λ number. number ≤ W.WIDTH) clue.now }
         requires short { length line.now ≤ MAX_LOOKAHEAD_LEN }
         requires buffers { length clue.now ≤ buffers.old.max_runs }
-        ensures table { IsTableOf clue.now self.new }
-        ensures line { self.new.line ≡ Some line.now }
+        ensures table { IsNewTable clue.now line.now self.new }
         ensures tables { tables.new ≡ tables.old }
         ensures buffers { buffers.new.max_runs ≡ buffers.old.max_runs }
     {

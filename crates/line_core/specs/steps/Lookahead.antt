@@ -1,12 +1,17 @@
 -- What the sets of a lookahead table stand for, and feasible gaps and ends.
-use Rattle.std.specs.Prelude.{◌≡◌, ℕ, ◌+◌, ◌-◌, ◌*◌, ◌<◌, ◌≤◌, Bool, true, false, ◌||◌, List, length, slice_index_or}
+use Rattle.std.specs.Prelude.{◌≡◌, ℕ, ◌+◌, ◌-◌, ◌*◌, ◌<◌, ◌≤◌, Bool, true, false, ◌||◌, List, length, slice_index_or, Some}
 use Rattle.grid_core.specs.declared.cells.Cell.{Cell}
 use Rattle.grid_core.specs.declared.cells.Cell.TheVariants.{Unknown}
 use Rattle.grid_core.specs.Cells.{colour}
 use Rattle.bit_sets.specs.Masks.{Has, has, IsMaskOf}
 use Rattle.line_core.specs.declared.prefix_supports.TheConstants.{ROW_STRIDE}
-use Rattle.line_core.specs.Lookahead.{SupportMasks, LookaheadMasks, no_support, no_lookahead, coloured}
+use Rattle.line_core.specs.Lookahead.{SupportMasks, LookaheadMasks, Table, IsTableOf, no_support, no_lookahead, coloured}
 use Rattle.line_core.specs.steps.Feasibility.{reversed_prefix, MayBe, IsGapAfter, IsPrefixGap, IsSuffixGap, IsFeasibleEnd, IsFillable, IsBlankable}
+
+-- `table` is the table of `line` and `clue`
+pub record IsNewTable (clue : List ℕ) (line : List Cell) (table : Table) : Type 0 where
+  pub of_clue : IsTableOf clue table
+  pub line_is : table.line ≡ Some line
 
 -- by the support `masks` the line is alive, and each of `cells` stays unknown
 pub record LeavesUndecided (masks : SupportMasks) (cells : ℕ) : Type 0 where
