@@ -1,13 +1,12 @@
 //! Computes the lookahead of all unknown cells of a line, in buffers that are allocated once.
 
-ghost use Rattle.std.specs.Prelude.{◌≡◌, ◌+◌, ◌*◌, ◌<◌, ◌≤◌, List, length, map, reverse, true, vec_capacity, vec_len, IfOk};
+ghost use Rattle.std.specs.Prelude.{◌≡◌, ◌+◌, ◌*◌, ◌<◌, ◌≤◌, List, length, map, reverse, vec_capacity, vec_len, IfOk};
 ghost use Rattle.grid_core.specs.declared.cells.Cell.{Cell};
 ghost use Rattle.line_core.specs.Lookahead.{HasEntries, WritesLookaheads};
 ghost use Rattle.grid_core.specs.declared.limits.TheConstants.{MAX_RUNS};
 ghost use Rattle.line_core.specs.declared.prefix_supports.TheConstants.{ROW_STRIDE};
 ghost use Rattle.line_core.specs.steps.PrefixScan.{IsDomainOf};
 ghost use Rattle.line_core.specs.steps.Lookahead.{AreFeasible};
-ghost use Rattle.line_core.specs.steps.PrefixSupports.{HasRowsFor, WritesPrefixSupports};
 ghost use Rattle.line_core.specs.steps.Feasibility.{AreLengths};
 
 use crate::buffers::ensure_initialized;
@@ -33,54 +32,24 @@ fn make_rows<W: BitSet>(table: &mut Vec<Support<W>>, runs: usize)
     }
 }
 
-/// Writes the feasible gaps and the feasible ends of runs of a line, and the prefix supports of
-/// these gaps. The cells in `table` have their indices in the line, or, if `MIRRORED`, those in the
-/// mirrored line. `suffix` is a buffer.
-fn write_prefix_table<W: BitSet, const MIRRORED: bool>(
+/// Writes the feasible gaps and the feasible ends of runs of the mirrored line, whose clue is
+/// `mirrored`. `suffix` is a buffer for the suffix gaps.
+fn write_mirrored_feasible<W: BitSet>(
     domain: &LineDomain<W>,
-    clue: &[u16],
+    mirrored: &[u16],
     suffix: &mut [W::Stored; MAX_GAPS],
     gaps: &mut [W::Stored; MAX_GAPS],
     ends: &mut [W::Stored; MAX_GAPS],
-    table: &mut [Support<W>],
 )
     ghost line: { List Cell }
     requires domain { IsDomainOf W.WIDTH line domain.now.len
         (W.bits domain.now.not_filled) (W.bits domain.now.not_blank) }
-    requires clue { AreLengths W.WIDTH clue.now }
-    requires count { length clue.now ≤ MAX_RUNS }
-    requires table { HasRowsFor line clue.now table.old }
-    ensures feasible { AreFeasible line clue.now
+    requires clue { AreLengths W.WIDTH mirrored.now }
+    requires count { length mirrored.now ≤ MAX_RUNS }
+    ensures { AreFeasible (reverse line) mirrored.now
         (map W.stored_bits gaps.new) (map W.stored_bits ends.new) }
-    ensures table { WritesPrefixSupports MIRRORED line clue.now table.old table.new }
 {
-    write_feasible(domain, clue, suffix, gaps, ends);
-    write_prefix_supports::<W, MIRRORED>(domain.len, clue, gaps, ends, table);
-}
-
-/// Writes the prefix supports of the mirrored line and clue, in which the cells keep the indices of
-/// the line itself. All other slices but `clue` are buffers.
-fn write_suffix_table<W: BitSet>(
-    domain: &LineDomain<W>,
-    clue: &[u16],
-    suffix: &mut [W::Stored; MAX_GAPS],
-    gaps: &mut [W::Stored; MAX_GAPS],
-    ends: &mut [W::Stored; MAX_GAPS],
-    table: &mut [Support<W>],
-)
-    ghost line: { List Cell }
-    requires domain { IsDomainOf W.WIDTH line domain.now.len
-        (W.bits domain.now.not_filled) (W.bits domain.now.not_blank) }
-    requires clue { AreLengths W.WIDTH clue.now }
-    requires count { length clue.now ≤ MAX_RUNS }
-    requires table { HasRowsFor line clue.now table.old }
-    ensures { WritesPrefixSupports true (reverse line) (reverse clue.now) table.old table.new }
-{
-    let mut numbers = [0; MAX_RUNS];
-    let mirrored = &mut numbers[..clue.len()];
-    mirrored.copy_from_slice(clue);
-    mirrored.reverse();
-    write_prefix_table::<W, true>(&reversed(domain), mirrored, suffix, gaps, ends, table);
+    write_feasible(&reversed(domain), mirrored, suffix, gaps, ends);
 }
 
 /// The buffers for computing lookahead for clues of at most `max_runs` runs. All are allocated
@@ -165,10 +134,16 @@ impl<W: BitSet> LookaheadBuffers<W> {
         make_rows(&mut self.after, clue.len());
         let domain = LineDomain::of(line);
         let (gaps, ends) = (&mut self.gaps[0], &mut self.ends[0]);
-        // The mirrored line comes first: both calls write gaps and ends to the same buffers, and
-        // only those of the line itself are needed afterwards.
-        write_suffix_table(&domain, clue, suffix, gaps, ends, &mut self.after);
-        write_prefix_table::<W, false>(&domain, clue, suffix, gaps, ends, &mut self.before);
+        // The mirrored line comes first: both lines use the same buffers for gaps and ends, and only
+        // those of the line itself are needed afterwards.
+        let mut numbers = [0; MAX_RUNS];
+        let mirrored = &mut numbers[..clue.len()];
+        mirrored.copy_from_slice(clue);
+        mirrored.reverse();
+        write_mirrored_feasible(&domain, mirrored, suffix, gaps, ends);
+        write_prefix_supports::<W, true>(domain.len, mirrored, gaps, ends, &mut self.after);
+        write_feasible(&domain, clue, suffix, gaps, ends);
+        write_prefix_supports::<W, false>(domain.len, clue, gaps, ends, &mut self.before);
         combine_supports(
             domain.len,
             clue,
