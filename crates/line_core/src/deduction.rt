@@ -134,8 +134,8 @@ pub fn deduced_from<W: BitSet>(len: u16, fillable: W, blankable: W) -> Option<Bi
     Some(BitLine::from_sets(len, filled, blank))
 }
 
-/// Returns the deduced line for the numbers of a clue, or `None` if there is no placing. `gaps` is a
-/// buffer for the suffix gaps.
+/// Returns the deduced line for the numbers of a clue, or `None` if there is no placing. `gaps` is
+/// a buffer for the suffix gaps.
 fn deduce_numbers<W: BitSet>(
     gaps: &mut [W::Stored; MAX_GAPS],
     line: &BitLine<W>,
@@ -175,8 +175,8 @@ fn deduce_part<W: BitSet>(
 }
 
 /// Returns the deduced line, or `None` if there is no placing. Trims the known cells at both ends
-/// first, if there are enough of them, and deduces the cells between them alone. `narrow` and `gaps`
-/// are buffers for the suffix gaps.
+/// first, if there are enough of them, and deduces the cells between them alone. `narrow` and
+/// `gaps` are buffers for the suffix gaps.
 fn deduce_trimmed<W: BitSet>(
     narrow: &mut [u64; MAX_GAPS],
     gaps: &mut [W::Stored; MAX_GAPS],

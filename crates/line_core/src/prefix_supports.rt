@@ -116,35 +116,43 @@ pub fn run_and_prefix<W: BitSet>(start: u16, run: W, before: &[Support<W>]) -> S
     own.with(&before[usize::from(start - 1)])
 }
 
+/// A run that may end right before a gap.
+#[derive(Drop)]
+struct EndedRun<W: BitSet> {
+    /// Its length.
+    number: u16,
+    /// The first `number` indices.
+    indices: W,
+    /// The indices right after its feasible ends.
+    ended: W,
+}
+
 /// Returns the support of the cells up to the gap at `index`: `in_gap`, that without a run right
-/// before the gap, and, if `index` is in `ended`, the support given a run of `number` cells that
-/// ends right before it.
+/// before the gap, and, if `run` can end there, the support given that it does.
 fn prefix_support<W: BitSet, const MIRRORED: bool>(
     in_gap: Support<W>,
     len: u16,
     index: u16,
-    number: u16,
-    indices: W,
-    ended: W,
+    run: &EndedRun<W>,
     before: &[Support<W>],
 ) -> Support<W>
     requires index { IsCellOf W.WIDTH len index }
-    requires number { 0 < number }
-    requires indices { IsMaskOf (λ i. i < number) (W.bits indices) }
-    requires ended { Has (W.bits ended) index → number ≤ index }
+    requires number { 0 < run.now.number }
+    requires indices { IsMaskOf (λ i. i < run.now.number) (W.bits run.now.indices) }
+    requires ended { Has (W.bits run.now.ended) index → run.now.number ≤ index }
     requires before { index ≤ length before.now }
-    ensures { AreMore (λ filled k. Has (W.bits ended) index
-        × (((filled ≡ true) × IsMirroredIn MIRRORED len (index - number) index k)
-        ⊎ ((number < index)
-        × HasColour (slice_index_or before.now (index - number - 1) no_support) filled k)))
+    ensures { AreMore (λ filled k. Has (W.bits run.now.ended) index
+        × (((filled ≡ true) × IsMirroredIn MIRRORED len (index - run.now.number) index k)
+        ⊎ ((run.now.number < index)
+        × HasColour (slice_index_or before.now (index - run.now.number - 1) no_support) filled k)))
         in_gap result }
 {
-    if !ended.contains(index) {
+    if !run.ended.contains(index) {
         return in_gap;
     }
-    let start = index - number;
-    let run = mirrored_cells::<W, MIRRORED>(len, start, number, indices);
-    in_gap.with(&run_and_prefix(start, run, before))
+    let start = index - run.number;
+    let cells = mirrored_cells::<W, MIRRORED>(len, start, run.number, run.indices);
+    in_gap.with(&run_and_prefix(start, cells, before))
 }
 
 /// Writes the prefix support of each feasible gap before the first run: all cells up to the gap are
@@ -171,6 +179,13 @@ fn write_first<W: BitSet, const MIRRORED: bool>(len: u16, gaps: W, row: &mut [Su
     }
 }
 
+/// The feasible gaps after a run, and its feasible ends.
+#[derive(Drop)]
+struct FeasibleAt<W: BitSet> {
+    gaps: W,
+    ends: W,
+}
+
 /// Writes the prefix support of each feasible gap after run `j` to the second row of `rows`. The
 /// first row has those of the gaps before the run.
 #[tactic(auto, using(crate::proofs::GapRows::walks))]
@@ -178,32 +193,37 @@ fn write_row<W: BitSet, const MIRRORED: bool>(
     len: u16,
     clue: &[u16],
     j: usize,
-    gaps: W,
-    ends: W,
+    feasible: &FeasibleAt<W>,
     rows: &mut [Support<W>],
 )
     ghost line: { List Cell }
     requires len { (len ≡ length line) × (len ≤ W.WIDTH) }
     requires clue { AreLengths W.WIDTH clue.now }
     requires j { j < length clue.now }
-    requires feasible { AreFeasibleAt line clue.now j (W.bits gaps) (W.bits ends) }
+    requires feasible { AreFeasibleAt line clue.now j
+        (W.bits feasible.now.gaps) (W.bits feasible.now.ends) }
     requires rows { HasRow MIRRORED line clue.now j rows.old }
     ensures { WritesRow MIRRORED line clue.now j rows.old rows.new }
 {
     let number = clue[j];
-    let longer = gaps.shifted_up(1);
-    let ended = ends.shifted_up(1);
-    let (before, row) = rows.split_at_mut(ROW_STRIDE);
+    let longer = feasible.gaps.shifted_up(1);
+    let ended = feasible.ends.shifted_up(1);
     let indices = prefix::<W>(number);
+    let run = EndedRun {
+        number,
+        indices,
+        ended,
+    };
+    let (before, row) = rows.split_at_mut(ROW_STRIDE);
     // From left to right: a gap right after another one takes over the prefix support of that one,
     // which is `last` then.
     let mut last = Support::none();
-    let mut left = gaps;
+    let mut left = feasible.gaps;
     while !left.is_empty() {
         let index = left.first_index();
         left = left.with_bit(index, false);
         let in_gap = gap_support::<W, MIRRORED>(len, index, longer, &last);
-        last = prefix_support::<W, MIRRORED>(in_gap, len, index, number, indices, ended, before);
+        last = prefix_support::<W, MIRRORED>(in_gap, len, index, &run, before);
         row[usize::from(index)] = last.copied();
     }
 }
@@ -231,6 +251,10 @@ pub fn write_prefix_supports<W: BitSet, const MIRRORED: bool>(
     for j in 0..clue.len() {
         let next = W::from_stored(gaps[j + 1]);
         let run_ends = W::from_stored(ends[j]);
-        write_row::<W, MIRRORED>(len, clue, j, next, run_ends, &mut table[ROW_STRIDE * j..]);
+        let feasible = FeasibleAt {
+            gaps: next,
+            ends: run_ends,
+        };
+        write_row::<W, MIRRORED>(len, clue, j, &feasible, &mut table[ROW_STRIDE * j..]);
     }
 }

@@ -81,8 +81,8 @@ abbrev pub AreFeasibleEnds : List Cell → List ℕ → List ℕ → Type 0
 AreFeasibleEnds line clue masks =
     (j : ℕ) → j < length clue → IsMaskOf (IsFeasibleEnd line clue j) (slice_index_or masks j 0)
 
--- `gaps` have the feasible gaps before each run and after the last one, and `ends` the feasible ends
--- of each run
+-- `gaps` have the feasible gaps before each run and after the last one, and `ends` the feasible
+-- ends of each run
 pub record AreFeasible (line : List Cell) (clue gaps ends : List ℕ) : Type 0 where
   pub gaps_are : AreFeasibleGaps line clue gaps
   pub ends_are : AreFeasibleEnds line clue ends

@@ -7,12 +7,14 @@ use Rattle.line_core.proofs.combining.combine_supports.Goals as goal
 pub add_gaps-requires : goal.add_gaps-requires
 add_gaps-requires g c = λ κs within.
     let (line, (feasible, rest)) = c.requires.1.1.1 in
-    let gap = stored_is _ _ c.args.gaps.now c.loop-j.j _ _ (omega arith) c.from_stored.ensures (feasible.gaps_are _ (omega arith)) in search rules
+    let gap = stored_is _ _ c.args.gaps.now c.loop-j.j _ _ (omega arith) c.from_stored.ensures (feasible.gaps_are _ (omega arith)) in
+    search rules
 
 pub add_run-requires : goal.add_run-requires
 add_run-requires g c = λ κs within.
     let (line, (feasible, rest)) = c.requires.1.1.1 in
-    let end = stored_is _ _ c.args.ends.now c.loop-j.j _ _ (omega arith) c.from_stored-in-loop-j.ensures (feasible.ends_are _ c.loop-j-test.true) in
+    let end = stored_is _ _ c.args.ends.now c.loop-j.j _ _ (omega arith) c.from_stored-in-loop-j.ensures
+    (feasible.ends_are _ c.loop-j-test.true) in
     search rules
 
 pub loop-j-preserved : goal.loop-j-preserved
@@ -24,7 +26,8 @@ loop-j-preserved g c = record {
 pub add_gaps-requires-2 : goal.add_gaps-requires-2
 add_gaps-requires-2 g c = λ κs within.
     let (line, (feasible, rest)) = c.requires.1.1.1 in
-    let gap = stored_is _ _ c.args.gaps.now (length c.args.clue.now) _ _ (omega arith) c.from_stored-last.ensures (feasible.gaps_are _ (omega arith)) in
+    let gap = stored_is _ _ c.args.gaps.now (length c.args.clue.now) _ _ (omega arith) c.from_stored-last.ensures
+    (feasible.gaps_are _ (omega arith)) in
     search rules
 
 pub returns-clause-lookaheads : goal.returns-clause-lookaheads

@@ -35,9 +35,11 @@ combine_supports-requires g c = λ κs within.
     let first = c.write_prefix_supports.ensures in
     let second = c.write_prefix_supports-2.ensures in
     let before : c.deref.result.now ≡ c.write_prefix_supports-2.new.table =
-    c.deref.ensures.value ∙ with_items_is c.make_rows.new.table c.write_prefix_supports-2.new.table (second.count ∙ c.deref_mut-2.ensures.len) in
+    c.deref.ensures.value
+    ∙ with_items_is c.make_rows.new.table c.write_prefix_supports-2.new.table (second.count ∙ c.deref_mut-2.ensures.len) in
     let after : c.deref-2.result.now ≡ c.write_prefix_supports.new.table =
-    c.deref-2.ensures.value ∙ with_items_is c.make_rows-2.new.table c.write_prefix_supports.new.table (first.count ∙ c.deref_mut.ensures.len) in
+    c.deref-2.ensures.value
+    ∙ with_items_is c.make_rows-2.new.table c.write_prefix_supports.new.table (first.count ∙ c.deref_mut.ensures.len) in
     let supports : AreEndSupports g.W.BitSet.WIDTH g.cells c.args.clue.now c.deref.result.now c.deref-2.result.now = record {
       lengths = c.requires.1.1.1.1.0;
       few = few;
