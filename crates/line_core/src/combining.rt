@@ -33,54 +33,63 @@ fn add_to_each<W: BitSet>(
     }
 }
 
+/// The prefix supports of a line and of the mirrored line.
+#[derive(Drop)]
+pub struct EndSupports<'a, W: BitSet> {
+    /// The number of cells of the line.
+    pub len: u16,
+    /// The prefix supports of the line.
+    pub before: &'a [Support<W>],
+    /// The prefix supports of the mirrored line, whose cells keep the indices of the line.
+    pub after: &'a [Support<W>],
+}
+
 /// Returns the support of the line, given the feasible gap at `index` after `j` runs: the prefix
 /// support of the gap together with that of the same gap on the mirrored line.
 fn support_with_gap<W: BitSet>(
-    len: u16,
     clue: &[u16],
     j: usize,
     index: u16,
-    before: &[Support<W>],
-    after: &[Support<W>],
+    supports: &EndSupports<'_, W>,
 ) -> Support<W>
     ghost line: { List Cell }
-    requires line { IsLineWithin W.WIDTH line len }
+    requires line { IsLineWithin W.WIDTH line supports.now.len }
     requires j { j ≤ length clue.now }
     requires index { IsFeasibleGap line clue.now j index }
-    requires supports { AreEndSupports W.WIDTH line clue.now before.now after.now }
+    requires supports { AreEndSupports W.WIDTH line clue.now
+        supports.now.before.now supports.now.after.now }
     ensures { AreMasks (CanBeBesideGap line clue.now j index) result }
 {
-    let mirrored = usize::from(len - 1 - index);
-    before[ROW_STRIDE * j + usize::from(index)].with(
-        &after[ROW_STRIDE * (clue.len() - j) + mirrored],
+    let mirrored = usize::from(supports.len - 1 - index);
+    supports.before[ROW_STRIDE * j + usize::from(index)].with(
+        &supports.after[ROW_STRIDE * (clue.len() - j) + mirrored],
     )
 }
 
 /// Returns the support of the line, given that run `j` ends at `end`, one of its feasible ends.
 #[tactic(auto, using(crate::proofs::CombiningLemmas::ends))]
 fn support_with_run<W: BitSet>(
-    len: u16,
     clue: &[u16],
     j: usize,
     end: u16,
-    before: &[Support<W>],
-    after: &[Support<W>],
+    supports: &EndSupports<'_, W>,
 ) -> Support<W>
     ghost line: { List Cell }
-    requires line { IsLineWithin W.WIDTH line len }
+    requires line { IsLineWithin W.WIDTH line supports.now.len }
     requires j { j < length clue.now }
     requires end { IsFeasibleEnd line clue.now j end }
-    requires supports { AreEndSupports W.WIDTH line clue.now before.now after.now }
+    requires supports { AreEndSupports W.WIDTH line clue.now
+        supports.now.before.now supports.now.after.now }
     ensures { AreMasks (CanBeBesideRun line clue.now j end) result }
 {
     let next = end + 1;
     let start = next - clue[j];
     let run = prefix::<W>(clue[j]).shifted_up(start);
-    let mut support = run_and_prefix(start, run, &before[ROW_STRIDE * j..]);
+    let mut support = run_and_prefix(start, run, &supports.before[ROW_STRIDE * j..]);
     // The last run may end at the last cell of the line, without a gap after it.
-    if next < len {
-        let mirrored = usize::from(len - 1 - next);
-        support.add(&after[ROW_STRIDE * (clue.len() - (j + 1)) + mirrored]);
+    if next < supports.len {
+        let mirrored = usize::from(supports.len - 1 - next);
+        support.add(&supports.after[ROW_STRIDE * (clue.len() - (j + 1)) + mirrored]);
     }
     support
 }
@@ -89,19 +98,18 @@ fn support_with_run<W: BitSet>(
 /// support after that cell is made blank.
 #[tactic(auto, using(crate::proofs::CombiningLemmas::places))]
 fn add_gaps<W: BitSet>(
-    len: u16,
     clue: &[u16],
     j: usize,
     gaps: W,
-    before: &[Support<W>],
-    after: &[Support<W>],
+    supports: &EndSupports<'_, W>,
     lookaheads: &mut [Lookahead<W>],
 )
     ghost line: { List Cell }
-    requires line { IsLineWithin W.WIDTH line len }
+    requires line { IsLineWithin W.WIDTH line supports.now.len }
     requires j { j ≤ length clue.now }
     requires gaps { IsMaskOf (IsFeasibleGap line clue.now j) (W.bits gaps) }
-    requires supports { AreEndSupports W.WIDTH line clue.now before.now after.now }
+    requires supports { AreEndSupports W.WIDTH line clue.now
+        supports.now.before.now supports.now.after.now }
     requires lookaheads { length line ≤ length lookaheads.old }
     ensures { AreLookaheadsMore false (λ x. CanBeWithBlank line clue.now x j)
         lookaheads.old lookaheads.new }
@@ -110,7 +118,7 @@ fn add_gaps<W: BitSet>(
     while !left.is_empty() {
         let index = left.first_index();
         left = left.with_bit(index, false);
-        let support = support_with_gap(len, clue, j, index, before, after);
+        let support = support_with_gap(clue, j, index, supports);
         add_to_each(lookaheads, false, index, index + 1, &support);
     }
 }
@@ -119,19 +127,18 @@ fn add_gaps<W: BitSet>(
 /// after each cell of that run is filled.
 #[tactic(auto, using(crate::proofs::CombiningLemmas::places))]
 fn add_run<W: BitSet>(
-    len: u16,
     clue: &[u16],
     j: usize,
     ends: W,
-    before: &[Support<W>],
-    after: &[Support<W>],
+    supports: &EndSupports<'_, W>,
     lookaheads: &mut [Lookahead<W>],
 )
     ghost line: { List Cell }
-    requires line { IsLineWithin W.WIDTH line len }
+    requires line { IsLineWithin W.WIDTH line supports.now.len }
     requires j { j < length clue.now }
     requires ends { IsMaskOf (IsFeasibleEnd line clue.now j) (W.bits ends) }
-    requires supports { AreEndSupports W.WIDTH line clue.now before.now after.now }
+    requires supports { AreEndSupports W.WIDTH line clue.now
+        supports.now.before.now supports.now.after.now }
     requires lookaheads { length line ≤ length lookaheads.old }
     ensures { AreLookaheadsMore true (λ x. CanBeWithFilled line clue.now x j)
         lookaheads.old lookaheads.new }
@@ -140,7 +147,7 @@ fn add_run<W: BitSet>(
     while !left.is_empty() {
         let end = left.first_index();
         left = left.with_bit(end, false);
-        let support = support_with_run(len, clue, j, end, before, after);
+        let support = support_with_run(clue, j, end, supports);
         let next = end + 1;
         add_to_each(lookaheads, true, next - clue[j], next, &support);
     }
@@ -158,48 +165,30 @@ fn clear<W: BitSet>(lookaheads: &mut [Lookahead<W>], len: u16)
 }
 
 /// Writes, for each unknown cell of a line, the line's support after that cell is filled and after
-/// it is made blank. `gaps` and `ends` are the feasible ones, `before` are the prefix supports of
-/// the line, and `after` those of the mirrored line.
+/// it is made blank. `gaps` and `ends` are the feasible ones.
 pub fn combine_supports<W: BitSet>(
-    len: u16,
     clue: &[u16],
     gaps: &[W::Stored; MAX_GAPS],
     ends: &[W::Stored; MAX_GAPS],
-    before: &[Support<W>],
-    after: &[Support<W>],
+    supports: &EndSupports<'_, W>,
     lookaheads: &mut [Lookahead<W>],
 )
     ghost line: { List Cell }
-    requires line { IsLineWithin W.WIDTH line len }
+    requires line { IsLineWithin W.WIDTH line supports.now.len }
     requires feasible { AreFeasible line clue.now
         (map W.stored_bits gaps.now) (map W.stored_bits ends.now) }
-    requires supports { AreEndSupports W.WIDTH line clue.now before.now after.now }
+    requires supports { AreEndSupports W.WIDTH line clue.now
+        supports.now.before.now supports.now.after.now }
     requires lookaheads { length line ≤ length lookaheads.old }
     ensures lookaheads { AreLookaheads line clue.now lookaheads.new }
     ensures count { length lookaheads.new ≡ length lookaheads.old }
 {
-    clear(lookaheads, len);
+    clear(lookaheads, supports.len);
     let count = clue.len();
     for j in 0..count {
-        add_gaps(
-            len,
-            clue,
-            j,
-            W::from_stored(gaps[j]),
-            before,
-            after,
-            lookaheads,
-        );
-        add_run(
-            len,
-            clue,
-            j,
-            W::from_stored(ends[j]),
-            before,
-            after,
-            lookaheads,
-        );
+        add_gaps(clue, j, W::from_stored(gaps[j]), supports, lookaheads);
+        add_run(clue, j, W::from_stored(ends[j]), supports, lookaheads);
     }
     let last = W::from_stored(gaps[count]);
-    add_gaps(len, clue, count, last, before, after, lookaheads);
+    add_gaps(clue, count, last, supports, lookaheads);
 }

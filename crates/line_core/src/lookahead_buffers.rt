@@ -10,7 +10,7 @@ ghost use Rattle.line_core.specs.steps.Lookahead.{AreFeasible};
 ghost use Rattle.line_core.specs.steps.Feasibility.{AreLengths};
 
 use crate::buffers::ensure_initialized;
-use crate::combining::combine_supports;
+use crate::combining::{EndSupports, combine_supports};
 use crate::domains::{LineDomain, reversed};
 use crate::lookahead::{Lookahead, Support};
 use crate::prefix_supports::{ROW_STRIDE, write_feasible, write_prefix_supports};
@@ -144,14 +144,11 @@ impl<W: BitSet> LookaheadBuffers<W> {
         write_prefix_supports::<W, true>(domain.len, mirrored, gaps, ends, &mut self.after);
         write_feasible(&domain, clue, suffix, gaps, ends);
         write_prefix_supports::<W, false>(domain.len, clue, gaps, ends, &mut self.before);
-        combine_supports(
-            domain.len,
-            clue,
-            gaps,
-            ends,
-            &self.before,
-            &self.after,
-            lookaheads,
-        );
+        let supports = EndSupports {
+            len: domain.len,
+            before: &self.before,
+            after: &self.after,
+        };
+        combine_supports(clue, gaps, ends, &supports, lookaheads);
     }
 }
