@@ -4,9 +4,9 @@
 ghost use Rattle.std.specs.Prelude.{◌≡◌, ◌+◌, ◌*◌, ◌<◌, ◌≤◌, ℕ, List, length, map, slice_index_or, true, false};
 ghost use Rattle.grid_core.specs.declared.cells.Cell.{Cell};
 ghost use Rattle.bit_sets.specs.Masks.{IsMaskOf};
-ghost use Rattle.line_core.specs.Lookahead.{masks_if, no_lookahead};
+ghost use Rattle.line_core.specs.Lookahead.{no_lookahead};
 ghost use Rattle.line_core.specs.steps.Lookahead.{AreMasks, AreLookaheads, AreFeasible, IsFeasibleGap};
-ghost use Rattle.line_core.specs.steps.Combining.{AreMore, AreLookaheadsMore, AreEndSupports, CanBeBesideGap, CanBeBesideRun, CanBeWithBlank, CanBeWithFilled, HasColour, IsLineWithin};
+ghost use Rattle.line_core.specs.steps.Combining.{AreLookaheadsMore, AreEndSupports, CanBeBesideGap, CanBeBesideRun, CanBeWithBlank, CanBeWithFilled, HasColour, IsLineWithin};
 ghost use Rattle.line_core.specs.steps.Feasibility.{IsFeasibleEnd};
 
 use crate::lookahead::{Lookahead, Support};

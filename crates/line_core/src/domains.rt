@@ -1,6 +1,6 @@
 //! The domain of a line: the colours that its cells can still take, as bit sets of one width.
 
-ghost use Rattle.std.specs.Prelude.{◌≡◌, ◌<◌, ◌≤◌, List, reverse};
+ghost use Rattle.std.specs.Prelude.{◌<◌, List, reverse};
 ghost use Rattle.grid_core.specs.declared.cells.Cell.{Cell};
 ghost use Rattle.line_core.specs.steps.PrefixScan.{IsDomainOf, padded};
 

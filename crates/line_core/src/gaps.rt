@@ -1,6 +1,6 @@
 //! The set operations of the prefix scan: the gaps between runs, and the ends of runs.
 
-ghost use Rattle.std.specs.Prelude.{◌≡◌, ◌-◌, ◌<◌, ◌≤◌, ◌⊎◌, ℕ};
+ghost use Rattle.std.specs.Prelude.{◌≡◌, ◌-◌, ◌<◌, ◌≤◌, ◌⊎◌};
 ghost use Rattle.bit_sets.specs.Masks.{Has, IsMaskOf, IsFlooded, IsShifted};
 
 use bit_sets::BitSet;

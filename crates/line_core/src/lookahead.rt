@@ -1,21 +1,14 @@
 //! Lookahead: the support of a line after one more of its cells is known.
 
-ghost use Rattle.std.specs.Prelude.{◌≡◌, ◌<◌, ◌≤◌, List, length, not, slice_index_or, true, IsTrue};
-ghost use Rattle.grid_core.specs.declared.cells.Cell.{Cell};
-ghost use Rattle.line_core.specs.steps.PrefixScan.{IsDomainOf};
-ghost use Rattle.line_core.specs.steps.Lookahead.{IsSupportOf, AreLookaheads, IsLookaheadAt, LeavesUndecided};
-ghost use Rattle.grid_core.specs.Cells.{colour};
-ghost use Rattle.grid_core.specs.declared.cells.Cell.TheVariants.{Unknown};
-ghost use Rattle.line_core.specs.steps.Feasibility.{AreLengths};
+ghost use Rattle.std.specs.Prelude.{◌≡◌, ◌<◌, ◌≤◌, not, IsTrue};
+ghost use Rattle.line_core.specs.steps.Lookahead.{LeavesUndecided};
 ghost use Rattle.line_core.specs.Lookahead.{no_support, no_lookahead, masks_if};
 ghost use Rattle.line_core.specs.steps.Combining.{AreMore, HasColour};
 ghost use Rattle.line_core.specs.Support.{deduced_from};
 
-use crate::deduction::{deduced_from, line_support};
-use crate::domains::LineDomain;
-use crate::suffix_gaps::MAX_GAPS;
+use crate::deduction::deduced_from;
 use bit_sets::BitSet;
-use grid_core::{BitLine, MAX_RUNS};
+use grid_core::BitLine;
 use std::marker::Model;
 
 /// The greatest length of a line, in cells, for which a lookahead table is built.

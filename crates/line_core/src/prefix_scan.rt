@@ -1,6 +1,6 @@
 //! The prefix scan: goes over the runs of a line from left to right, in a few set operations each.
 
-ghost use Rattle.std.specs.Prelude.{◌≡◌, ◌<◌, ◌≤◌, ℕ, List, [], ◌∷◌, true, map};
+ghost use Rattle.std.specs.Prelude.{◌≡◌, ◌<◌, ◌≤◌, ℕ, List, [], ◌∷◌, map};
 ghost use Rattle.grid_core.specs.declared.cells.Cell.{Cell};
 ghost use Rattle.bit_sets.specs.Masks.{IsMaskOf, IsFitTable};
 ghost use Rattle.line_core.specs.steps.Feasibility.{IsEndAfter};

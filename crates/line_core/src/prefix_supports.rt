@@ -1,6 +1,6 @@
 //! Prefix supports: the support of the cells up to a gap, given that gap.
 
-ghost use Rattle.std.specs.Prelude.{◌≡◌, ◌+◌, ◌-◌, ◌*◌, ◌<◌, ◌≤◌, ◌⊎◌, ℕ, List, [], ◌∷◌, false, length, map, slice_index_or, true};
+ghost use Rattle.std.specs.Prelude.{◌≡◌, ◌+◌, ◌-◌, ◌*◌, ◌<◌, ◌≤◌, ◌⊎◌, ℕ, List, [], false, length, map, slice_index_or, true};
 ghost use Rattle.grid_core.specs.declared.cells.Cell.{Cell};
 ghost use Rattle.bit_sets.specs.Masks.{Has, IsMaskOf};
 ghost use Rattle.line_core.specs.steps.PrefixScan.{IsDomainOf};
