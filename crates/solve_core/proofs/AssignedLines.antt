@@ -1,17 +1,14 @@
 -- The lines of a grid after one of them is written, and its changed cells into the lines that cross it: an assignment,
 -- or one that is undone.
-use Rattle.solve_core.proofs.Names.{◌≡◌, ◌≢◌, ◌∙◌, AreFresh, Blank, Filled, LineMasks, Nonogram, Some, bit_at, colour, cond, deduced, eq-eqb, has, is_filled, is_known, ne_eqb, subst, true, true≢false, refl, ℕ, ◌+◌, ◌*◌, ◌<◌, inl, inr, List, [], length, get_or, set, sym, ap, arith, length-set, get_or-set_same, get_or-set_other, cases_eq, cases_lt, get_or_past, set-get_or, zero-add, Cell, Unknown, Axis, Rows, Columns, Extends, IsChanged, IsWithBit, cells_at, crossing, line_indices, IsSize, PartialGrid, cells_of_rows, line_count, cell_index_on, same_cells, get_or-cells_at, length-cells_at, length-line_indices, get_or-line_indices, Extends-at, Extends-refl, Has, IsMaskOf, with_cells, AreLinesOf, board_of, cells_along, TrailedGrid, CanAssignAcross, CanWriteIn, LineEntry, IsEntryOf, entry_on, with_unknown_at, undo_entry, unknown_count, length-Extends, ext_get_or, rules}
+use Rattle.solve_core.proofs.Names.{◌≡◌, ◌≢◌, ◌∙◌, bit_at, cond, eq-eqb, has, is_known, ne_eqb, true, true≢false, refl, ℕ, ◌+◌, ◌*◌, ◌<◌, inl, inr, List, [], length, get_or, set, sym, ap, arith, length-set, get_or-set_same, get_or-set_other, cases_eq, cases_lt, get_or_past, set-get_or, zero-add, Cell, Unknown, Axis, Rows, Columns, Extends, IsChanged, IsWithBit, cells_at, crossing, line_indices, IsSize, PartialGrid, cells_of_rows, line_count, cell_index_on, same_cells, get_or-cells_at, length-cells_at, length-line_indices, get_or-line_indices, Extends-at, Extends-refl, Has, IsMaskOf, with_cells, AreLinesOf, board_of, cells_along, TrailedGrid, CanAssignAcross, CanWriteIn, LineEntry, IsEntryOf, entry_on, with_unknown_at, undo_entry, unknown_count, length-Extends, ext_get_or, rules}
 use Rattle.solve_core.proofs.ClosureLaws.{length-with_cells, with_cells-monotone, with_cells-read}
 use Rattle.solve_core.proofs.Changes.{none_in}
 use Rattle.solve_core.proofs.Closing.{fewer_unknown}
 use Rattle.solve_core.proofs.GridLineSteps.{grid_of_lines, lines_cells}
 use Rattle.solve_core.proofs.LineSteps.{cells_at-same, cells_at-with_cells, get_or-with_cells, assigned_cell, with_cells-same}
 use Rattle.solve_core.proofs.Order.{set_extends}
-use Rattle.line_core.specs.Lookahead.{AreInert}
 use Rattle.solve_core.specs.steps.Boards.{grid_of_board}
-use Rattle.solve_core.specs.steps.LineMasks.{StayFresh}
-use Rattle.solve_core.specs.steps.LookaheadTables.{LineTables}
-use Rattle.solve_core.proofs.AxisLines.{across, along, by_axis, below_indices, crossing_twice, distinct_indices, line-set, same_place}
+use Rattle.solve_core.proofs.AxisLines.{across, along, below_indices, crossing_twice, distinct_indices, line-set, same_place}
 use Rattle.std.proofs.lemmas.List.FromFn.{get_or-map-range_with_len, length-map-range_with_len}
 
 -- line `i` of an axis is assigned the cells `new`, which extend its old ones and differ from them at the indices `m`
@@ -74,12 +71,6 @@ with_unknown_at-is m line k has = elim (cases_lt k (length line)) [
   | inl l ↦ get_or-with_unknown_at m line k l ∙ rw (eq-eqb (bit_at m k) 1 has) refl
   | inr past ↦ get_or_past (with_unknown_at m line) k Unknown (omega (arith, past, length-with_unknown_at m line))
 ]
-
--- the colour of a known cell, as a cell, is the cell
-pub coloured_as : (c : Cell) → is_known c ≡ true → colour (is_filled c) ≡ c
-coloured_as Filled known = refl
-coloured_as Blank known = refl
-coloured_as Unknown known = cc
 
 module _ (axis : Axis) (w h i m : ℕ) (cells new : List Cell) (is : Writes axis w h i m cells new) where
   -- line `i` has the cells that were written
@@ -178,27 +169,6 @@ module _ (axis : Axis) (w h i m : ℕ) (cells new : List Cell) (is : AssignsLine
         cell = omega (arith, here, assigned_is.long);
         known = assigned.1;
       }
-
-  -- a crossing line on which the new colour is inert deduces just its own cells
-  pub neutral_settled : (clue : List ℕ) (k n : ℕ) → Has m k →
-      AreInert clue (cells_at Unknown cells (line_indices (crossing axis) w h k)) (is_filled (get_or new k Unknown)) n → Has n i →
-      let line = cells_at Unknown (after axis w h i cells new) (line_indices (crossing axis) w h k) in deduced line clue ≡ Some line
-  neutral_settled clue k n has neutral own =
-      let here = change_in k has in
-      let assigned = assigned_at k has in
-      let at = at_across axis w h k i cells here is.line in
-      let line = cells_at Unknown cells (line_indices (crossing axis) w h k) in
-      rw (crossed axis w h i m cells new assigned_is k here) (subst (λ (c : Cell). deduced (set line i c) clue ≡ Some (set line i c))
-      (coloured_as (get_or new k Unknown) assigned.1)
-      (neutral.nothing_else i at.0 (at.1 ∙ sym (at_own axis w h i k cells here) ∙ assigned.0) own))
-
-  -- the tables that remain after the assignment are valid
-  pub stay_fresh : (p : Nonogram) (fresh later : LineMasks) (tables : LineTables) → p.width ≡ w → p.height ≡ h →
-      AreFresh p fresh tables cells → StayFresh axis i (Has m) fresh later → AreFresh p later tables (after axis w h i cells new)
-  stay_fresh p fresh later tables wide high f stay =
-      let own = own_kept axis w h i m cells new assigned_is in
-      let others = across_kept axis w h i m cells new assigned_is in
-      grind (arith, by_axis, p.width, p.height, f.inside, stay.own, stay.across, f.table_is, own, others)
 
   -- undoing the assignment restores the old cells
   pub assigned_back : undo_entry (after axis w h i cells new) (entry_on w h (record { axis = axis; line = i; changes = m })) ≡ cells

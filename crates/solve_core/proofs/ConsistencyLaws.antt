@@ -13,17 +13,17 @@ more_consistent : (p : Nonogram) (rows : List ColourMasks) (row : ColourMasks) (
     AreConsistent p (set rows y row) cells
 more_consistent p rows row y cells before ly more = search (rules, cases_eq, get_or-set_same, get_or-set_other)
 
--- the record stays correct if a set of colours that aren't refuted is added in a row
-pub opened : (p : Nonogram) (rows : List ColourMasks) (old row more : ColourMasks) (y : ℕ) (cells : List Cell)
-    → AreConsistent p rows cells →
-    y < length rows → old ≡ get_or rows y old
-    → ((c : Cell) (i : ℕ) → Has (mask_of c row) i → Has (mask_of c old) i ⊎ Has (mask_of c more) i) →
-    ((k : ℕ) (c : Cell) → k / p.width ≡ y → Has (mask_of c more) (k % p.width) → CanAssign cells k c →
-    is_refuted (lines_of p) cells k c ≡ false) → AreConsistent p (set rows y row) cells
-opened p rows old row more y cells before ly is only free =
+-- the record stays correct if a colour that isn't refuted is added at column `x` of row `y`
+pub one_more : (p : Nonogram) (rows : List ColourMasks) (old row : ColourMasks) (x y : ℕ) (colour : Cell) (cells : List Cell)
+    → x < p.width → is_refuted (lines_of p) cells (y * p.width + x) colour ≡ false → AreConsistent p rows cells → y < length rows
+    → old ≡ get_or rows y old
+    → ((c : Cell) (i : ℕ) → Has (mask_of c row) i → Has (mask_of c old) i ⊎ ((c ≡ colour) × (i ≡ x)))
+    → AreConsistent p (set rows y row) cells
+one_more p rows old row x y colour cells lx free before ly is only =
     more_consistent p rows row y cells before ly (λ k c can at h. elim (only c (k % p.width) h) [
       | inl was ↦ inl (rw (is ∙ get_or_default rows y old no_colours ly) at was)
-      | inr new ↦ inr (free k c at new can)
+      | inr new ↦ (let place : y * p.width + x ≡ k = omega (arith, rw (at, new.1) at (mod-add-div' k p.width)) in
+          inr (rw (← place, new.0) free))
     ])
 
 -- the record stays correct if the known cells of a row of a line-closed grid are added

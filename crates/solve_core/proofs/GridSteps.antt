@@ -1,7 +1,6 @@
 -- Effects of deducing a line, and of assigning a cell, on the worklist and on the grid's closure.
-use Rattle.solve_core.proofs.Names.{AreFresh, ◌≡◌, ◌≢◌, ℕ, ◌+◌, ◌*◌, ◌/◌, ◌%◌, ◌<◌, inl, inr, true, false, List, length, get_or, set, Option, Some, refl, sym, ap, ◌∙◌, arith, length-set, true≢false, cases_eq, div_below, Cell, Unknown, TrailedGrid, IsBoardOf, cells_along, cells_at, Nonogram, IsNonogram, GridLine, lines_of, line_on, crossing, line_indices, line_count, cell_index_on, Dead, Unchanged, Changed, round, closure, deduce_line, LineMasks, mask_on, IsInMask, IsEmptyMask, IsMaskWithin, Has, IsWithBit, IsMaskOf, Axis, Rows, Columns, IsDeduced, IsPropagated, AddsToWorklist, IsWorklist, WorklistAfter, StepsTowards, IsAtFixpoint, PropagatorState, HasNoDirtyLine, Extends-refl, length-Extends, rules}
+use Rattle.solve_core.proofs.Names.{◌≡◌, ◌≢◌, ℕ, ◌+◌, ◌*◌, ◌/◌, ◌%◌, ◌<◌, inl, inr, true, false, List, length, get_or, set, Option, Some, refl, sym, ap, ◌∙◌, arith, length-set, true≢false, cases_eq, div_below, Cell, Unknown, TrailedGrid, IsBoardOf, cells_along, cells_at, Nonogram, IsNonogram, GridLine, lines_of, line_on, crossing, line_indices, line_count, cell_index_on, Dead, Unchanged, Changed, round, closure, deduce_line, LineMasks, mask_on, IsInMask, IsEmptyMask, IsMaskWithin, Has, IsWithBit, IsMaskOf, Axis, Rows, Columns, IsDeduced, IsPropagated, AddsToWorklist, IsWorklist, WorklistAfter, StepsTowards, IsAtFixpoint, PropagatorState, HasNoDirtyLine, Extends-refl, length-Extends, rules}
 use Rattle.solve_core.specs.declared.propagation.Effect.{Effect}
-use Rattle.solve_core.specs.steps.LookaheadTables.{LineTables, table_on}
 use Rattle.solve_core.proofs.ClosureLaws.{closure-IsLeastClosed}
 use Rattle.solve_core.proofs.StepLaws.{IsOneOf, done_within}
 use Rattle.solve_core.proofs.LineSteps.{closed_settled, cells_at-same, kept-elsewhere, AreDistinct, AreBelow, settled_line, written_line, written-extends, written-settled, written-elsewhere, line_keeps, line_dead}
@@ -52,11 +51,10 @@ dirty-after p cells new dirty middle after axis i r m l taken other assigned cha
             | inr ne ↦ settled-same cells new (line_on axis p j) (search (rules, m.settled, changes.own, taken.from))
                 (search (rules, along, same_place, elsewhere))
           ])
-          (λ j lj n. elim (changes.same j lj n) [
-            | inl same ↦ settled-same cells new (line_on (crossing axis) p j) (search (rules, m.settled, changes.kept, other))
-                (λ b lb. elsewhere _ (λ k lk meet. grind (arith, across, along, same_place, same)))
-            | inr settled ↦ settled
-          ]);
+          (λ j lj n.
+          let same = changes.same j lj n in
+          settled-same cells new (line_on (crossing axis) p j) (search (rules, m.settled, changes.kept, other))
+          (λ b lb. elsewhere _ (λ k lk meet. grind (arith, across, along, same_place, same))));
     }
 
     by : (r : Effect) → IsPropagated r (line_on axis p i) cells new → WorklistAfter r p after new
@@ -107,30 +105,6 @@ pub apart_settled : (p : Nonogram) (cells : List Cell) (axis : Axis) (i b k j : 
     b < line_count (crossing axis) p.width p.height → k ≡ cell_index_on axis p.width i b → j < line_count axis p.width p.height → j ≢ i →
     IsDeduced cells (line_on axis p j) → IsDeduced (set cells k c) (line_on axis p j)
 apart_settled p cells axis i b k j c li lb e lj ne deduced = rw (apart_kept p cells axis i b k j c li lb e lj ne) deduced
-
--- the tables of all lines but the row and the column of a cell stay valid when the cell is written
-pub place_fresh : (p : Nonogram) (cells : List Cell) (fresh later : LineMasks) (tables : LineTables) (k y x : ℕ) (c : Cell) →
-    AreFresh p fresh tables cells → y < p.height → x < p.width → k ≡ y * p.width + x →
-    IsMaskOf (IsWithBit (Has fresh.rows) y false) later.rows →
-    IsMaskOf (IsWithBit (Has fresh.columns) x false) later.columns → AreFresh p later tables (set cells k c)
-place_fresh p cells fresh later tables k y x c f hy hx at rows columns = record {
-  inside = elim [
-    | Rows ↦ λ j h. f.inside Rows j (before Rows y rows j h).0
-    | Columns ↦ λ j h. f.inside Columns j (before Columns x columns j h).0
-  ];
-  table_is = elim [ Rows ↦ kept Rows y x hy hx at rows | Columns ↦ kept Columns x y hx hy at columns ];
-}
-  where
-    before : (axis : Axis) (i : ℕ) → IsMaskOf (IsWithBit (Has (mask_on axis fresh)) i false) (mask_on axis later) → (j : ℕ) →
-        IsInMask later axis j → IsInMask fresh axis j × (j ≢ i)
-    before axis i mask j h = elim (mask.to j h) [ inl old ↦ old | inr own ↦ absurd (true≢false (sym own.1)) ]
-
-    kept : (axis : Axis) (i b : ℕ) → i < line_count axis p.width p.height → b < line_count (crossing axis) p.width p.height →
-        k ≡ cell_index_on axis p.width i b → IsMaskOf (IsWithBit (Has (mask_on axis fresh)) i false) (mask_on axis later) → (j : ℕ) →
-        IsInMask later axis j → (table_on axis j tables).line ≡ Some (cells_at Unknown (set cells k c) (line_on axis p j).indices)
-    kept axis i b li lb e mask j h =
-        let old = before axis i mask j h in
-        rw (apart_kept p cells axis i b k j c li lb e (f.inside axis j old.0) old.1) (f.table_is axis j old.0)
 
 -- after a cell is assigned, the worklist is complete if its row and its column are added
 pub place_worklist : (p : Nonogram) (cells : List Cell) (dirty after : LineMasks) (k y x : ℕ) (c : Cell) → IsWorklist p dirty cells →

@@ -1,6 +1,5 @@
 -- Lemmas on a puzzle's closure, trials and search, and on the functions that compute them.
 pub mod Names
-pub mod NeutralCells
 pub mod Order
 pub mod TrailSteps
 pub mod Closing
@@ -11,6 +10,7 @@ pub mod LineSteps
 pub mod AssignedLines
 pub mod AxisLines
 pub mod GridSteps
+pub mod InertCells
 pub mod GridLineSteps
 pub mod BoardSteps
 pub mod TrialSteps

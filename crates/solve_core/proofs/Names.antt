@@ -43,8 +43,8 @@ pub use Rattle.solve_core.specs.declared.propagation.Effect.TheVariants.{Changed
 pub use Rattle.solve_core.specs.declared.findings.Findings.{Findings}
 pub use Rattle.solve_core.specs.steps.Boards.{BufferCapacities, IsBoard, IsBoardOf, board_of, cells_along}
 pub use Rattle.solve_core.specs.steps.Branches.{AreBefore, AreInOrder, AreKnownBefore, AreOlder, IsBranch, IsClosed, IsNext, IsNextCell, AreBranchesOf, cells_before, events_from_cell, pending, events_from_guess}
-pub use Rattle.solve_core.specs.steps.Propagation.{AreFresh, PropagatorState, HasNoDirtyLine, HasCorrectCache}
-pub use Rattle.solve_core.specs.steps.ColourMasks.{ColourMasks, mask_if, mask_of, no_colours}
+pub use Rattle.solve_core.specs.steps.Propagation.{PropagatorState, HasNoDirtyLine, HasCorrectCache}
+pub use Rattle.solve_core.specs.steps.ColourMasks.{ColourMasks, mask_of, no_colours}
 pub use Rattle.solve_core.specs.steps.Counts.{AreCounts, IsKnownCell, IsMostInRow, row_score, set_count, two_of}
 pub use Rattle.solve_core.specs.steps.Endings.{Ending, ending}
 pub use Rattle.solve_core.specs.steps.GridLines.{AreLinesOf}

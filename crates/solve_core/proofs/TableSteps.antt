@@ -1,5 +1,5 @@
 -- Lookahead tables of lines when they are created, cleared and written.
-use Rattle.solve_core.proofs.Names.{bit_at-zero, eqb-true, inl, inr, ◌≡◌, ◌≢◌, ℕ, zero, suc, refl, arith, ◌<◌, ◌≤◌, Bool, true, false, List, length, [], ◌∷◌, ◌++◌, None, get_or, get_or-set_other, get_or-set_same, set, Has, IsWithBit, IsMaskOf, has}
+use Rattle.solve_core.proofs.Names.{inl, inr, ◌≡◌, ◌≢◌, ℕ, zero, suc, refl, arith, ◌<◌, ◌≤◌, List, length, [], ◌∷◌, ◌++◌, None, get_or}
 use Rattle.std.proofs.lemmas.Bool.{cases_eq, cases_lt}
 use Rattle.std.proofs.Math.ListN.{get_or-eq_default}
 use Rattle.grid_core.specs.Nonogram.{Nonogram, crossing, line_on}
@@ -7,9 +7,8 @@ use Rattle.grid_core.specs.declared.axes.Axis.{Axis}
 use Rattle.grid_core.specs.declared.axes.Axis.TheVariants.{Rows, Columns}
 use Rattle.line_core.proofs.LookaheadLemmas.{empty_table}
 use Rattle.solve_core.proofs.AxisLines.{by_axis}
-use Rattle.line_core.specs.Lookahead.{IsTableOf, Table, inert_if, no_table}
-use Rattle.solve_core.specs.steps.ColourMasks.{ColourMasks, mask_if, no_colours}
-use Rattle.solve_core.specs.steps.LookaheadTables.{AreEmpty, AreNeutralOf, AreTablesOf, LineTables, table_on}
+use Rattle.line_core.specs.Lookahead.{IsTableOf, Table, no_table}
+use Rattle.solve_core.specs.steps.LookaheadTables.{AreEmpty, AreTablesOf, LineTables, table_on}
 
 -- an empty list of tables has no table with a line
 pub none_empty : (xs : List Table) → xs ≡ [] → AreEmpty xs
@@ -61,35 +60,3 @@ pub column_others : (i : ℕ) (old new rows : List Table) → ((k : ℕ) → k �
     → table_on s k (record { rows = rows; columns = new }) ≡ table_on s k (record { rows = rows; columns = old })
 column_others i old new rows others Rows k n = refl
 column_others i old new rows others Columns k n = others k (n refl)
-
--- for tables without lines, all sets are correct records of inert colours
-pub empty_sets : (width : ℕ) (tables : List Table) (sets : List ColourMasks) → AreEmpty tables → length sets ≤ width
-    → AreNeutralOf width tables sets
-empty_sets width tables sets empty few = record { few = few; neutral = λ j k filled some has. absurd (some (empty.each k)) }
-
--- `no_colours` has no index for either colour
-pub none_marked : (filled : Bool) (k : ℕ) → Has (mask_if filled no_colours) k → ⊥
-none_marked true k has = absurd (omega (arith, has, bit_at-zero k))
-none_marked false k has = absurd (omega (arith, has, bit_at-zero k))
-
--- after a table is written, the sets are correct if its inert cells are recorded in them at its line
-pub table_marked : (width i place : ℕ) (old : List Table) (written read d : Table) (before after : List ColourMasks)
-    → AreNeutralOf width old before → place ≡ i → place < length old → read ≡ get_or (set old place written) place d
-    → length after ≡ length before
-    → ((j : ℕ) (filled : Bool) → j < length before → IsMaskOf (IsWithBit (Has (mask_if filled (get_or before j no_colours))) i
-    (has (inert_if filled read) j)) (mask_if filled (get_or after j no_colours)))
-    → AreNeutralOf width (set old place written) after
-table_marked width i place old written read d before after are e inside is count marked = record {
-  few = rw count are.few;
-  neutral = λ j k filled some has. grind (
-    arith,
-    cases_lt,
-    get_or-eq_default,
-    get_or-set_other,
-    get_or-set_same,
-    eqb-true,
-    none_marked,
-    marked,
-    are.neutral,
-  );
-}

@@ -1,24 +1,22 @@
 //! The board of a search: a grid as rows and columns, with a trail by which assignments are undone.
-ghost use Rattle.std.specs.Prelude.{◌≡◌, ℕ, ◌+◌, ◌-◌, ◌*◌, ◌<◌, ◌≤◌, [], length, map, take, slice_index_or, slice_set, true, IfOk, IsTrue};
-ghost use Rattle.grid_core.specs.Cells.{is_known};
-ghost use Rattle.grid_core.specs.Nonogram.{lines_of};
-ghost use Rattle.bit_sets.specs.Masks.{Has};
-ghost use Rattle.solve_core.specs.Closure.{closure, if_alive};
+ghost use Rattle.std.specs.Prelude.{◌≡◌, ◌≢◌, ℕ, ◌+◌, ◌-◌, ◌*◌, ◌<◌, ◌≤◌, length, take, slice_index_or, slice_set, true, IfOk};
+ghost use Rattle.grid_core.specs.Cells.{Extends, is_known};
+ghost use Rattle.grid_core.specs.Lines.{IsChanged};
+ghost use Rattle.grid_core.specs.Nonogram.{line_indices};
+ghost use Rattle.grid_core.specs.steps.Axes.{line_count};
+ghost use Rattle.bit_sets.specs.Masks.{Has, IsMaskOf};
+ghost use Rattle.solve_core.specs.Closure.{with_cells};
 ghost use Rattle.grid_core.specs.PartialGrid.{IsSize};
 ghost use Rattle.grid_core.specs.declared.cells.Cell.TheVariants.{Unknown};
-ghost use Rattle.solve_core.specs.steps.Boards.{board_without_trail, grid_of_board, unknown_board, HasCapacityFor, IsBoardOf};
+ghost use Rattle.solve_core.specs.steps.Boards.{board_without_trail, cells_along, grid_of_board, unknown_board, HasCapacityFor, IsWhole};
 ghost use Rattle.solve_core.specs.steps.Branches.{cells_before};
-ghost use Rattle.solve_core.specs.steps.Propagation.{HasNoDirtyLine, HasCorrectCache};
-ghost use Rattle.solve_core.specs.steps.Worklist.{IsAtFixpoint};
 ghost use Rattle.solve_core.specs.steps.Trails.{IsTrailed, unknown_count};
 
 use crate::buffers::cleared_with_capacity;
 use crate::grid_lines::GridLines;
-use crate::learners::Learner;
-use crate::propagation::Propagator;
 use crate::trails::TrailEntry;
 use bit_sets::BitSet;
-use grid_core::{Axis, Cell, Grid, NoMemory, Puzzle};
+use grid_core::{Axis, Cell, Grid, NoMemory};
 use line_core::{BitLine, LineBits};
 use std::alloc::Global;
 use std::marker::Model;
@@ -76,7 +74,7 @@ impl<W: LineBits> BoardBuffers<W> {
 }
 
 /// A grid as rows and columns, with a trail by which assignments are undone in reverse order.
-/// `read` and `close` clear the trail. Its buffer is allocated once.
+/// Its buffers are allocated once.
 pub struct Board<W: LineBits> {
     lines: GridLines<W>,
     trail: Vec<TrailEntry<W>>,
@@ -153,6 +151,38 @@ impl<W: LineBits> Board<W> {
         &self.trail
     }
 
+    /// Returns line `i` of an axis.
+    pub fn line(&self, axis: Axis, i: u16) -> &BitLine<W>
+        requires { i < line_count axis self.now.width self.now.height }
+        ensures cells { result.now ≡ cells_along self.now axis i }
+        ensures whole { IsWhole self.now }
+    {
+        self.lines.line(axis, i)
+    }
+
+    /// Replaces line `i` of an axis by `new`, in which the cells in `changes`, at least one and all
+    /// unknown before, have a colour, and appends an entry to the trail.
+    pub fn assign_line(&mut self, axis: Axis, i: u16, new: &BitLine<W>, changes: W)
+        requires i { i < line_count axis self.old.width self.old.height }
+        requires fits { length new.now ≤ W.WIDTH }
+        requires more { Extends (cells_along self.old axis i) new.now }
+        requires changes { IsMaskOf (IsChanged (cells_along self.old axis i) new.now)
+            (W.bits changes) }
+        requires some { new.now ≢ cells_along self.old axis i }
+        ensures cells { self.new.cells ≡ with_cells self.old.cells
+            (line_indices axis self.old.width self.old.height i) new.now }
+        ensures trail { IsTrailed self.old self.new }
+    {
+        self.lines.assign_line(axis, i, new, changes);
+        // The capacity suffices: it is one entry for each cell, and each entry assigned at least
+        // one unknown cell.
+        self.trail.push_reserved(TrailEntry {
+            axis,
+            line: i,
+            changes,
+        });
+    }
+
     /// Assigns the colour `cell` to the unknown cell in column `x` and row `y`, and appends an
     /// entry to the trail.
     pub fn assign_cell(&mut self, x: u16, y: u16, cell: Cell)
@@ -208,23 +238,6 @@ impl<W: LineBits> Board<W> {
         rows
     }
 
-    /// Propagates all lines until the board reaches its closure. Returns whether it is alive.
-    /// Clears the trail, so that this can't be undone.
-    pub fn close(&mut self, propagator: &mut Propagator<W>, puzzle: &Puzzle) -> bool
-        requires cache { HasCorrectCache puzzle.now propagator.old }
-        requires size { IsBoardOf puzzle.now self.old }
-        ensures closed { if_alive result self.new.cells
-            ≡ closure (lines_of puzzle.now) self.old.cells }
-        ensures fixpoint { IsTrue result → IsAtFixpoint puzzle.now propagator.new self.new.cells }
-        ensures size { IsBoardOf puzzle.now self.new }
-        ensures clean { HasNoDirtyLine puzzle.now propagator.new }
-    {
-        // The lines are changed directly: what can't be undone needs no trail, and to record one
-        // takes more time on large puzzles.
-        self.trail.clear();
-        propagator.propagate_all(puzzle, &mut self.lines)
-    }
-
     /// Loads the cells of `grid`, which has the board's size, and clears the trail.
     pub fn load(&mut self, grid: &Grid)
         requires width { grid.now.width ≡ self.old.width }
@@ -234,29 +247,5 @@ impl<W: LineBits> Board<W> {
     {
         self.lines.load(grid);
         self.trail.clear();
-    }
-}
-
-/// Appends an entry to the trail for each line that is assigned to.
-impl<W: LineBits> Learner<W> for Board<W> {
-    ghost board = { λ b. b };
-
-    ghost KEEPS = { true };
-
-    const KEEPS: bool = true;
-
-    fn line(&self, axis: Axis, i: u16) -> &BitLine<W> {
-        self.lines.line(axis, i)
-    }
-
-    fn assign_line(&mut self, axis: Axis, i: u16, new: &BitLine<W>, changes: W) {
-        self.lines.assign_line(axis, i, new, changes);
-        // The capacity suffices: it is one entry for each cell, and each entry assigned at least
-        // one unknown cell.
-        self.trail.push_reserved(TrailEntry {
-            axis,
-            line: i,
-            changes,
-        });
     }
 }

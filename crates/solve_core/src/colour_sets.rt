@@ -1,10 +1,10 @@
 //! Sets of indices along a line, one for each colour.
 
-ghost use Rattle.std.specs.Prelude.{◌≡◌, ◌<◌, ◌≤◌, ◌⊎◌, Bool, ℕ, length, replicate, slice_index_or, vec_capacity, IfOk};
+ghost use Rattle.std.specs.Prelude.{◌≡◌, ◌<◌, ◌≤◌, ◌⊎◌, ℕ, length, replicate, slice_index_or, vec_capacity, IfOk};
 ghost use Rattle.grid_core.specs.declared.cells.Cell.{Cell as CellValue};
 ghost use Rattle.grid_core.specs.declared.cells.Cell.TheVariants.{Unknown};
-ghost use Rattle.bit_sets.specs.Masks.{Has, has, IsWithBit, IsMaskOf};
-ghost use Rattle.solve_core.specs.steps.ColourMasks.{mask_if, mask_of, no_colours};
+ghost use Rattle.bit_sets.specs.Masks.{Has, has, IsMaskOf};
+ghost use Rattle.solve_core.specs.steps.ColourMasks.{mask_of, no_colours};
 
 use crate::buffers::cleared_with_capacity;
 use bit_sets::BitSet;
@@ -58,35 +58,17 @@ impl<W: BitSet> ColourSets<W> {
         self.filled.intersection(self.blank)
     }
 
-    /// Returns the indices that are in the set of their own colour, which is filled for those in
-    /// `filled`, and blank for all others.
-    pub fn coloured(&self, filled: W) -> W
-        ensures { IsMaskOf (λ k. Has (mask_if (has (W.bits filled) k) self.now) k)
-            (W.bits result) }
-    {
-        self.filled
-            .intersection(filled)
-            .union(self.blank.difference(filled))
-    }
-
-    /// Adds the index `place` to the filled set if `filled`, and otherwise removes it from there;
-    /// and the same for the blank set and `blank`.
-    pub fn mark(&mut self, index: u16, filled: bool, blank: bool)
+    /// Adds `index` to the set of `colour`; does nothing if that is unknown.
+    pub fn add(&mut self, index: u16, colour: Cell)
         requires { index < W.WIDTH }
-        ensures filled { IsMaskOf (IsWithBit (Has self.old.filled) index filled) self.new.filled }
-        ensures blank { IsMaskOf (IsWithBit (Has self.old.blank) index blank) self.new.blank }
-    {
-        self.filled = self.filled.with_bit(index, filled);
-        self.blank = self.blank.with_bit(index, blank);
-    }
-
-    /// Adds the indices of `others`, colour by colour.
-    pub fn add(&mut self, others: &ColourSets<W>)
         ensures only { (c : CellValue) (i : ℕ) → Has (mask_of c self.new) i
-            → Has (mask_of c self.old) i ⊎ Has (mask_of c others.now) i }
+            → Has (mask_of c self.old) i ⊎ ((c ≡ colour) × (i ≡ index)) }
     {
-        self.filled = self.filled.union(others.filled);
-        self.blank = self.blank.union(others.blank);
+        match colour {
+            Cell::Unknown => {}
+            Cell::Filled => self.filled = self.filled.with_bit(index, true),
+            Cell::Blank => self.blank = self.blank.with_bit(index, true),
+        }
     }
 
     /// Adds the known cells of `line`, each to the set of its colour.

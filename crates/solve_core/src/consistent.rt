@@ -7,13 +7,11 @@ ghost use Rattle.grid_core.specs.Nonogram.{Nonogram, lines_of};
 ghost use Rattle.bit_sets.specs.Masks.{Has, IsMaskOf};
 ghost use Rattle.solve_core.specs.Closure.{round};
 ghost use Rattle.solve_core.specs.Trials.{is_refuted};
-ghost use Rattle.solve_core.specs.steps.ColourMasks.{mask_of, no_colours};
-ghost use Rattle.solve_core.specs.steps.Trails.{CanAssign};
+ghost use Rattle.solve_core.specs.steps.ColourMasks.{no_colours};
 ghost use Rattle.solve_core.specs.steps.ConsistentColours.{AreBothRecorded, AreConsistent, AreRecordedFrom, IsRecorded};
 
 use crate::colour_sets::{ColourSets, fill_with_none, with_sets};
 use crate::grid_lines::GridLines;
-use crate::learners::Learner;
 use bit_sets::next_index;
 use grid_core::{Axis, Cell, NoMemory, Puzzle};
 use line_core::LineBits;
@@ -82,24 +80,21 @@ impl<W: LineBits> ConsistentColours<W> {
         self.rows[y].in_both()
     }
 
-    /// Records `colours` as consistent in row `y`. At unknown cells they must not be refuted; at
-    /// known cells they don't matter.
-    pub fn add_row(&mut self, y: usize, colours: &ColourSets<W>)
+    /// Records `colour`, which must not be refuted there, as consistent at column `x` of row `y`.
+    pub fn add(&mut self, x: u16, y: usize, colour: Cell)
+        requires column { x < W.WIDTH }
         requires row { y < length self.old }
-        ensures consistent { (p : Nonogram) (cells : List CellValue)
-            → AreConsistent p self.old cells →
-            ((k : ℕ) (colour : CellValue) → k / p.width ≡ y
-            → Has (mask_of colour colours.now) (k % p.width) → CanAssign cells k colour
-            → is_refuted (lines_of p) cells k colour ≡ false)
-            → AreConsistent p self.new cells }
+        ensures consistent { (p : Nonogram) (cells : List CellValue) → x < p.width
+            → is_refuted (lines_of p) cells (y * p.width + x) colour ≡ false
+            → AreConsistent p self.old cells → AreConsistent p self.new cells }
         ensures rows { length self.new ≡ length self.old }
     {
-        self.rows[y].add(colours);
+        self.rows[y].add(x, colour);
     }
 
     /// Records the colours of the known cells of `rows` as consistent. `lines` has to be closed and
     /// alive: then none of its colours is refuted in any grid that knows no more than it does.
-    pub fn add(&mut self, lines: &GridLines<W>, rows: W)
+    pub fn add_rows(&mut self, lines: &GridLines<W>, rows: W)
         requires rows { (y : ℕ) → Has (W.bits rows) y → y < lines.now.height }
         requires height { lines.now.height ≡ length self.old }
         ensures consistent { (p : Nonogram) (cells : List CellValue) → lines.now.width ≡ p.width →

@@ -1,11 +1,11 @@
 //! A cache of deduced lines of a puzzle.
-ghost use Rattle.std.specs.Prelude.{[], ℕ, Some, ◌≡◌, ◌≢◌, ◌+◌, ◌*◌, ◌<◌, ◌≤◌, ◌↔◌, length, vec_capacity, IsTrue, IfOk, IfSome, All};
+ghost use Rattle.std.specs.Prelude.{[], ℕ, ◌≡◌, ◌+◌, ◌*◌, ◌<◌, ◌≤◌, length, vec_capacity, IsTrue, IfOk, IfSome, All};
 ghost use Rattle.line_core.specs.Deduction.{deduced};
+ghost use Rattle.line_core.specs.Lookahead.{AreInert};
 ghost use Rattle.line_core.specs.Support.{deduced_from};
 ghost use Rattle.solve_core.specs.steps.DeductionCache.{AreAllOrNone, IsCacheCorrect, IsInsertedInto};
 ghost use Rattle.grid_core.specs.Nonogram.{Nonogram, line_on};
-ghost use Rattle.solve_core.specs.steps.LookaheadTables.{AreTablesOf, table_on};
-ghost use Rattle.grid_core.specs.declared.axes.Axis.{Axis as AxisValue};
+ghost use Rattle.solve_core.specs.steps.LookaheadTables.{AreTablesOf};
 ghost use Rattle.grid_core.specs.steps.Axes.{line_count};
 ghost use Rattle.solve_core.specs.steps.Widths.{FitsIn};
 
@@ -272,29 +272,28 @@ impl<W: LineBits> DeductionCache<W> {
         })
     }
 
-    /// Builds the lookahead table of line `i` of an axis of `puzzle` for the cells of `line`,
-    /// unless it is there already or has no buffer. Returns whether it is there now.
-    pub fn prepare(&mut self, puzzle: &Puzzle, axis: Axis, i: u16, line: &BitLine<W>) -> bool
+    /// Returns the unknown cells of `line`, line `i` of an axis of `puzzle`, that can be filled, or,
+    /// unless `filled`, made blank, without anything else being deduced on it, by its lookahead
+    /// table; no cells if there can't be one.
+    pub fn inert_cells(
+        &mut self,
+        puzzle: &Puzzle,
+        axis: Axis,
+        i: u16,
+        line: &BitLine<W>,
+        filled: bool,
+    ) -> W
         requires i { i < line_count axis puzzle.now.width puzzle.now.height }
         requires cache { IsCacheCorrect W.WIDTH puzzle.now self.old }
+        ensures inert { AreInert (line_on axis puzzle.now i).clue line.now filled (W.bits result) }
         ensures cache { IsCacheCorrect W.WIDTH puzzle.now self.new }
-        ensures line { IsTrue result ↔ ((table_on axis i self.new.tables).line ≡ Some line.now) }
-        ensures others { (s : AxisValue) (k : ℕ) → (s ≡ axis → k ≢ i)
-            → table_on s k self.new.tables ≡ table_on s k self.old.tables }
     {
         self.lookahead
-            .write(&mut self.tables, puzzle, axis, i, line)
-    }
-
-    /// Returns the lookahead tables.
-    pub fn lookahead(&self) -> &LookaheadTables<W>
-        ensures { result.now ≡ self.now.tables }
-    {
-        &self.lookahead
+            .inert_cells(&mut self.tables, puzzle, axis, i, line, filled)
     }
 
     /// Clears all lookahead tables.
-    pub fn forget_tables(&mut self)
+    pub fn clear_tables(&mut self)
         ensures { (width : ℕ) (p : Nonogram) → IsCacheCorrect width p self.old
             → IsCacheCorrect width p self.new }
     {
@@ -338,7 +337,6 @@ impl<W: LineBits> DeductionCache<W> {
         requires cache { IsCacheCorrect W.WIDTH puzzle.now self.old }
         ensures answer { result ≡ deduced line.now (line_on axis puzzle.now i).clue }
         ensures cache { IsCacheCorrect W.WIDTH puzzle.now self.new }
-        ensures tables { self.new.tables ≡ self.old.tables }
     {
         if let Some(support) = self.support_after(axis, i, line) {
             return support.deduced_from(line.len());

@@ -12,14 +12,12 @@ ghost use Rattle.grid_core.specs.declared.limits.TheConstants.{MAX_SIDE};
 ghost use Rattle.solve_core.specs.steps.GridLines.{AreLinesOf};
 ghost use Rattle.bit_sets.specs.Masks.{Has, has, IsMaskOf};
 ghost use Rattle.solve_core.specs.Closure.{with_cells};
-ghost use Rattle.solve_core.specs.steps.Boards.{board_without_trail};
+ghost use Rattle.solve_core.specs.steps.Boards.{board_without_trail, cells_along, IsWhole};
 ghost use Rattle.solve_core.specs.steps.Trails.{IsTrailed, TrailedGrid, entry_on, undo_entry};
 ghost use Rattle.solve_core.specs.Picks.{is_known_or_outside};
 ghost use Rattle.solve_core.specs.Picks.{most_known};
 
 use crate::crossing_writes::{assign_across, write_each};
-use crate::learners::Learner;
-use crate::line_mask::LineMask;
 use crate::picks::{known_cells, most_in_row, near_known};
 use bit_sets::{BitSet, next_index, prefix};
 use grid_core::{Axis, Cell, Grid};
@@ -309,6 +307,48 @@ impl<W: LineBits> GridLines<W> {
         best
     }
 
+    /// Returns line `i` of an axis.
+    pub fn line(&self, axis: Axis, i: u16) -> &BitLine<W>
+        requires { i < line_count axis self.now.width self.now.height }
+        ensures cells { result.now ≡ cells_along (board_without_trail self.now) axis i }
+        ensures whole { IsWhole (board_without_trail self.now) }
+    {
+        match axis {
+            Axis::Rows => &self.rows[usize::from(i)],
+            Axis::Columns => &self.columns[usize::from(i)],
+        }
+    }
+
+    /// Replaces line `i` of an axis by `new`, in which the cells in `changes`, all unknown before,
+    /// have a colour. Writes them into the crossing lines too.
+    // Inlined, since a call would pass the new line in memory, and the processor would wait for its
+    // fields.
+    #[inline(always)]
+    pub fn assign_line(&mut self, axis: Axis, i: u16, new: &BitLine<W>, changes: W)
+        requires i { i < line_count axis self.old.width self.old.height }
+        requires fits { length new.now ≤ W.WIDTH }
+        requires more { Extends (cells_along (board_without_trail self.old) axis i) new.now }
+        requires changes { IsMaskOf
+            (IsChanged (cells_along (board_without_trail self.old) axis i) new.now)
+            (W.bits changes) }
+        ensures cells { self.new.cells ≡ with_cells self.old.cells
+            (line_indices axis self.old.width self.old.height i) new.now }
+        ensures width { self.new.width ≡ self.old.width }
+        ensures height { self.new.height ≡ self.old.height }
+    {
+        let place = usize::from(i);
+        match axis {
+            Axis::Rows => {
+                self.rows[place].copy_from(new);
+                assign_across(&mut self.columns, i, new, changes);
+            }
+            Axis::Columns => {
+                self.columns[place].copy_from(new);
+                assign_across(&mut self.rows, i, new, changes);
+            }
+        }
+    }
+
     /// Makes the cells in `changes` of line `i` of an axis unknown.
     pub fn unassign(&mut self, axis: Axis, i: u16, changes: W)
         requires i { i < line_count axis self.old.width self.old.height }
@@ -352,38 +392,5 @@ impl<W: LineBits> GridLines<W> {
         ensures { grid.new ≡ self.now }
     {
         grid.write_rows(&self.rows);
-    }
-}
-
-/// Keeps no trail: assignments can't be undone.
-impl<W: LineBits> Learner<W> for GridLines<W> {
-    ghost board = { board_without_trail };
-
-    ghost KEEPS = { false };
-
-    const KEEPS: bool = false;
-
-    fn line(&self, axis: Axis, i: u16) -> &BitLine<W> {
-        match axis {
-            Axis::Rows => &self.rows[usize::from(i)],
-            Axis::Columns => &self.columns[usize::from(i)],
-        }
-    }
-
-    // Inlined, since a call would pass the new line in memory, and the processor would wait for its
-    // fields.
-    #[inline(always)]
-    fn assign_line(&mut self, axis: Axis, i: u16, new: &BitLine<W>, changes: W) {
-        let place = usize::from(i);
-        match axis {
-            Axis::Rows => {
-                self.rows[place].copy_from(new);
-                assign_across(&mut self.columns, i, new, changes);
-            }
-            Axis::Columns => {
-                self.columns[place].copy_from(new);
-                assign_across(&mut self.rows, i, new, changes);
-            }
-        }
     }
 }

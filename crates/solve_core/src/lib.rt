@@ -2,7 +2,6 @@
 //! solutions, and the report on a puzzle.
 #![tactic(auto)]
 
-mod axis_tables;
 mod boards;
 mod branches;
 mod buffers;
@@ -15,7 +14,6 @@ mod findings;
 mod grid_lines;
 mod guessing;
 pub mod laws;
-mod learners;
 mod line_clues;
 mod line_grids;
 mod line_mask;

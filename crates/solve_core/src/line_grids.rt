@@ -2,12 +2,12 @@
 ghost use Rattle.std.specs.Prelude.{◌≡◌, IfOk};
 ghost use Rattle.solve_core.specs.steps.Propagation.{HasCorrectCache};
 ghost use Rattle.solve_core.specs.Report.{grid_of, line_grid, unknown_grid};
+ghost use Rattle.solve_core.specs.steps.Boards.{unknown_board};
 ghost use Rattle.solve_core.specs.steps.Widths.{FitsIn};
 
-use crate::buffers::cleared_with_capacity;
+use crate::boards::{Board, BoardBuffers};
 use crate::conflict_hints::ConflictHints;
 use crate::deduction_cache::DeductionCache;
-use crate::grid_lines::GridLines;
 use crate::propagation::Propagator;
 use crate::widths::width_for;
 use bit_sets::Bits256;
@@ -15,22 +15,22 @@ use grid_core::{Grid, NoMemory, Puzzle};
 use line_core::{LineBits, SetWidth};
 use std::alloc::Global;
 
-/// Closes the unknown grid `lines` under line deduction and writes it to `grid`, which is unknown
-/// too. Returns `grid`, or `None` if it is dead.
+/// Closes the unknown `board` under line deduction and writes it to `grid`, which is unknown too.
+/// Returns `grid`, or `None` if it is dead.
 fn closed_grid<W: LineBits>(
     propagator: &mut Propagator<W>,
     puzzle: &Puzzle,
-    lines: &mut GridLines<W>,
+    board: &mut Board<W>,
     grid: Grid,
 ) -> Option<Grid>
     requires cache { HasCorrectCache puzzle.now propagator.old }
-    requires lines { lines.old ≡ grid_of puzzle.now (unknown_grid puzzle.now) }
+    requires board { board.old ≡ unknown_board puzzle.now.width puzzle.now.height }
     requires grid { grid ≡ grid_of puzzle.now (unknown_grid puzzle.now) }
     ensures { result ≡ line_grid puzzle.now }
 {
-    if propagator.propagate_all(puzzle, lines) {
+    if propagator.propagate_all(puzzle, board) {
         let mut grid = grid;
-        lines.write(&mut grid);
+        board.lines().write(&mut grid);
         Some(grid)
     } else {
         None
@@ -46,13 +46,12 @@ fn line_grid_within<W: LineBits>(alloc: Global, puzzle: &Puzzle) -> Result<Optio
     let width = puzzle.width();
     let height = puzzle.height();
     let grid = Grid::unknown(alloc, width, height)?;
-    let rows = cleared_with_capacity(alloc, Vec::new(alloc), usize::from(height))?;
-    let columns = cleared_with_capacity(alloc, Vec::new(alloc), usize::from(width))?;
+    let buffers = BoardBuffers::new(alloc, None, width, height)?;
     // The least capacity, and no lookahead tables: both serve trials only.
     let cache = DeductionCache::with_capacity(alloc, None, 1, 0, 0)?;
     let mut propagator = Propagator::<W>::new(cache, ConflictHints::new(alloc, None, 0)?);
-    let mut lines = GridLines::unknown(rows, columns, width, height);
-    Ok(closed_grid(&mut propagator, puzzle, &mut lines, grid))
+    let mut board = Board::unknown(buffers, width, height);
+    Ok(closed_grid(&mut propagator, puzzle, &mut board, grid))
 }
 
 /// Returns the unknown grid of `puzzle` closed under line deduction; `None` if it is dead.

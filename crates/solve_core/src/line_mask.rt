@@ -1,9 +1,9 @@
 //! Sets of a grid's lines.
-ghost use Rattle.std.specs.Prelude.{◌≡◌, ◌<◌, ◌≤◌, ◌↔◌, ◌⊎◌, ℕ, IsTrue, false};
+ghost use Rattle.std.specs.Prelude.{◌≡◌, ◌<◌, ◌≤◌, ◌↔◌, ◌⊎◌, ℕ};
 ghost use Rattle.grid_core.specs.declared.axes.Axis.{Axis as AxisValue};
 ghost use Rattle.grid_core.specs.Nonogram.{crossing};
 ghost use Rattle.grid_core.specs.steps.Axes.{line_count};
-ghost use Rattle.bit_sets.specs.Masks.{Has, has, IsWithBit, IsMaskOf};
+ghost use Rattle.bit_sets.specs.Masks.{Has, IsWithBit, IsMaskOf};
 ghost use Rattle.solve_core.specs.steps.LineMasks.{mask_on, IsEmptyMask, IsInMask};
 
 use bit_sets::prefix;
@@ -83,19 +83,6 @@ impl<W: LineBits> LineMask<W> {
         }
     }
 
-    /// Removes `lines` of an axis.
-    pub fn take(&mut self, axis: Axis, lines: W)
-        ensures own { IsMaskOf
-            (λ i. Has (mask_on axis self.old) i × (has (W.bits lines) i ≡ false))
-            (mask_on axis self.new) }
-        ensures other { mask_on (crossing axis) self.new ≡ mask_on (crossing axis) self.old }
-    {
-        match axis {
-            Axis::Rows => self.rows = self.rows.difference(lines),
-            Axis::Columns => self.columns = self.columns.difference(lines),
-        }
-    }
-
     /// Returns a copy.
     pub fn copy(&self) -> LineMask<W>
         ensures { result ≡ self.now }
@@ -104,13 +91,6 @@ impl<W: LineBits> LineMask<W> {
             rows: self.rows,
             columns: self.columns,
         }
-    }
-
-    /// Reports whether the set is empty.
-    pub fn is_empty(&self) -> bool
-        ensures { IsTrue result → IsEmptyMask self.now }
-    {
-        self.rows.union(self.columns).is_empty()
     }
 
     /// Returns those lines of an axis that are in the set.

@@ -1,26 +1,18 @@
 //! The lookahead tables of a puzzle's lines.
 
-ghost use Rattle.std.specs.Prelude.{◌≡◌, ◌↔◌, ◌≢◌, ◌<◌, ◌≤◌, ℕ, Bool, None, length, slice_index_or, IfOk, IfSome, IsTrue};
-ghost use Rattle.grid_core.specs.Nonogram.{Nonogram, crossing, line_on};
-ghost use Rattle.grid_core.specs.declared.axes.Axis.{Axis as AxisValue};
-ghost use Rattle.grid_core.specs.declared.axes.Axis.TheVariants.{Rows, Columns};
-ghost use Rattle.bit_sets.specs.Masks.{Has, has};
+ghost use Rattle.std.specs.Prelude.{◌≡◌, ◌≢◌, ◌<◌, ◌≤◌, ℕ, None, length, slice_index_or, All, IfOk, IfSome};
+ghost use Rattle.grid_core.specs.Nonogram.{Nonogram, line_on};
 ghost use Rattle.grid_core.specs.steps.Axes.{line_count};
 ghost use Rattle.line_core.specs.Deduction.{deduced};
-ghost use Rattle.line_core.specs.Lookahead.{no_table};
+ghost use Rattle.line_core.specs.Lookahead.{AreInert, IsTableOf, no_table};
 ghost use Rattle.line_core.specs.Support.{deduced_from};
-ghost use Rattle.solve_core.specs.steps.ColourMasks.{mask_if};
-ghost use Rattle.solve_core.specs.steps.LookaheadTables.{AreEmpty, AreTablesOf, IsNeutralAt, table_on};
-ghost use Rattle.solve_core.specs.steps.LineMasks.{IsInMask, StayFresh};
+ghost use Rattle.solve_core.specs.steps.LookaheadTables.{AreEmpty, AreTablesOf, table_on};
 ghost use Rattle.solve_core.specs.steps.Widths.{FitsIn};
 
-use crate::axis_tables::AxisTables;
-use crate::colour_sets::ColourSets;
 use crate::line_clues::clue_of_line;
-use crate::line_mask::LineMask;
 use bit_sets::BitSet;
-use grid_core::{Axis, MAX_RUNS, NoMemory, Puzzle};
-use line_core::{BitLine, LineBits, LookaheadBuffers, Support, Tables};
+use grid_core::{Axis, Clue, MAX_RUNS, NoMemory, Puzzle};
+use line_core::{BitLine, LineBits, LookaheadBuffers, LookaheadTable, Support, Tables};
 use std::alloc::Global;
 use std::marker::Model;
 
@@ -54,11 +46,60 @@ fn with_capacity<W: LineBits>(
     LookaheadBuffers::new(alloc, max_runs)
 }
 
+/// Appends empty tables to `tables` until there are at least `count`. Fails with `NoMemory` if an
+/// allocation fails.
+#[tactic(auto, using(crate::proofs::TableSteps::one_more_empty))]
+fn with_tables<W: LineBits>(
+    alloc: Global,
+    tables: Vec<LookaheadTable<W>>,
+    count: usize,
+) -> Result<Vec<LookaheadTable<W>>, NoMemory>
+    requires { AreEmpty tables.items }
+    ensures { IfOk result (λ tables. AreEmpty tables.items) }
+{
+    let mut tables = tables;
+    for _ in tables.len()..count {
+        tables.push(LookaheadTable::new(alloc)?)?;
+    }
+    Ok(tables)
+}
+
+/// Clears each of `tables`.
+fn clear_all<W: LineBits>(tables: &mut [LookaheadTable<W>])
+    ensures { AreEmpty tables.new }
+{
+    for i in 0..tables.len() {
+        tables[i].clear();
+    }
+}
+
+/// Builds the table of line `i`, which has this clue, for the cells of `line`, unless it is there
+/// already. Does nothing if there is no table for that line.
+fn write_table<W: LineBits>(
+    tables: &mut [LookaheadTable<W>],
+    i: u16,
+    lines: &mut Tables,
+    buffers: &mut LookaheadBuffers<W>,
+    line: &BitLine<W>,
+    clue: &Clue,
+)
+    requires clue { All (λ number. number ≤ W.WIDTH) clue.now }
+    requires table { IsTableOf clue.now (slice_index_or tables.old i no_table) }
+    ensures table { IsTableOf clue.now (slice_index_or tables.new i no_table) }
+    ensures others { (k : ℕ) → k ≢ i
+        → slice_index_or tables.new k no_table ≡ slice_index_or tables.old k no_table }
+{
+    let place = usize::from(i);
+    if place < tables.len() {
+        tables[place].write(lines, buffers, line, clue);
+    }
+}
+
 /// A lookahead table for each row and each column of a puzzle, in buffers that are allocated once.
 pub struct LookaheadTables<W: LineBits> {
     buffers: LookaheadBuffers<W>,
-    rows: AxisTables<W>,
-    columns: AxisTables<W>,
+    rows: Vec<LookaheadTable<W>>,
+    columns: Vec<LookaheadTable<W>>,
     /// Whether any table may have been built for a line.
     in_use: bool,
 }
@@ -81,28 +122,35 @@ impl<W: LineBits> Model for LookaheadTables<W> {
 
     ghost Value = { LineTables };
 
-    ghost view = { λ t. record { rows = t.rows; columns = t.columns } };
+    ghost view = { λ t. record { rows = t.rows.items; columns = t.columns.items } };
 
     ghost invariant = { λ t.
-        AreEmptyIfUnused t.in_use (record { rows = t.rows; columns = t.columns }) };
+        AreEmptyIfUnused t.in_use (record { rows = t.rows.items; columns = t.columns.items }) };
 }
 
 impl<W: LineBits> LookaheadTables<W> {
     /// Returns an instance without tables. Fails with `NoMemory` if an allocation fails.
+    #[tactic(auto, using(crate::proofs::TableSteps::none_empty))]
     fn none(alloc: Global) -> Result<LookaheadTables<W>, NoMemory> {
         Ok(LookaheadTables {
             buffers: LookaheadBuffers::new(alloc, 0)?,
-            rows: AxisTables::none(alloc),
-            columns: AxisTables::none(alloc),
+            rows: Vec::new(alloc),
+            columns: Vec::new(alloc),
             in_use: false,
         })
     }
 
     /// Returns the buffers in which tables are built, the tables of the rows, and those of the
     /// columns.
-    fn into_parts(self) -> (LookaheadBuffers<W>, AxisTables<W>, AxisTables<W>)
-        ensures rows { result.1 ≡ self.rows }
-        ensures columns { result.2 ≡ self.columns }
+    fn into_parts(
+        self,
+    ) -> (
+        LookaheadBuffers<W>,
+        Vec<LookaheadTable<W>>,
+        Vec<LookaheadTable<W>>,
+    )
+        ensures rows { result.1.items ≡ self.rows }
+        ensures columns { result.2.items ≡ self.columns }
     {
         let LookaheadTables {
             buffers,
@@ -124,14 +172,14 @@ impl<W: LineBits> LookaheadTables<W> {
         ensures columns { AreEmpty self.new.columns }
     {
         if self.in_use {
-            self.rows.clear();
-            self.columns.clear();
+            clear_all(&mut self.rows);
+            clear_all(&mut self.columns);
             self.in_use = false;
         }
     }
 
     /// Allocates the tables of a puzzle of `width` columns and `height` rows, reusing those of
-    /// `others` if given. None of them is built for a line yet. Fails with `NoMemory` if an
+    /// `previous` if given. None of them is built for a line yet. Fails with `NoMemory` if an
     /// allocation fails.
     #[tactic(auto, using(crate::proofs::TableSteps::empty_tables))]
     pub fn new(
@@ -153,35 +201,66 @@ impl<W: LineBits> LookaheadTables<W> {
         let max_runs = across.max(down).div_ceil(2);
         Ok(LookaheadTables {
             buffers: with_capacity(alloc, buffers, max_runs.min(MAX_RUNS))?,
-            rows: rows.with_capacity(alloc, down, across)?,
-            columns: columns.with_capacity(alloc, across, down)?,
+            rows: with_tables(alloc, rows, down)?,
+            columns: with_tables(alloc, columns, across)?,
             in_use: false,
         })
     }
 
     /// Builds the table of line `i` of an axis of `puzzle` for the cells of `line`, unless it is
-    /// there already or has no buffer. Returns whether it is there now.
-    pub fn write(
+    /// there already or has no buffer.
+    fn ensure(&mut self, lines: &mut Tables, puzzle: &Puzzle, axis: Axis, i: u16, line: &BitLine<W>)
+        requires i { i < line_count axis puzzle.now.width puzzle.now.height }
+        requires fits { FitsIn W.WIDTH puzzle.now }
+        requires tables { AreTablesOf puzzle.now self.old }
+        ensures tables { AreTablesOf puzzle.now self.new }
+    {
+        self.in_use = true;
+        let clue = clue_of_line(puzzle, axis, i);
+        match axis {
+            Axis::Rows => write_table(&mut self.rows, i, lines, &mut self.buffers, line, clue),
+            Axis::Columns => {
+                write_table(&mut self.columns, i, lines, &mut self.buffers, line, clue)
+            }
+        }
+    }
+
+    /// Returns the tables of the lines of an axis.
+    fn on(&self, axis: Axis) -> &[LookaheadTable<W>]
+        ensures { (i : ℕ) → slice_index_or result.now i no_table ≡ table_on axis i self.now }
+    {
+        match axis {
+            Axis::Rows => &self.rows,
+            Axis::Columns => &self.columns,
+        }
+    }
+
+    /// Returns the unknown cells of `line` that can be filled, or, unless `filled`, made blank,
+    /// without anything else being deduced on it, by its table, which is built if it is missing. No
+    /// cells if there is no buffer for that table. The line is line `i` of an axis of `puzzle`.
+    pub fn inert_cells(
         &mut self,
         lines: &mut Tables,
         puzzle: &Puzzle,
         axis: Axis,
         i: u16,
         line: &BitLine<W>,
-    ) -> bool
+        filled: bool,
+    ) -> W
         requires i { i < line_count axis puzzle.now.width puzzle.now.height }
         requires fits { FitsIn W.WIDTH puzzle.now }
         requires tables { AreTablesOf puzzle.now self.old }
+        ensures inert { AreInert (line_on axis puzzle.now i).clue line.now filled (W.bits result) }
         ensures tables { AreTablesOf puzzle.now self.new }
-        ensures line { IsTrue result ↔ ((table_on axis i self.new).line ≡ Some line.now) }
-        ensures others { (s : AxisValue) (k : ℕ) → (s ≡ axis → k ≢ i)
-            → table_on s k self.new ≡ table_on s k self.old }
     {
-        self.in_use = true;
-        let clue = clue_of_line(puzzle, axis, i);
-        match axis {
-            Axis::Rows => self.rows.write(i, lines, &mut self.buffers, line, clue),
-            Axis::Columns => self.columns.write(i, lines, &mut self.buffers, line, clue),
+        self.ensure(lines, puzzle, axis, i, line);
+        let Some(table) = self.on(axis).get(usize::from(i)) else {
+            return W::empty();
+        };
+        if table.is_of(line) {
+            table.inert_cells(filled)
+        } else {
+            W::empty()
         }
     }
 
@@ -192,76 +271,6 @@ impl<W: LineBits> LookaheadTables<W> {
             → deduced_from (length line.now) support.now.fillable support.now.blankable
             ≡ deduced line.now (line_on axis p i).clue) }
     {
-        self.on(axis).table(i)?.support_after(line)
-    }
-
-    /// Returns the tables of the lines of an axis.
-    fn on(&self, axis: Axis) -> &AxisTables<W>
-        ensures { (i : ℕ) → slice_index_or result.now i no_table ≡ table_on axis i self.now }
-    {
-        match axis {
-            Axis::Rows => &self.rows,
-            Axis::Columns => &self.columns,
-        }
-    }
-
-    /// Returns, for each colour, the cells of row `y` in one of `columns` at which the colour is
-    /// inert both on the row and on the column, by their tables. Each of `columns` has to have a
-    /// table built for a line.
-    pub fn neutral_in_row(&self, y: u16, columns: W) -> ColourSets<W>
-        requires { (k : ℕ) → Has (W.bits columns) k → (table_on Columns k self.now).line ≢ None }
-        ensures { (k : ℕ) (filled : Bool) → Has (mask_if filled result) k →
-            Has (W.bits columns) k
-            × IsNeutralAt self.now Rows y k filled
-            × IsNeutralAt self.now Columns k y filled }
-    {
-        let Some(table) = self.rows.table(y) else {
-            return ColourSets::none();
-        };
-        let Some(across) = self.columns.neutral_at(y) else {
-            return ColourSets::none();
-        };
-        ColourSets {
-            filled: table
-                .inert_cells(true)
-                .intersection(across.filled)
-                .intersection(columns),
-            blank: table
-                .inert_cells(false)
-                .intersection(across.blank)
-                .intersection(columns),
-        }
-    }
-
-    /// Returns the cells in `changes` of line `i` of an axis whose crossing lines have to be
-    /// propagated again: all but those at which the crossing line has a valid table by which the
-    /// new colour is inert. `filled` are the filled cells of the line. Invalidates the tables of
-    /// the line and of the lines that its changes cross.
-    #[inline(always)]
-    pub fn changes_to_propagate(
-        &self,
-        axis: Axis,
-        i: u16,
-        filled: W,
-        changes: W,
-        fresh: &mut LineMask<W>,
-    ) -> W
-        requires i { i < W.WIDTH }
-        requires fresh { (k : ℕ) → IsInMask fresh.old (crossing axis) k
-            → (table_on (crossing axis) k self.now).line ≢ None }
-        ensures within { (k : ℕ) → Has (W.bits result) k → Has (W.bits changes) k }
-        ensures others { (k : ℕ) → Has (W.bits changes) k → (Has (W.bits result) k → ⊥) →
-            IsInMask fresh.old (crossing axis) k
-            × IsNeutralAt self.now (crossing axis) k i (has (W.bits filled) k) }
-        ensures fresh { StayFresh axis i (Has (W.bits changes)) fresh.old fresh.new }
-    {
-        let across = fresh.on(axis.crossing());
-        let to_propagate = match self.on(axis.crossing()).neutral_at(i) {
-            None => changes,
-            Some(neutral) => changes.difference(neutral.coloured(filled).intersection(across)),
-        };
-        fresh.set(axis, i, false);
-        fresh.take(axis.crossing(), changes);
-        to_propagate
+        self.on(axis).get(usize::from(i))?.support_after(line)
     }
 }

@@ -92,7 +92,7 @@ fn findings<W: LineBits>(
     requires capacity { length board.old.cells ≤ vec_capacity branches.old }
     ensures { result ≡ findings_of pick puzzle.now guesses }
 {
-    if !board.close(&mut trials.propagator, puzzle) {
+    if !trials.close_lines(puzzle, board) {
         return Findings {
             verdict: Verdict::Nothing,
             grade: Grade::Lines,

@@ -113,8 +113,6 @@ fn guess_and_propagate<W: LineBits>(
     ensures found { length solutions.new.grids ≤ 2 }
     ensures size { IsSizeOf puzzle.now solutions.new.width solutions.new.height }
 {
-    // The board may have been undone since, so no lookahead table is known to be valid.
-    propagator.forget_fresh();
     if !propagator.guess(puzzle, board, place, colour) {
         return None;
     }

@@ -1,11 +1,11 @@
 //! Trials of single cells, in one colour at a time.
-ghost use Rattle.std.specs.Prelude.{◌≡◌, ◌≢◌, ℕ, ◌+◌, ◌*◌, ◌<◌, ◌≤◌, Some, length, slice_set, slice_index_or, IsTrue, IfOk};
+ghost use Rattle.std.specs.Prelude.{◌≡◌, ◌≢◌, false, ℕ, ◌+◌, ◌*◌, ◌<◌, ◌≤◌, Some, length, slice_set, slice_index_or, IsTrue, IfOk};
 ghost use Rattle.grid_core.specs.declared.cells.Cell.TheVariants.{Unknown};
 ghost use Rattle.grid_core.specs.Nonogram.{lines_of};
 ghost use Rattle.line_core.specs.Order.{AtMost};
 ghost use Rattle.solve_core.specs.Trials.{is_refuted, trials, HasNoRefutedColour};
 ghost use Rattle.solve_core.specs.steps.Worklist.{StepsTowards, IsAtFixpoint};
-ghost use Rattle.solve_core.specs.Closure.{if_alive};
+ghost use Rattle.solve_core.specs.Closure.{closure, if_alive};
 ghost use Rattle.solve_core.specs.steps.Trails.{CanAssign};
 ghost use Rattle.solve_core.specs.steps.TrialState.{HasRoomFor, IsReadyForTrial};
 ghost use Rattle.solve_core.specs.steps.Widths.{FitsIn};
@@ -25,7 +25,13 @@ use std::marker::Model;
 pub struct Trials<W: LineBits> {
     pub(crate) propagator: Propagator<W>,
     consistent: ConsistentColours<W>,
+    /// How many trials in succession ended alive, counted up to 255.
+    live_streak: u8,
 }
+
+/// How many trials in succession have to end alive before lookahead tables are built and asked.
+/// While colours are being refuted, lines change too often for tables to pay.
+const TABLES_AFTER: u8 = 16;
 
 /// Written by hand so that callers' proofs see one call: a derived drop is expanded at each exit of
 /// each caller.
@@ -34,6 +40,7 @@ impl<W: LineBits> Drop for Trials<W> {
         let Trials {
             propagator: _,
             consistent: _,
+            live_streak: _,
         } = self;
     }
 }
@@ -53,12 +60,13 @@ impl<W: LineBits> Trials<W> {
         let Trials {
             propagator,
             consistent,
+            live_streak: _,
         } = self;
         (propagator, consistent)
     }
 
     /// Allocates the buffers that propagation and trials need for `puzzle`, reusing those of
-    /// `others` if given. Fails with `NoMemory` if an allocation fails.
+    /// `previous` if given. Fails with `NoMemory` if an allocation fails.
     pub fn new(
         alloc: Global,
         previous: Option<Trials<W>>,
@@ -77,6 +85,7 @@ impl<W: LineBits> Trials<W> {
         Ok(Trials {
             propagator: Propagator::for_puzzle(alloc, propagator, puzzle)?,
             consistent: ConsistentColours::new(alloc, consistent, puzzle)?,
+            live_streak: 0,
         })
     }
 
@@ -113,6 +122,30 @@ impl<W: LineBits> Trials<W> {
         Effect::Changed
     }
 
+    /// Reports whether `colour` is seen to be consistent at the unknown cell with index `place`
+    /// without a trial, since the cell's row and column deduce nothing else from it. Records it
+    /// then.
+    fn look(&mut self, puzzle: &Puzzle, board: &Board<W>, place: usize, colour: Cell) -> bool
+        requires ready { IsReadyForTrial puzzle.now self.old board.now.cells }
+        requires room { HasRoomFor puzzle.now self.old }
+        requires size { IsBoardOf puzzle.now board.now }
+        requires cell { CanAssign board.now.cells place colour }
+        ensures consistent { IsTrue result
+            → is_refuted (lines_of puzzle.now) board.now.cells place colour ≡ false }
+        ensures ready { IsReadyForTrial puzzle.now self.new board.now.cells }
+        ensures room { HasRoomFor puzzle.now self.new }
+    {
+        if self.live_streak < TABLES_AFTER
+            || !self.propagator.is_inert(puzzle, board, place, colour)
+        {
+            return false;
+        }
+        let width = usize::from(puzzle.width());
+        self.consistent
+            .add((place % width) as u16, place / width, colour);
+        true
+    }
+
     /// Runs a trial on the board itself, and undoes it. Returns whether `colour` is refuted at the
     /// unknown cell with index `place`. If it isn't, records all colours that the trial assigned as
     /// consistent.
@@ -135,34 +168,20 @@ impl<W: LineBits> Trials<W> {
         let checkpoint = board.trail().len();
         let alive = self
             .propagator
-            .assign_for_trial(puzzle, board, place, colour);
+            .assign_and_propagate(puzzle, board, place, colour);
         if alive {
+            self.live_streak = self.live_streak.saturating_add(1);
             self.consistent
-                .add(board.lines(), board.rows_touched_since(checkpoint));
+                .add_rows(board.lines(), board.rows_touched_since(checkpoint));
+        } else {
+            self.live_streak = 0;
         }
         board.undo_to(checkpoint);
         !alive
     }
 
-    /// Records as consistent the colours that are inert at cells of row `y`, as far as valid
-    /// lookahead tables of the row and of columns show. Builds the tables of row `y` and column `x`
-    /// if they are missing and 16 trials in succession have ended alive.
-    fn open_neutral(&mut self, puzzle: &Puzzle, board: &Board<W>, x: u16, y: u16)
-        requires ready { IsReadyForTrial puzzle.now self.old board.now.cells }
-        requires room { HasRoomFor puzzle.now self.old }
-        requires size { IsBoardOf puzzle.now board.now }
-        requires x { x < puzzle.now.width }
-        requires y { y < puzzle.now.height }
-        ensures ready { IsReadyForTrial puzzle.now self.new board.now.cells }
-        ensures room { HasRoomFor puzzle.now self.new }
-    {
-        let neutral = self.propagator.neutral_in_row(puzzle, board, x, y);
-        self.consistent.add_row(usize::from(y), &neutral);
-    }
-
     /// Reports whether `colour` is refuted at the unknown cell with index `place`. Runs no trial if
-    /// the colour is recorded as consistent, or if lookahead tables show that it is inert on the
-    /// cell's row and column.
+    /// the colour is recorded as consistent, or inert on the cell's row and column.
     fn is_refuted(
         &mut self,
         puzzle: &Puzzle,
@@ -184,11 +203,7 @@ impl<W: LineBits> Trials<W> {
         if self.consistent.contains(x, y, colour) {
             return false;
         }
-        self.open_neutral(puzzle, board, x, y as u16);
-        if self.consistent.contains(x, y, colour) {
-            return false;
-        }
-        self.run_trial(puzzle, board, place, colour)
+        !self.look(puzzle, board, place, colour) && self.run_trial(puzzle, board, place, colour)
     }
 
     /// Tries both colours at an unknown cell. If one is refuted, assigns the other one and
@@ -286,12 +301,27 @@ impl<W: LineBits> Trials<W> {
         ensures size { IsBoardOf puzzle.now board.new }
         ensures room { HasRoomFor puzzle.now self.new }
     {
-        // What is recorded as consistent or valid may be of other cells.
+        // What is recorded as consistent may be of other cells.
         self.consistent.clear();
-        self.propagator.forget_fresh();
+        self.propagator.enable_cache();
         let alive = self.try_to_fixpoint(puzzle, board);
-        self.propagator.forget_tables();
+        // The search would ask them for each line, and seldom get an answer.
+        self.propagator.clear_tables();
         alive
+    }
+
+    /// Closes a board under line deduction. Returns whether it is alive.
+    pub fn close_lines(&mut self, puzzle: &Puzzle, board: &mut Board<W>) -> bool
+        requires room { HasRoomFor puzzle.now self.old }
+        requires size { IsBoardOf puzzle.now board.old }
+        ensures closed { if_alive result board.new.cells
+            ≡ closure (lines_of puzzle.now) board.old.cells }
+        ensures fixpoint { IsTrue result
+            → IsAtFixpoint puzzle.now self.new.propagator board.new.cells }
+        ensures size { IsBoardOf puzzle.now board.new }
+        ensures room { HasRoomFor puzzle.now self.new }
+    {
+        self.propagator.propagate_all(puzzle, board)
     }
 
     /// Closes a board under line deduction and then under trials. Returns whether it is alive.
@@ -305,7 +335,7 @@ impl<W: LineBits> Trials<W> {
         ensures size { IsBoardOf puzzle.now board.new }
         ensures room { HasRoomFor puzzle.now self.new }
     {
-        if !board.close(&mut self.propagator, puzzle) {
+        if !self.close_lines(puzzle, board) {
             return false;
         }
         self.close_from_fixpoint(puzzle, board)

@@ -61,8 +61,7 @@ impl<'p, W: LineBits> Workspace<'p, W> {
         ensures puzzle { self.new ≡ self.old }
     {
         self.board.load(grid);
-        let trials = &mut self.trials;
-        let alive = self.board.close(&mut trials.propagator, self.puzzle);
+        let alive = self.trials.close_lines(self.puzzle, &mut self.board);
         self.board.lines().write(grid);
         alive
     }

@@ -1,5 +1,5 @@
 -- A set of indices for each colour.
-use Rattle.std.specs.Prelude.{ℕ, Bool, true, false}
+use Rattle.std.specs.Prelude.{ℕ}
 use Rattle.grid_core.specs.declared.cells.Cell.{Cell}
 use Rattle.grid_core.specs.declared.cells.Cell.TheVariants.{Unknown, Filled, Blank}
 
@@ -11,11 +11,6 @@ pub record ColourMasks : Type 0 where
 -- no index for either colour
 abbrev pub no_colours : ColourMasks
 no_colours = record { filled = 0; blank = 0 }
-
--- the indices for filled if the flag is true, and otherwise those for blank
-abbrev pub mask_if : Bool → ColourMasks → ℕ
-mask_if true masks = masks.filled
-mask_if false masks = masks.blank
 
 -- the indices for a colour; none for unknown
 abbrev pub mask_of : Cell → ColourMasks → ℕ

@@ -1,8 +1,7 @@
 -- Line masks: sets of a grid's lines.
-use Rattle.std.specs.Prelude.{◌≢◌, ◌<◌, ℕ}
+use Rattle.std.specs.Prelude.{◌<◌, ℕ}
 use Rattle.grid_core.specs.declared.axes.Axis.{Axis}
 use Rattle.grid_core.specs.declared.axes.Axis.TheVariants.{Rows, Columns}
-use Rattle.grid_core.specs.Nonogram.{crossing}
 use Rattle.grid_core.specs.steps.Axes.{line_count}
 use Rattle.bit_sets.specs.Masks.{Has}
 
@@ -19,14 +18,6 @@ mask_on Columns mask = mask.columns
 -- line `i` of an axis is in the set
 abbrev pub IsInMask : LineMasks → Axis → ℕ → Type 0
 IsInMask mask axis i = Has (mask_on axis mask) i
-
--- Of the lines `before`, only those are in `after` that an assignment to line `i` of an axis
--- doesn't change: neither line `i` nor a line that crosses it at a `changed` cell.
-pub record StayFresh (axis : Axis) (i : ℕ) (changed : ℕ → Type 0) (before after : LineMasks)
-    : Type 0 where
-  pub own : (k : ℕ) → IsInMask after axis k → IsInMask before axis k × (k ≢ i)
-  pub across : (k : ℕ) → IsInMask after (crossing axis) k →
-      IsInMask before (crossing axis) k × (changed k → ⊥)
 
 -- the set has no line of this axis
 abbrev pub IsEmptyOn : LineMasks → Axis → Type 0

@@ -1,11 +1,9 @@
 -- Lookahead tables of a puzzle's lines: the support of a line after one more cell is assigned.
-use Rattle.std.specs.Prelude.{◌≡◌, ◌≢◌, ℕ, ◌≤◌, Bool, false, List, length, None, slice_index_or}
+use Rattle.std.specs.Prelude.{◌≡◌, ℕ, Bool, false, List, None, slice_index_or}
 use Rattle.grid_core.specs.declared.axes.Axis.{Axis}
 use Rattle.grid_core.specs.declared.axes.Axis.TheVariants.{Rows, Columns}
 use Rattle.grid_core.specs.Nonogram.{Nonogram, line_on}
-use Rattle.line_core.specs.Lookahead.{Table, IsTableOf, inert_if, no_table}
-use Rattle.bit_sets.specs.Masks.{Has}
-use Rattle.solve_core.specs.steps.ColourMasks.{ColourMasks, mask_if, no_colours}
+use Rattle.line_core.specs.Lookahead.{Table, IsTableOf, no_table}
 
 -- the lookahead tables of the rows and those of the columns
 pub record LineTables : Type 0 where
@@ -21,11 +19,6 @@ table_on Columns i tables = slice_index_or tables.columns i no_table
 pub record AreTablesOf (p : Nonogram) (tables : LineTables) : Type 0 where
   pub each : (axis : Axis) (i : ℕ) → IsTableOf (line_on axis p i).clue (table_on axis i tables)
 
--- by the table of line `i` of an axis, filled (or blank, if `filled` is false) is inert at index
--- `cell`
-abbrev pub IsNeutralAt : LineTables → Axis → ℕ → ℕ → Bool → Type 0
-IsNeutralAt tables axis i cell filled = Has (inert_if filled (table_on axis i tables)) cell
-
 -- no table has a line
 pub record AreEmpty (tables : List Table) : Type 0 where
   pub each : (i : ℕ) → (slice_index_or tables i no_table).line ≡ None
@@ -34,12 +27,3 @@ pub record AreEmpty (tables : List Table) : Type 0 where
 abbrev pub AreEmptyIfUnused : Bool → LineTables → Type 0
 AreEmptyIfUnused in_use tables =
     in_use ≡ false → AreEmpty tables.rows × AreEmpty tables.columns
-
--- For each line `j` that crosses the lines of `tables`, `sets` has only lines `k` on which the
--- colour is inert at index `j`, as far as the tables of these have a line. There are at most
--- `width` sets.
-pub record AreNeutralOf (width : ℕ) (tables : List Table) (sets : List ColourMasks) : Type 0 where
-  pub few : length sets ≤ width
-  pub neutral : (j k : ℕ) (filled : Bool) → (slice_index_or tables k no_table).line ≢ None →
-      Has (mask_if filled (slice_index_or sets j no_colours)) k →
-      Has (inert_if filled (slice_index_or tables k no_table)) j

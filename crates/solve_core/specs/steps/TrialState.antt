@@ -3,7 +3,7 @@ use Rattle.std.specs.Prelude.{◌≡◌, ℕ, List, length}
 use Rattle.grid_core.specs.declared.cells.Cell.{Cell}
 use Rattle.grid_core.specs.Nonogram.{Nonogram}
 use Rattle.solve_core.specs.steps.Worklist.{IsAtFixpoint}
-use Rattle.solve_core.specs.steps.Propagation.{AreFresh, PropagatorState, HasCorrectCache}
+use Rattle.solve_core.specs.steps.Propagation.{PropagatorState, HasCorrectCache}
 use Rattle.solve_core.specs.steps.ColourMasks.{ColourMasks}
 use Rattle.solve_core.specs.steps.ConsistentColours.{AreConsistent}
 use Rattle.solve_core.specs.steps.Widths.{FitsIn}
@@ -22,9 +22,7 @@ pub record HasRoomFor (p : Nonogram) (t : TrialState) : Type 0 where
   pub cache : HasCorrectCache p t.propagator
   pub rows : length t.consistent ≡ p.height
 
--- what a trial of these cells needs: they are at a fixpoint, the tables are valid, and the recorded
--- colours aren't refuted
+-- what a trial of these cells needs: they are at a fixpoint, and the recorded colours aren't refuted
 pub record IsReadyForTrial (p : Nonogram) (t : TrialState) (cells : List Cell) : Type 0 where
   pub fixpoint : IsAtFixpoint p t.propagator cells
-  pub fresh : AreFresh p t.propagator.fresh t.propagator.cache.tables cells
   pub consistent : AreConsistent p t.consistent cells

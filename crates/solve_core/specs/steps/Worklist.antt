@@ -9,7 +9,7 @@ use Rattle.line_core.specs.Deduction.{deduced}
 use Rattle.solve_core.specs.Closure.{with_cells}
 use Rattle.solve_core.specs.steps.LineMasks.{LineMasks, mask_on, IsInMask, IsMaskWithin}
 use Rattle.solve_core.specs.steps.Trails.{unknown_count}
-use Rattle.solve_core.specs.steps.Propagation.{AreFresh, PropagatorState, HasNoDirtyLine, HasCorrectCache}
+use Rattle.solve_core.specs.steps.Propagation.{PropagatorState, HasNoDirtyLine, HasCorrectCache}
 use Rattle.solve_core.specs.declared.propagation.Effect.{Effect}
 use Rattle.solve_core.specs.declared.propagation.Effect.TheVariants.{Dead, Unchanged, Changed}
 
@@ -34,8 +34,7 @@ IsPropagated Changed line old new = IsWritten line old new × (unknown_count new
 
 -- After cells were assigned on line `i` of an axis, the worklist `before` became `after`. On the
 -- line's own axis it is unchanged. On the crossing axis no line was removed, only lines of the
--- puzzle were added, and a line that isn't on it has its old cell there or deduces just its own
--- cells.
+-- puzzle were added, and a line that isn't on it has its old cell there.
 pub record AddsToWorklist
     (p : Nonogram) (axis : Axis) (i : ℕ) (old new : List Cell) (before after : LineMasks)
     : Type 0 where
@@ -46,9 +45,8 @@ pub record AddsToWorklist
       IsInMask before (crossing axis) k ⊎ (k < line_count (crossing axis) p.width p.height)
   pub same : (k : ℕ) → k < line_count (crossing axis) p.width p.height
       → (IsInMask after (crossing axis) k → ⊥)
-      → (slice_index_or new (cell_index_on axis p.width i k) Unknown
-      ≡ slice_index_or old (cell_index_on axis p.width i k) Unknown)
-      ⊎ IsDeduced new (line_on (crossing axis) p k)
+      → slice_index_or new (cell_index_on axis p.width i k) Unknown
+      ≡ slice_index_or old (cell_index_on axis p.width i k) Unknown
 
 -- `dirty` is a worklist for the cells: it has only lines of the puzzle, and each line that isn't on
 -- it deduces just its own cells
@@ -65,18 +63,15 @@ WorklistAfter Dead p dirty cells = Unit {0}
 WorklistAfter Unchanged p dirty cells = IsWorklist p dirty cells
 WorklistAfter Changed p dirty cells = IsWorklist p dirty cells
 
--- what propagation needs: a worklist for the cells, valid tables, and a correct cache for the
--- puzzle
+-- what propagation needs: a worklist for the cells, and a correct cache for the puzzle
 pub record CanPropagate (p : Nonogram) (c : PropagatorState) (cells : List Cell) : Type 0 where
   pub worklist : IsWorklist p c.dirty cells
-  pub fresh : AreFresh p c.fresh c.cache.tables cells
   pub cache : HasCorrectCache p c
 
--- what a step leaves: valid tables and a correct cache, and a worklist unless the cells are dead
+-- what a step leaves: a correct cache, and a worklist unless the cells are dead
 pub record LeavesPropagatable (r : Effect) (p : Nonogram) (c : PropagatorState) (cells : List Cell)
     : Type 0 where
   pub worklist : WorklistAfter r p c.dirty cells
-  pub fresh : AreFresh p c.fresh c.cache.tables cells
   pub cache : HasCorrectCache p c
 
 -- the effect of a step towards `f` (the closure, or trials) of the cells: `f` of them is dead, they

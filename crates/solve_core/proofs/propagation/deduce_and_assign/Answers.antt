@@ -1,10 +1,9 @@
--- `deduce_and_assign`: the deduced line is written, and the crossing lines that may deduce more are added to the worklist.
-use Rattle.solve_core.proofs.Names.{AreFresh, bit_at, cases_eq, is_filled, true≢false, ◌≡◌, ◌∙◌, ◌*◌, ◌<◌, ◌⊎◌, inl, inr, ℕ, sym, arith, ap, subst, length, get_or, refl, List, Cell, Unknown, Axis, Nonogram, cells_at, crossing, line_on, line_count, cell_index_on, IsSize, Has, IsMaskOf, deduced, IsChanged, same_cells, same_without_change, length-cells_at, get_or-cells_at, length-line_indices, get_or-line_indices, deduced-above, length-deduced, mask_on, IsWritten, rules}
+-- `deduce_and_assign`: the deduced line is written, and the lines that cross it at a change are added to the worklist.
+use Rattle.solve_core.proofs.Names.{true≢false, ◌≡◌, ◌∙◌, ◌*◌, ◌<◌, ◌⊎◌, inl, inr, ℕ, sym, arith, ap, subst, length, get_or, refl, List, Cell, Unknown, Axis, Nonogram, cells_at, crossing, line_on, line_count, cell_index_on, IsSize, Has, IsMaskOf, deduced, IsChanged, same_cells, same_without_change, length-cells_at, get_or-cells_at, length-line_indices, get_or-line_indices, deduced-above, length-deduced, mask_on, IsWritten, rules}
 use Rattle.solve_core.proofs.ClosureLaws.{length-with_cells}
 use Rattle.solve_core.proofs.GridSteps.{seen}
-use Rattle.solve_core.proofs.AssignedLines.{AssignsLine, change_in, neutral_settled, stay_fresh}
+use Rattle.solve_core.proofs.AssignedLines.{AssignsLine, change_in}
 use Rattle.solve_core.proofs.LineSteps.{written-fewer, written-read}
-use Rattle.solve_core.proofs.NeutralCells.{fresh_has_table}
 use Rattle.solve_core.proofs.AxisLines.{below_indices, crossing_twice, distinct_indices}
 use Rattle.solve_core.proofs.propagation.deduce_and_assign.Goals as goal
 
@@ -45,26 +44,18 @@ unchanged p old new certain axis i k m positive l size w e changes lk n =
     (λ d. n (changes.from k (omega (arith, here, length-cells_at Unknown old indices), d))) ∙
     get_or-cells_at Unknown old indices k here ∙ ap (λ (q : ℕ). get_or old q Unknown) at
 
-pub changes_to_propagate-to_propagate-requires-clause-changes : goal.changes_to_propagate-to_propagate-requires-clause-changes
-changes_to_propagate-to_propagate-requires-clause-changes g c =
-    λ k h. search (rules, (c.diff-changes.ensures.changes.to k h).0, length-deduced)
-
-pub changes_to_propagate-to_propagate-requires-clause-fresh : goal.changes_to_propagate-to_propagate-requires-clause-fresh
-changes_to_propagate-to_propagate-requires-clause-fresh g c = rw c.deduce.ensures.tables (fresh_has_table _ _ _ _ c.requires.fresh _)
-
 pub returns : goal.returns
 returns g c =
     let p = c.args.puzzle.now in
-    let b = g.B.Learner.board c.args.board.now in
+    let b = c.args.board.now in
     let axis = c.args.axis in
     let i = c.args.i in
     let line = line_on axis p i in
     let m = g.W.BitSet.bits c.diff-changes.result in
     let certain = c.in-Some.new in
-    let new = (g.B.Learner.board c.assign_line.new.self).cells in
+    let new = c.assign_line.new.self.cells in
     let before = c.args.dirty.now in
     let after = c.add.new.self in
-    let tables = c.deduce.new.self.tables in
     let read = c.line-old.ensures.cells ∙ seen p b axis i c.requires.board in
     let given = sym c.deduce.ensures.answer ∙ c.in-Some.is in
     let w : IsWritten line b.cells new = record {
@@ -76,9 +67,7 @@ returns g c =
     let same = same_without_change c.line-old.result.now certain m
     (length-deduced c.line-old.result.now certain line.clue (sym c.in-Some.is ∙ c.deduce.ensures.answer))
     c.diff-changes.ensures.changes in
-    let left = c.changes_to_propagate-to_propagate.ensures in
-    let marked = g.W.BitSet.bits c.changes_to_propagate-to_propagate.result in
-    let added = subst (λ (s : Axis). IsMaskOf (λ k. Has (mask_on s before) k ⊎ Has marked k) (mask_on s after)) c.crossing.ensures
+    let added = subst (λ (s : Axis). IsMaskOf (λ k. Has (mask_on s before) k ⊎ Has m k) (mask_on s after)) c.crossing.ensures
     c.add.ensures.own in
     let is : AssignsLine axis p.width p.height i m b.cells certain = record {
       some = omega (arith, size.width_from);
@@ -87,7 +76,6 @@ returns g c =
       more = rw w.is_certain at (deduced-above (cells_at Unknown b.cells line.indices) line.clue);
       changes = subst (λ (r : List Cell). IsMaskOf (IsChanged r certain) m) read c.diff-changes.ensures.changes;
     } in
-    let fresh : AreFresh p c.args.fresh.now tables b.cells = rw c.deduce.ensures.tables c.requires.fresh in
     record {
       assigned = (
         w,
@@ -98,21 +86,12 @@ returns g c =
       worklist = record {
         own = search (rules, crossing_twice);
         kept = λ k h. added.from k (inl h);
-        crossing_it = λ k h. elim (added.to k h) [ inl old ↦ inl old | inr cell ↦ inr (change_in _ _ _ _ _ _ _ is k (left.within k cell)) ];
-        same = λ k l n. elim (cases_eq (bit_at m k) 1) [
-          | inl has ↦
-              let none = left.others k has (λ h. n (added.from k (inr h))) in
-              let table = c.deduce.ensures.cache.tables_are.each (crossing axis) k in
-              inr (rw w.written (neutral_settled _ _ _ _ _ _ _ is _ k _ has (table.inert _ (is_filled (get_or certain k Unknown))
-              (fresh.table_is (crossing axis) k none.0)) none.1))
-          | inr none ↦ inl (unchanged p b.cells new certain axis i k m (omega (arith, size.width_from)) c.requires.i c.requires.board.2
-              w refl is.changes l none)
-        ];
+        crossing_it = λ k h. elim (added.to k h) [ inl old ↦ inl old | inr cell ↦ inr (change_in _ _ _ _ _ _ _ is k cell) ];
+        same = λ k l n. unchanged p b.cells new certain axis i k m (omega (arith, size.width_from)) c.requires.i c.requires.board.2
+            w refl is.changes l (λ h. n (added.from k (inr h)));
       };
       same = search rules;
       trail = search rules;
       size = search (rules, length-with_cells);
       cache = search rules;
-      fresh = rw w.written (stay_fresh _ _ _ _ _ _ _ is p _ _ tables refl refl fresh left.fresh);
-      tables = c.deduce.ensures.tables;
     }

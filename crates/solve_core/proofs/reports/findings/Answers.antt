@@ -5,11 +5,11 @@ use Rattle.solve_core.proofs.reports.findings.Goals as goal
 use Rattle.solve_core.proofs.reports.findings.Goals.{then-by_lines, else-by_lines}
 
 pub try_unless_full-requires-clause-fixpoint : goal.try_unless_full-requires-clause-fixpoint
-try_unless_full-requires-clause-fixpoint g c = c.if-not-close.ensures.fixpoint refl
+try_unless_full-requires-clause-fixpoint g c = c.if-not-close_lines.ensures.fixpoint refl
 
 pub search-end-requires-clause-fixpoint : goal.search-end-requires-clause-fixpoint
 search-end-requires-clause-fixpoint g c =
-    subst (λ (t : TrialState). IsAtFixpoint c.args.puzzle.now t.propagator c.try_unless_full.new.board.cells) (sym c.trials-2.view_is)
+    subst (λ (t : TrialState). IsAtFixpoint c.args.puzzle.now t.propagator c.try_unless_full.new.board.cells) (sym c.trials.view_is)
     (c.try_unless_full.ensures.fixpoint (rw c.if-not-try_unless_full.false refl))
 
 pub returns : goal.returns
@@ -24,5 +24,5 @@ returns g c =
     ] in
     rw (c.verdict.ensures, graded, line_known, trial_known)
     (rw (← c.search-end.ensures) at (report-of (picked c.args.pick p.width) p c.args.guesses c.args.board.now.cells
-    (Some c.close.new.self.cells) (Some c.try_unless_full.new.board.cells) c.requires.unknown c.if-not-close.ensures.closed
+    (Some c.close_lines.new.board.cells) (Some c.try_unless_full.new.board.cells) c.requires.unknown c.if-not-close_lines.ensures.closed
     (rw c.if-not-try_unless_full.false at c.try_unless_full.ensures.tried)))

@@ -1,6 +1,6 @@
 -- `Propagator::assign_and_enqueue`: only the row and the column of `place` can deduce more, and both are added to the worklist.
-use Rattle.solve_core.proofs.Names.{AreFresh, ◌≡◌, ◌∙◌, ◌+◌, ◌*◌, ◌/◌, ◌%◌, sym, subst, PropagatorState, IsWorklist, rules}
-use Rattle.solve_core.proofs.GridSteps.{place_fresh, place_worklist, place_split}
+use Rattle.solve_core.proofs.Names.{◌≡◌, ◌∙◌, ◌+◌, ◌*◌, ◌/◌, ◌%◌, sym, subst, PropagatorState, IsWorklist, rules}
+use Rattle.solve_core.proofs.GridSteps.{place_worklist, place_split}
 use Rattle.solve_core.proofs.propagation.Propagator.assign_and_enqueue.Goals as goal
 
 pub assign_cell-requires-clause-unknown : goal.assign_cell-requires-clause-unknown
@@ -14,12 +14,10 @@ returns-clause-work g c =
     let width = c.from-width.result in
     let worklist : IsWorklist p c.self.inside.dirty old = subst (λ (m : PropagatorState). IsWorklist p m.dirty old) (sym c.self.view_is)
     c.requires.fixpoint.worklist in
-    let fresh : AreFresh p c.self.inside.fresh c.self.inside.cache.tables old = rw (← c.self.view_is) at c.requires.fresh in
     let wide : width ≡ p.width = c.from-width.ensures ∙ c.width.ensures.width in
     let split = place_split p old place worklist.puzzle worklist.size c.requires.cell.within in
     let at : place ≡ place / width * p.width + place % width = rw wide (sym split.2) in
     record {
       worklist = search (rules, place_worklist, worklist, wide, split, at, c.set.ensures, c.set-2.ensures, c.assign_cell.ensures.cells);
-      fresh = search (rules, place_fresh, fresh, wide, split, at, c.set-3.ensures, c.set-4.ensures, c.assign_cell.ensures.cells);
       cache = search rules;
     }

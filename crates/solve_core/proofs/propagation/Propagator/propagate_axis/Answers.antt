@@ -12,4 +12,4 @@ pub loop-axis-preserved : goal.loop-axis-preserved
 loop-axis-preserved g c = grind (arith, trailed_trans, cases_eq, true≢false, in-Unchanged, in-Changed)
 
 pub returns-in-Dead-clause-trail : goal.returns-in-Dead-clause-trail
-returns-in-Dead-clause-trail g c = λ keeps. trailed_trans _ _ _ (c.loop-axis.invariant.trail keeps) (c.propagate_line.ensures.trail keeps)
+returns-in-Dead-clause-trail g c = trailed_trans _ _ _ c.loop-axis.invariant.trail c.propagate_line.ensures.trail

@@ -20,7 +20,7 @@ none_dirty lines old new m n e f rows same columns Rows i h k = rows i (rw e h) 
 none_dirty lines old new m n e f rows same columns Columns i h k = columns i (rw f h) k
 
 pub returns-in-Dead-clause-trail : goal.returns-in-Dead-clause-trail
-returns-in-Dead-clause-trail g c = λ keeps. trailed_trans _ _ _ (c.loop-self.invariant.trail keeps) (c.propagate_axis.ensures.trail keeps)
+returns-in-Dead-clause-trail g c = trailed_trans _ _ _ c.loop-self.invariant.trail c.propagate_axis.ensures.trail
 
 pub returns-in-Dead-propagate_axis : goal.returns-in-Dead-propagate_axis
 returns-in-Dead-propagate_axis g c =

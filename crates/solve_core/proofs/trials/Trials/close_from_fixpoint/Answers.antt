@@ -1,5 +1,5 @@
 -- `Trials::close_from_fixpoint`: an empty record of consistent colours is correct.
-use Rattle.solve_core.proofs.Names.{sym, subst, IsAtFixpoint, TrialState}
+use Rattle.solve_core.proofs.Names.{sym, subst, IsAtFixpoint, PropagatorState, TrialState}
 use Rattle.solve_core.proofs.trials.Trials.close_from_fixpoint.Goals as goal
 
 pub try_to_fixpoint-alive-requires-clause-ready : goal.try_to_fixpoint-alive-requires-clause-ready
@@ -7,8 +7,7 @@ try_to_fixpoint-alive-requires-clause-ready g c =
     let p = c.args.puzzle.now in
     let cells = c.args.board.now.cells in
     record {
-      fixpoint = c.forget_fresh.ensures.fixpoint p cells
+      fixpoint = subst (λ (s : PropagatorState). IsAtFixpoint p s cells) (sym c.enable_cache.ensures)
           (subst (λ (t : TrialState). IsAtFixpoint p t.propagator cells) (sym c.self.view_is) c.requires.fixpoint);
-      fresh = c.forget_fresh.ensures.fresh p cells;
       consistent = c.clear.ensures.consistent p cells;
     }

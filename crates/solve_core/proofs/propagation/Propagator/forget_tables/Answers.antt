@@ -1,5 +1,0 @@
--- `Propagator::forget_tables`: the cache stays correct.
-use Rattle.solve_core.proofs.propagation.Propagator.forget_tables.Goals as goal
-
-pub returns-clause-cache : goal.returns-clause-cache
-returns-clause-cache g c = λ p cache. c.forget_tables.ensures _ p (rw (← c.self.view_is) at cache)
