@@ -17,7 +17,7 @@ done
 open_room
 tar -c --no-wildcards-match-slash --exclude='crates/*/out' --exclude='crates/*/must-fail' --exclude='crates/*/wrong-bodies' --exclude='crates/*_tests' crates HANDLES |
     tar -x -C "$room" || stop Write
-grep -v '^[a-z]*_tests:' crates.txt >"$room/crates.txt" || stop Write
+grep -v '^[a-z_]*_tests:' crates.txt >"$room/crates.txt" || stop Write
 for folder in "${bodies[@]}"; do
     cp -r "$folder" "$room/${folder%/*}/must-fail" || stop Write
 done

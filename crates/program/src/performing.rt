@@ -40,7 +40,8 @@ pub fn print_text<W: Write>(writer: &mut Counted<W>, text: &[u8]) -> Result<(), 
     }
 }
 
-/// Prints the survey of the collection on `input` in `form`. Each job enters `gate` before it is graded.
+/// Prints the survey of the collection on `input` in `form`. Each job enters `gate` before it is
+/// graded.
 fn survey_input<R: Threads + Wait + Sync + AllocGlobal, I: Read, O: Write, G: Gate + Sync>(
     rt: &R,
     settings: &Settings,
@@ -51,7 +52,8 @@ fn survey_input<R: Threads + Wait + Sync + AllocGlobal, I: Read, O: Write, G: Ga
 ) -> Result<(), Stop>
     requires reading { fault_count input.old < 2 ^ 32 - 1 }
     requires writing { fault_count output.old < 2 ^ 32 - 1 }
-    ensures answer { PrintsInput (form_in form.now) settings.now (stream I.remaining input.old input.new) result
+    ensures answer { PrintsInput (form_in form.now) settings.now
+        (stream I.remaining input.old input.new) result
         (O.contents output.old.inner) (O.contents output.new.inner) }
     ensures bound { ReadsWithin (MAX_COLLECTION_LEN + 1)
         (I.remaining input.old.inner) (I.remaining input.new.inner) }

@@ -213,7 +213,7 @@ function placeOf(cells) {
   return `${span("row", bounds.rows)}, ${span("column", bounds.columns)}`;
 }
 
-/** Returns a frame around some cells, at a distance of so many cells. */
+/** Returns a frame around some cells, `distance` cells away from them. */
 function frameAround(cells, distance) {
   const { columns: [left, right], rows: [top, bottom] } = boundsOf(cells);
   const [width, height] = [right - left + 1, bottom - top + 1].map(count => count + 2 * distance);
