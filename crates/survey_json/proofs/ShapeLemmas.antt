@@ -1,5 +1,5 @@
--- The values of entries have no floats, and are not deeper than three levels.
-use Rattle.std.proofs.Common.{◌≡◌, ℕ, suc, ◌≤◌, Bool, false, ◌||◌, List, [], ◌∷◌, ◌++◌, map, Option, Some, None, Result, Ok, Err, Ordering, Less, Equal, Greater, refl, ap, ◌∙◌, arith}
+-- The values of entries have no floats, and are not deeper than two levels.
+use Rattle.std.proofs.Common.{◌≡◌, ℕ, suc, ◌<◌, ◌≤◌, Bool, false, ◌||◌, List, [], ◌∷◌, ◌++◌, map, Option, Some, None, unwrap_or, Result, Ok, Err, Ordering, Less, Equal, Greater, refl, ap, ◌∙◌, arith}
 use Rattle.std.specs.Ordering.{match_ordering, nat_cmp}
 use Rattle.std.specs.Cmp.Lexicographic.{slice_cmp}
 use Rattle.std.specs.List.{range_with_len}
@@ -12,18 +12,23 @@ use Rattle.solve_core.specs.declared.findings.Verdict.{Verdict}
 use Rattle.solve_core.specs.declared.findings.Verdict.TheVariants.{Nothing, One, Several, Unsettled}
 use Rattle.survey_text.specs.Entries.{solutions_of}
 use Rattle.survey_text.specs.Faults.{fault_line}
-use Rattle.serde_json.specs.Data.{Data, Items, Members, array, depth, item, items_depth, member, members_depth, no_items, no_members, null, object, put, string}
+use Rattle.survey_text.specs.Forms.{FormEntry, found_in}
+use Rattle.check_text.specs.EntryMessages.{entry_message}
+use Rattle.serde_json.specs.Data.{Data, Items, Members, array, depth, item, items_depth, member, members_depth, no_items, no_members, null, put, string}
+use Rattle.serde_json.specs.Find.{get_member}
 use Rattle.serde_json.specs.Read.{max_depth}
 use Rattle.serde_json.specs.View.{items_of}
-use Rattle.serde_json.specs.Written.{has_float, items_have_float, members_have_float}
+use Rattle.serde_json.specs.Written.{has_float, items_have_float}
 use Rattle.diagnosis.specs.Misfits.{misfits_of}
 use Rattle.diagnosis.specs.Sums.{sums_of}
 use Rattle.diagnosis.specs.declared.misfits.Misfit.{Misfit}
 use Rattle.diagnosis.specs.declared.sums.Sums.{Sums}
-use Rattle.survey_json.specs.Entries.{clue_members, description_members, differing_data, entry_object, graded_keys, graded_members, heading_members, null_members, puzzle_members, report_members, result_members, solution_members}
+use Rattle.survey_json.specs.Entries.{clue_members, description_members, differing_data, graded_keys, graded_members, heading_members, if_any, null_members, object_of, puzzle_members, report_members, result_members, solution_members}
+use Rattle.survey_json.specs.Keys.{key_word, value_under}
 use Rattle.survey_json.specs.Pictures.{grid_data, picture_or_null}
 use Rattle.survey_json.specs.Puzzles.{clue_data, clues_data, misfit_data, sums_data}
-use Rattle.survey_json.specs.Values.{array_of, number_data, number_or_null, object_with, text_or_null, with_members}
+use Rattle.survey_json.specs.declared.keys.Key.{Key}
+use Rattle.survey_json.specs.Values.{array_of, number_data, number_or_null, text_or_null, with_members}
 
 -- a value without floats that nests at most `n` deep
 pub record IsFlat (n : ℕ) (d : Data) : Type 0 where
@@ -56,10 +61,6 @@ item_depths : (n : ℕ) (ds : Items) → AreFlatItems n ds → items_depth ds �
 item_depths n no_items flat = omega arith
 item_depths n (item d ds) flat = omega (arith, flat.0.depth, item_depths n ds flat.1)
 
-member_floats : (n : ℕ) (ms : Members) → AreFlatMembers n ms → members_have_float ms ≡ false
-member_floats n no_members flat = refl
-member_floats n (member k d ms) flat = both_false _ _ flat.0.floats (member_floats n ms flat.1)
-
 member_depths : (n : ℕ) (ms : Members) → AreFlatMembers n ms → members_depth ms ≤ n
 member_depths n no_members flat = omega arith
 member_depths n (member k d ms) flat = omega (arith, flat.0.depth, member_depths n ms flat.1)
@@ -67,10 +68,6 @@ member_depths n (member k d ms) flat = omega (arith, flat.0.depth, member_depths
 -- an array is one level deeper than its items
 flat_array : (n : ℕ) (ds : Items) → AreFlatItems n ds → IsFlat (suc n) (array ds)
 flat_array n ds flat = record { floats = item_floats n ds flat; depth = omega (arith, item_depths n ds flat) }
-
--- an object is one level deeper than its members
-flat_object : (n : ℕ) (ms : Members) → AreFlatMembers n ms → IsFlat (suc n) (object ms)
-flat_object n ms flat = record { floats = member_floats n ms flat; depth = omega (arith, member_depths n ms flat) }
 
 put_by : (n : ℕ) (order : Ordering) (k l : List ℕ) (d e : Data) (ms : Members) → IsFlat n d → IsFlat n e → AreFlatMembers n ms
     → AreFlatMembers n (put k d ms)
@@ -89,10 +86,6 @@ flat_with : (n : ℕ) (members : List (List ℕ × Data)) (old : Members) → Ar
     → AreFlatMembers n (with_members members old)
 flat_with n [] old flat others = others
 flat_with n (m ∷ ms) old flat others = flat_with n ms (put m.0 m.1 old) flat.1 (flat_put n m.0 m.1 old flat.0 others)
-
--- an object of flat values
-pub flat_object_with : (n : ℕ) (members : List (List ℕ × Data)) → AreFlat n members → IsFlat (suc n) (object_with members)
-flat_object_with n members flat = flat_object n _ (flat_with n members no_members flat tt)
 
 flat_items : {X : Type 0} (n : ℕ) (f : X → Data) (xs : List X) → ((x : X) → IsFlat n (f x)) → AreFlatItems n (items_of (map f xs))
 flat_items n f [] each = tt
@@ -195,23 +188,51 @@ flat_result : (result : Result (Nonogram × Findings) EntryFault) → AreFlat 2 
 flat_result (Ok found) = (flat_null 2, (flat_null 2, flat_graded found.0 found.1))
 flat_result (Err fault) = (flat_string 2 _, (flat_line 2 (fault_line fault), flat_nulls 2 graded_keys))
 
--- the object of an entry has no floats, and is not deeper than three levels
-pub flat_entry : (k : ℕ) (name : List ℕ) (result : Result (Nonogram × Findings) EntryFault) (message : Option (List ℕ))
-    → IsFlat 3 (entry_object k name result message)
+-- the members of an entry's object
+abbrev entry_members : ℕ → List ℕ → Result (Nonogram × Findings) EntryFault → Option (List ℕ) → Members
+entry_members k name result message = with_members (heading_members k name message ++ result_members result) no_members
+
+flat_entry : (k : ℕ) (name : List ℕ) (result : Result (Nonogram × Findings) EntryFault) (message : Option (List ℕ))
+    → AreFlatMembers 2 (entry_members k name result message)
 flat_entry k name result message =
     let heading = heading_members k name message in
     let others = result_members result in
-    flat_object_with 2 (heading ++ others) (flat_append 2 heading others (flat_heading k name message) (flat_result result))
+    flat_with 2 (heading ++ others) no_members (flat_append 2 heading others (flat_heading k name message) (flat_result result)) tt
 
--- a value that is the object of an entry has no floats
-pub entry_has_no_float : (d : Data) (k : ℕ) (name : List ℕ) (result : Result (Nonogram × Findings) EntryFault) (message : Option (List ℕ))
-    → d ≡ entry_object k name result message → has_float d ≡ false
-entry_has_no_float d k name result message is = ap has_float is ∙ (flat_entry k name result message).floats
+-- the object of an entry isn't too deep to be read
+pub entry_is_shallow : (k : ℕ) (entry : FormEntry) → depth (object_of k entry) ≤ max_depth
+entry_is_shallow k entry =
+    let flat = flat_entry k entry.name (found_in entry.result) (if_any (entry_message entry)) in
+    let members = entry_members k entry.name (found_in entry.result) (if_any (entry_message entry)) in
+    let shallow : members_depth members ≤ 2 = member_depths 2 members flat in
+    let deeper : suc (members_depth members) ≤ max_depth = omega (arith, shallow) in
+    deeper
 
--- a value that is the object of an entry isn't too deep to be read
-pub entry_is_shallow : (d : Data) (k : ℕ) (name : List ℕ) (result : Result (Nonogram × Findings) EntryFault) (message : Option (List ℕ))
-    → d ≡ entry_object k name result message → depth d ≤ max_depth
-entry_is_shallow d k name result message is =
-    let shallow : depth (entry_object k name result message) ≤ 3 = (flat_entry k name result message).depth in
-    let same : depth d ≡ depth (entry_object k name result message) = ap depth is in
+found_by : (n : ℕ) (order : Ordering) (d : Data) (others : Option Data) → IsFlat n d → IsFlat n (unwrap_or others null)
+    → IsFlat n (unwrap_or (match_ordering order others (Some d) others) null)
+found_by n Less d others here there = there
+found_by n Equal d others here there = here
+found_by n Greater d others here there = there
+
+-- what is found among flat members is flat
+flat_found : (n : ℕ) (k : List ℕ) (ms : Members) → AreFlatMembers n ms → IsFlat n (unwrap_or (get_member k ms) null)
+flat_found n k no_members flat = flat_null n
+flat_found n k (member l d ms) flat = found_by n (slice_cmp nat_cmp k l) d (get_member k ms) flat.0 (flat_found n k ms flat.1)
+
+flat_value : (k : ℕ) (entry : FormEntry) (key : Key) → IsFlat 2 (value_under (object_of k entry) key)
+flat_value k entry key =
+    let name = entry.name in
+    let result = found_in entry.result in
+    let message = if_any (entry_message entry) in
+    flat_found 2 (key_word key) (entry_members k name result message) (flat_entry k name result message)
+
+-- what an entry's object has under a key has no floats
+pub value_has_no_float : (d : Data) (k : ℕ) (entry : FormEntry) (key : Key) → d ≡ value_under (object_of k entry) key → has_float d ≡ false
+value_has_no_float d k entry key is = ap has_float is ∙ (flat_value k entry key).floats
+
+-- and nests less deep than what can be read
+pub value_is_shallow : (d : Data) (k : ℕ) (entry : FormEntry) (key : Key) → d ≡ value_under (object_of k entry) key → depth d < max_depth
+value_is_shallow d k entry key is =
+    let shallow : depth (value_under (object_of k entry) key) ≤ 2 = (flat_value k entry key).depth in
+    let same : depth d ≡ depth (value_under (object_of k entry) key) = ap depth is in
     omega (arith, shallow, same)

@@ -3,8 +3,8 @@
 
 mod entries;
 mod escaping;
-mod faults;
 mod forms;
+mod keys;
 pub mod laws;
 mod lines;
 mod pictures;

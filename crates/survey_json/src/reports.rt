@@ -1,20 +1,19 @@
-//! What an entry's object has of the findings on its puzzle.
+//! The solutions of a puzzle as values of JSON.
 
-ghost use Rattle.std.specs.Prelude.{◌≡◌, IfOk, OnOk, map};
+ghost use Rattle.std.specs.Prelude.{◌≡◌, IfOk, map};
 ghost use Rattle.diagnosis.specs.Diagnoses.{HaveSizeOf};
-ghost use Rattle.serde_json.specs.View.{members_view, view};
+ghost use Rattle.serde_json.specs.View.{view};
 ghost use Rattle.survey_text.specs.Entries.{solutions_of};
-ghost use Rattle.survey_json.specs.Entries.{differing_data, report_members, solution_members};
+ghost use Rattle.survey_json.specs.Entries.{differing_data};
 ghost use Rattle.survey_json.specs.Pictures.{grid_data};
-ghost use Rattle.survey_json.specs.Values.{array_of, with_members};
+ghost use Rattle.survey_json.specs.Values.{array_of};
 
 use crate::pictures::{differences_value, grid_value};
-use crate::values::{Members, word_value};
 use grid_core::{Grid, NoMemory, Puzzle};
-use serde_json::{Value, put};
-use solve_core::{Findings, Verdict};
+use serde_json::Value;
+use solve_core::Verdict;
 use std::alloc::Global;
-use survey_text::{grade_word, verdict_word};
+use survey_text::GradedPuzzle;
 
 /// Returns the array of the pictures of `grids`.
 fn grids_value(alloc: Global, grids: &[&Grid]) -> Result<Value, NoMemory>
@@ -29,7 +28,7 @@ fn grids_value(alloc: Global, grids: &[&Grid]) -> Result<Value, NoMemory>
 }
 
 /// Returns the array of the solutions in `verdict`, in the order in which they were found.
-fn solutions_value(alloc: Global, verdict: &Verdict) -> Result<Value, NoMemory>
+pub(crate) fn solutions_value(alloc: Global, verdict: &Verdict) -> Result<Value, NoMemory>
     ensures { IfOk result (λ value.
         view value ≡ array_of (map grid_data (solutions_of verdict.now))) }
 {
@@ -44,7 +43,7 @@ fn solutions_value(alloc: Global, verdict: &Verdict) -> Result<Value, NoMemory>
 
 /// Returns the picture of the cells in which two solutions differ; null if there aren't two. The
 /// grids of `verdict` have the size of `puzzle`.
-fn differing_value(alloc: Global, puzzle: &Puzzle, verdict: &Verdict) -> Result<Value, NoMemory>
+fn differences_in(alloc: Global, puzzle: &Puzzle, verdict: &Verdict) -> Result<Value, NoMemory>
     requires { HaveSizeOf puzzle.now verdict.now }
     ensures { IfOk result (λ value. view value ≡ differing_data verdict.now) }
 {
@@ -54,66 +53,14 @@ fn differing_value(alloc: Global, puzzle: &Puzzle, verdict: &Verdict) -> Result<
     }
 }
 
-/// Puts the verdict on a puzzle, its grade, and the counts of its report.
-pub(crate) fn put_report(
-    members: &mut Members,
-    alloc: Global,
-    findings: &Findings,
-) -> Result<(), NoMemory>
-    ensures { OnOk result (members_view members.new.entries
-        ≡ with_members (report_members findings.now) (members_view members.old.entries)) }
+/// Returns the picture of the cells in which two solutions of a graded puzzle differ; null if there
+/// aren't two.
+#[tactic(auto, using(diagnosis::proofs::VerdictSizes::sizes_of_verdict))]
+pub(crate) fn differing_value(alloc: Global, graded: &GradedPuzzle<'_>) -> Result<Value, NoMemory>
+    ensures { IfOk result (λ value. view value
+        ≡ differing_data graded.now.findings.now.verdict) }
 {
-    put(
-        members,
-        alloc,
-        "verdict",
-        word_value(alloc, verdict_word(&findings.verdict))?,
-    )?;
-    put(
-        members,
-        alloc,
-        "grade",
-        word_value(alloc, grade_word(findings.grade))?,
-    )?;
-    put(
-        members,
-        alloc,
-        "line_cells",
-        Value::from(findings.line_known),
-    )?;
-    put(
-        members,
-        alloc,
-        "trial_cells",
-        Value::from(findings.trial_known),
-    )?;
-    put(members, alloc, "guesses", Value::from(findings.spent))?;
-    Ok(())
-}
-
-/// Puts the solutions in `verdict`, and where two of them differ. The grids of `verdict` have the
-/// size of `puzzle`.
-pub(crate) fn put_solutions(
-    members: &mut Members,
-    alloc: Global,
-    puzzle: &Puzzle,
-    verdict: &Verdict,
-) -> Result<(), NoMemory>
-    requires { HaveSizeOf puzzle.now verdict.now }
-    ensures { OnOk result (members_view members.new.entries
-        ≡ with_members (solution_members verdict.now) (members_view members.old.entries)) }
-{
-    put(
-        members,
-        alloc,
-        "solutions",
-        solutions_value(alloc, verdict)?,
-    )?;
-    put(
-        members,
-        alloc,
-        "differing",
-        differing_value(alloc, puzzle, verdict)?,
-    )?;
-    Ok(())
+    // Called for its contract, which the proof needs: the findings are those of a report.
+    graded.answer.outcome()?;
+    differences_in(alloc, graded.puzzle(), &graded.findings.verdict)
 }

@@ -1,13 +1,12 @@
 //! Values of JSON from bytes and numbers.
 
-ghost use Rattle.std.specs.Prelude.{◌≡◌, ◌++◌, OnOk, IfOk, map, option_map};
-ghost use Rattle.serde_json.specs.Data.{null, string};
-ghost use Rattle.serde_json.specs.View.{members_view, view};
-ghost use Rattle.survey_json.specs.Entries.{null_members};
-ghost use Rattle.survey_json.specs.Values.{text_data, text_or_null, with_members};
+ghost use Rattle.std.specs.Prelude.{◌≡◌, IfOk, option_map};
+ghost use Rattle.serde_json.specs.Data.{string};
+ghost use Rattle.serde_json.specs.View.{view};
+ghost use Rattle.survey_json.specs.Values.{number_or_null, text_data, text_or_null};
 
 use grid_core::NoMemory;
-use serde_json::{Map, Value, put};
+use serde_json::{Map, Value};
 use std::alloc::Global;
 
 /// The members of an object, by key.
@@ -38,21 +37,12 @@ pub(crate) fn word_value(alloc: Global, word: &str) -> Result<Value, NoMemory>
     Ok(Value::try_from_str(alloc, word)?)
 }
 
-/// Returns null.
-fn null_value() -> Value
-    ensures { view result ≡ null }
+/// Returns a number, or null if there is none.
+pub(crate) fn optional_number(number: Option<u32>) -> Value
+    ensures { view result ≡ number_or_null number }
 {
-    Value::Null
-}
-
-/// Puts null under each of `keys`.
-pub(crate) fn put_nulls(members: &mut Members, alloc: Global, keys: &[&str]) -> Result<(), NoMemory>
-    ensures { OnOk result (members_view members.new.entries
-        ≡ with_members (null_members (map (λ key. key.now) keys.now))
-        (members_view members.old.entries)) }
-{
-    for key in keys {
-        put(members, alloc, key, null_value())?;
+    match number {
+        Some(number) => Value::from(number),
+        None => Value::Null,
     }
-    Ok(())
 }
