@@ -23,10 +23,10 @@ REFUSED = re.compile(
 
 def function_at(crate, file, line):
     """Returns the function of a file in which a line stands, as MODULE::NAME, or the module alone if no function stands
-    above it: a wrong body keeps the numbers of lines, but may add functions."""
+    above it, or if the file has lemmas: a wrong body keeps the numbers of lines, but may add functions."""
     if file.startswith("proofs/"):
-        module, *_, name, _ = file.split("/")[1:]
-        return f"{module}::{name}"
+        module, *rest = file.split("/")[1:]
+        return "::".join([Path(module).stem, *rest[-2:-1]])
     lines = (TOP / "crates" / crate / file).read_text().split("\n")
     at = line - 1
     while lines[at].lstrip().startswith("#["):
