@@ -3,8 +3,7 @@
 
 ghost use Rattle.std.specs.Prelude.{◌≡◌, ◌≢◌, ◌+◌, ◌*◌, ◌^◌, ◌<◌, ◌≤◌, ◌==◌, ◌⊎◌, ℕ, false, refl};
 ghost use Rattle.std.proofs.Common.{arith};
-ghost use Rattle.bit_sets.specs.Masks.{Has, has, IsMaskOf};
-ghost use Rattle.bit_sets.specs.steps.Masks.{IsPairing, swapped_index};
+ghost use Rattle.bit_sets.specs.Masks.{Has, has, IsMaskOf, IsShifted};
 
 use crate::{BitSet, Bits256};
 
@@ -16,14 +15,17 @@ pub struct WordPair {
     pub high: u64,
 }
 
-/// Swaps the two groups of each pair of adjacent groups of `by` indices. `low` has the indices of
-/// the lower group of each pair.
+/// Returns `mask` with each index in `low` exchanged with the one that is greater by `by`. No other
+/// index is kept.
+#[tactic(auto)]
 fn swap_pairs(mask: u64, low: u64, by: u16) -> u64
-    requires by { by < 64 }
-    requires low { IsPairing 64 low by }
-    ensures { IsMaskOf (λ i. (i < 64) × Has mask (swapped_index low by i)) result }
+    requires { by < 64 }
+    ensures { IsMaskOf (λ i. (Has mask (i + by) × Has low i)
+        ⊎ IsShifted 64 (λ k. Has mask k × Has low k) by i) result }
 {
-    ((mask >> by) & low) | ((mask & low) << by)
+    let lower = mask.shifted_down(by).intersection(low);
+    let upper = mask.intersection(low).shifted_up(by);
+    lower.union(upper)
 }
 
 impl BitSet for u64 {

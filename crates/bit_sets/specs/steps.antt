@@ -1,2 +1,0 @@
--- The definitions that only contracts of private functions need.
-pub mod Masks
