@@ -1,10 +1,10 @@
 -- How an addition floods: added to the free indices, each source carries upwards as far as they are adjacent.
-use Rattle.std.proofs.Common.{◌≡◌, ℕ, zero, suc, ◌+◌, ◌/◌, ◌%◌, ◌^◌, ◌<◌, ◌↔◌, sym, ap, ◌∙◌, arith}
+use Rattle.std.proofs.Common.{◌≡◌, ◌≢◌, ℕ, zero, suc, ◌+◌, ◌/◌, ◌%◌, ◌^◌, ◌<◌, ◌↔◌, ◌⊎◌, sym, ap, ◌∙◌, arith}
 use Rattle.std.specs.Int.{bit_at}
-use Rattle.std.specs.Int.RustNames.{bit_and, bit_or, bit_xor}
-use Rattle.std.proofs.lemmas.Nat.Bits.{bit_at_lowest, bit_at-suc, bit_at_and, bit_at_or, bit_at_xor, bit_at-lt, bit_at_cat_low, bit_at_above}
-use Rattle.std.proofs.lemmas.Nat.{div-add-mod', or_lt, and_le_r}
-use Rattle.bit_sets.specs.Masks.{Has, IsFlooded, IsMaskOf}
+use Rattle.std.proofs.lemmas.Bool.Decides.{nat_tests}
+use Rattle.std.proofs.lemmas.Nat.Bits.{bit_at_lowest, bit_at-suc, bit_at-lt, bit_at_cat_low, bit_at_above}
+use Rattle.std.proofs.lemmas.Nat.{div-add-mod'}
+use Rattle.bit_sets.specs.Masks.{Has, has, IsFlooded, IsMaskOf}
 
 -- the carry into an index if the sources `x`, the free indices `n` and the carry `c` are added
 abbrev carry : ℕ → ℕ → ℕ → ℕ → ℕ
@@ -37,18 +37,20 @@ bit_at_mod w n i h = sym (bit_at_cat_low (n / 2 ^ w) w (n % 2 ^ w) i h) ∙ ap (
 pub has_below : (w mask i : ℕ) → mask < 2 ^ w → Has mask i → i < w
 has_below w mask i h e = grind (arith, bit_at_above)
 
--- bit `i` of the result of a flood is the carry out of index `i`
-trick : (w x n i : ℕ) → i < w → ((j : ℕ) → Has x j → Has n j)
-    → bit_at (bit_or (bit_and (bit_xor ((n + x) % 2 ^ w) n) n) x) i ≡ carry x n 0 (suc i)
-trick w x n i l h =
-    let low = bit_at_mod w (n + x) i l in
-    grind (arith, bit_at_sum i x n 0, carry_below i x n 0, carry_step i x n 0, bit_at-lt, bit_at_or, bit_at_and, bit_at_xor)
-
 flooded_free : (x n i : ℕ) → ((j : ℕ) → Has x j → Has n j) → IsFlooded (Has x) (Has n) i → Has n i
 flooded_free x n zero h f = h 0 f
 flooded_free x n (suc i) h f = grind arith
 
--- if all sources are free, the result of a flood is the set of the flooded indices
-pub flooded : (w x n : ℕ) → x < 2 ^ w → n < 2 ^ w → ((j : ℕ) → Has x j → Has n j)
-    → IsMaskOf (IsFlooded (Has x) (Has n)) (bit_or (bit_and (bit_xor ((n + x) % 2 ^ w) n) n) x)
-flooded w x n a b h = grind (arith, trick w x n, carried x n, flooded_free x n, has_below w, or_lt w, and_le_r)
+-- there is a carry out of an index exactly if it is a source, or is free and changed by the sum
+trick : (w x n i : ℕ) → i < w → ((j : ℕ) → Has x j → Has n j)
+    → (carry x n 0 (suc i) ≡ 1) ↔ (((has ((n + x) % 2 ^ w) i ≢ has n i) × Has n i) ⊎ Has x i)
+trick w x n i l h =
+    let low = bit_at_mod w (n + x) i l in
+    grind (arith, nat_tests, bit_at_sum i x n 0, carry_below i x n 0, carry_step i x n 0, bit_at-lt, h i)
+
+-- if all sources are free, then the free indices that their sum with the sources changes, and the sources, are the flood
+pub flooded : (w x n changed new all : ℕ) → x < 2 ^ w → n < 2 ^ w → ((j : ℕ) → Has x j → Has n j)
+    → IsMaskOf (λ i. has ((n + x) % 2 ^ w) i ≢ has n i) changed → IsMaskOf (λ i. Has changed i × Has n i) new
+    → IsMaskOf (λ i. Has new i ⊎ Has x i) all → IsMaskOf (IsFlooded (Has x) (Has n)) all
+flooded w x n changed new all a b h p q r =
+    grind (arith, trick w x n, carried x n, flooded_free x n, has_below w)

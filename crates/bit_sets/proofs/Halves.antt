@@ -1,5 +1,5 @@
 -- Masks in two halves: the indices below 128 in one, the others in the other.
-use Rattle.std.proofs.Common.{◌≡◌, ℕ, zero, suc, ◌+◌, ◌-◌, ◌^◌, ◌<◌, ◌≤◌, ◌⊎◌, ◌↔◌, nat_eq, arith}
+use Rattle.std.proofs.Common.{◌≡◌, ℕ, ◌+◌, ◌-◌, ◌^◌, ◌<◌, ◌≤◌, ◌⊎◌, ◌↔◌, nat_eq, arith}
 use Rattle.std.specs.Int.{bit_at}
 use Rattle.std.specs.Int.RustNames.{bit_or}
 use Rattle.std.proofs.lemmas.Nat.{le_or_l, le_or_r}
@@ -7,7 +7,7 @@ use Rattle.bit_sets.proofs.WordSteps.{full_64}
 use Rattle.std.specs.Int.Bits.{or_zero_l, or_zero_r}
 use Rattle.std.proofs.lemmas.Bool.Decides.{nat_tests}
 use Rattle.std.proofs.lemmas.Nat.Bits.{bit_at-zero, bit_at_and, bit_at-lt, bit_at_cat_low, bit_at_cat_high, bit_at_above}
-use Rattle.bit_sets.specs.Masks.{Has, IsMaskOf, IsFlooded, IsShifted, from_halves}
+use Rattle.bit_sets.specs.Masks.{Has, IsMaskOf, IsShifted, from_halves}
 
 abbrev Fits : ℕ → Type 0
 Fits n = n < 2 ^ 128
@@ -46,29 +46,6 @@ low_at low high i j l e = grind (arith, bit_low)
 -- the bit of an index from 128 on, for an index that is equal to `i + 128`
 pub high_at : (low high : ℕ) → Fits low → (i j : ℕ) → j ≡ i + 128 → bit_at (from_halves low high) j ≡ bit_at high i
 high_at low high f i j e = grind (arith, at_high)
-
--- below 128 a flood over both halves is a flood of the low half
-pub flood_low : (sl sh fl fh i : ℕ) → i < 128 → IsFlooded (Has (from_halves sl sh)) (Has (from_halves fl fh)) i
-    ↔ IsFlooded (Has sl) (Has fl) i
-flood_low sl sh fl fh zero l = grind (arith, bit_low)
-flood_low sl sh fl fh (suc i) l = grind (arith, bit_low, flood_low sl sh fl fh i)
-
--- the indices of two halves from 128 on are those of the high half
-pub high_has : (low high : ℕ) → Fits low → (i : ℕ) → Has (from_halves low high) (i + 128) ↔ Has high i
-high_has low high f i = grind (arith, high_at low high f i)
-
--- the sources of the flood of the high half: its own, and its first index if that is free and the last one of the low half is flooded
-pub over_is : (Low : ℕ → Type 0) (sh fh low last over all : ℕ) → Fits low → IsMaskOf Low low → IsMaskOf (λ i. Has low (i + 127)) last
-    → IsMaskOf (λ i. Has last i × Has fh i) over → IsMaskOf (λ i. Has sh i ⊎ Has over i) all → (i : ℕ)
-    → Has all i ↔ (Has sh i ⊎ ((i ≡ 0) × Low 127 × Has fh i))
-over_is Low sh fh low last over all f m p q r i = grind (arith, above low (i + 127))
-
--- from `suc n` on, a flood is one of the high half whose first index is also a source if index `n` is flooded
-pub flood_high : (P Q R S T : ℕ → Type 0) (Last : Type 0) (n : ℕ) → ((i : ℕ) → P (i + suc n) ↔ R i) → ((i : ℕ) → Q (i + suc n) ↔ S i)
-    → IsFlooded P Q n ↔ Last → ((i : ℕ) → T i ↔ (R i ⊎ ((i ≡ 0) × Last × S i))) → (i : ℕ) → IsFlooded P Q (i + suc n) ↔ IsFlooded T S i
-flood_high P Q R S T Last n s f last r zero = let e : zero + suc n ≡ suc n = omega arith in rw e (grind (arith, s 0, f 0, r 0))
-flood_high P Q R S T Last n s f last r (suc i) =
-    let e : suc i + suc n ≡ suc (i + suc n) = omega arith in rw e (grind (arith, flood_high P Q R S T Last n s f last r i))
 
 -- which indices below 128 are in two halves that are shifted down by less than 128
 pub down_low : (low high by i : ℕ) → by < 128 → Fits low → i < 128

@@ -103,7 +103,8 @@ impl BitSet for u64 {
     fn flood(sources: u64, free: u64) -> u64 {
         // The sum carries from each source upwards through adjacent free indices, and so changes
         // their bits. The sources are added in the end, since their own bits may be unchanged.
-        ((free.wrapping_add(sources) ^ free) & free) | sources
+        let changed = free.wrapping_add(sources).symmetric_difference(free);
+        changed.intersection(free).union(sources)
     }
 
     fn reversed(self) -> u64 {
@@ -235,7 +236,8 @@ impl BitSet for u128 {
     }
 
     fn flood(sources: u128, free: u128) -> u128 {
-        ((free.wrapping_add(sources) ^ free) & free) | sources
+        let changed = free.wrapping_add(sources).symmetric_difference(free);
+        changed.intersection(free).union(sources)
     }
 
     fn reversed(self) -> u128 {

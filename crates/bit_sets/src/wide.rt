@@ -137,14 +137,12 @@ impl BitSet for Bits256 {
     }
 
     fn flood(sources: Bits256, free: Bits256) -> Bits256 {
-        let low = u128::flood(sources.low, free.low);
-        // If the flood reaches the last index of the low half, it goes on at the first one of the
-        // high half.
-        let over = low.shifted_down(127).intersection(free.high);
-        Bits256 {
-            low,
-            high: u128::flood(sources.high.union(over), free.high),
-        }
+        // As for the narrower sets, with a sum of two halves.
+        let low = free.low.wrapping_add(sources.low);
+        let carry = u128::from(low < sources.low);
+        let high = free.high.wrapping_add(sources.high).wrapping_add(carry);
+        let changed = Bits256 { low, high }.symmetric_difference(free);
+        changed.intersection(free).union(sources)
     }
 
     fn reversed(self) -> Bits256 {
