@@ -7,6 +7,7 @@ use Rattle.std.proofs.lemmas.Bool.{cases_eq}
 use Rattle.std.proofs.lemmas.Bool.Decides.{nat_tests}
 use Rattle.std.proofs.lemmas.Nat.Bits.{bit_at_and, bit_at_or, bit_at_above, bit_at_xor, bit_at_not, bit_at-lt, bit_at-zero, bit_at_ones, bit_at_ones_above, bit_at-pow_same, bit_at-pow_other, bit_at_lowest, bit_at-suc, bit_at-trailing_zeros}
 use Rattle.std.proofs.lemmas.Nat.{pow-add, one_shl}
+use Rattle.bit_sets.proofs.Steps.{bit_at_shr, up_is}
 use Rattle.bit_sets.specs.Masks.{Has, IsMaskOf}
 
 -- a word of `n` ones has the indices below `n`
@@ -79,3 +80,6 @@ least_128 n i p l = least w128 n i p l
 
 -- the rules for a bit of the result of an operation on words
 pub ruleset words = (bit_at_and, bit_at_or, bit_at_xor, bit_at-lt, single_bit_64, single_bit_128, nat_tests, difference_64, difference_128)
+
+-- the rules for the indices of a word
+pub ruleset indices = (words, one_is, full_64, full_128, least_64, least_128, none_above, up_is, bit_at_shr)

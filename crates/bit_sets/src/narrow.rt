@@ -1,5 +1,5 @@
 //! Bit sets of 64 and of 128 indices, each in one word.
-#![tactic(auto, using(crate::proofs::WordSteps::words))]
+#![tactic(auto, using(crate::proofs::WordSteps::indices))]
 
 ghost use Rattle.std.specs.Prelude.{◌≡◌, ◌≢◌, ◌+◌, ◌*◌, ◌^◌, ◌<◌, ◌≤◌, ◌==◌, ◌⊎◌, ℕ, false, refl};
 ghost use Rattle.std.proofs.Common.{arith};
@@ -47,12 +47,10 @@ impl BitSet for u64 {
         0
     }
 
-    #[tactic(auto, using(crate::proofs::WordSteps::one_is))]
     fn first() -> u64 {
         1
     }
 
-    #[tactic(auto, using(crate::proofs::WordSteps::full_64))]
     fn full() -> u64 {
         u64::MAX
     }
@@ -66,6 +64,7 @@ impl BitSet for u64 {
         (self >> index) & 1 == 1
     }
 
+    #[tactic(auto, using(crate::proofs::WordSteps::words))]
     fn with_bit(self, index: u16, value: bool) -> u64 {
         if value {
             self | (1 << index)
@@ -86,16 +85,15 @@ impl BitSet for u64 {
         self ^ other
     }
 
+    #[tactic(auto, using(crate::proofs::WordSteps::words))]
     fn difference(self, other: u64) -> u64 {
         self & !other
     }
 
-    #[tactic(auto, using(crate::proofs::Steps::up_is))]
     fn shifted_up(self, by: u16) -> u64 {
         self << by
     }
 
-    #[tactic(auto, using(crate::proofs::Steps::bit_at_shr))]
     fn shifted_down(self, by: u16) -> u64 {
         self >> by
     }
@@ -118,12 +116,10 @@ impl BitSet for u64 {
         swap_pairs(sixteens, 0x00000000ffffffff, 32)
     }
 
-    #[tactic(auto, using(crate::proofs::WordSteps::least_64))]
     fn first_index(self) -> u16 {
         self.trailing_zeros() as u16
     }
 
-    #[tactic(auto, using(crate::proofs::WordSteps::none_above))]
     fn last_index(self) -> u16 {
         self.ilog2() as u16
     }
@@ -182,12 +178,10 @@ impl BitSet for u128 {
         0
     }
 
-    #[tactic(auto, using(crate::proofs::WordSteps::one_is))]
     fn first() -> u128 {
         1
     }
 
-    #[tactic(auto, using(crate::proofs::WordSteps::full_128))]
     fn full() -> u128 {
         u128::MAX
     }
@@ -201,6 +195,7 @@ impl BitSet for u128 {
         (self >> index) & 1 == 1
     }
 
+    #[tactic(auto, using(crate::proofs::WordSteps::words))]
     fn with_bit(self, index: u16, value: bool) -> u128 {
         if value {
             self | (1 << index)
@@ -221,16 +216,15 @@ impl BitSet for u128 {
         self ^ other
     }
 
+    #[tactic(auto, using(crate::proofs::WordSteps::words))]
     fn difference(self, other: u128) -> u128 {
         self & !other
     }
 
-    #[tactic(auto, using(crate::proofs::Steps::up_is))]
     fn shifted_up(self, by: u16) -> u128 {
         self << by
     }
 
-    #[tactic(auto, using(crate::proofs::Steps::bit_at_shr))]
     fn shifted_down(self, by: u16) -> u128 {
         self >> by
     }
@@ -246,12 +240,10 @@ impl BitSet for u128 {
         ((low as u128) << 64) | high as u128
     }
 
-    #[tactic(auto, using(crate::proofs::WordSteps::least_128))]
     fn first_index(self) -> u16 {
         self.trailing_zeros() as u16
     }
 
-    #[tactic(auto, using(crate::proofs::WordSteps::none_above))]
     fn last_index(self) -> u16 {
         self.ilog2() as u16
     }
