@@ -61,44 +61,36 @@ impl BitSet for Bits256 {
 
     fn with_bit(self, index: u16, value: bool) -> Bits256 {
         if index < 128 {
-            Bits256 {
-                low: self.low.with_bit(index, value),
-                high: self.high,
-            }
+            let low = self.low.with_bit(index, value);
+            Bits256 { low, ..self }
         } else {
-            Bits256 {
-                low: self.low,
-                high: self.high.with_bit(index - 128, value),
-            }
+            let high = self.high.with_bit(index - 128, value);
+            Bits256 { high, ..self }
         }
     }
 
     fn intersection(self, other: Bits256) -> Bits256 {
-        Bits256 {
-            low: self.low.intersection(other.low),
-            high: self.high.intersection(other.high),
-        }
+        let low = self.low.intersection(other.low);
+        let high = self.high.intersection(other.high);
+        Bits256 { low, high }
     }
 
     fn union(self, other: Bits256) -> Bits256 {
-        Bits256 {
-            low: self.low.union(other.low),
-            high: self.high.union(other.high),
-        }
+        let low = self.low.union(other.low);
+        let high = self.high.union(other.high);
+        Bits256 { low, high }
     }
 
     fn symmetric_difference(self, other: Bits256) -> Bits256 {
-        Bits256 {
-            low: self.low.symmetric_difference(other.low),
-            high: self.high.symmetric_difference(other.high),
-        }
+        let low = self.low.symmetric_difference(other.low);
+        let high = self.high.symmetric_difference(other.high);
+        Bits256 { low, high }
     }
 
     fn difference(self, other: Bits256) -> Bits256 {
-        Bits256 {
-            low: self.low.difference(other.low),
-            high: self.high.difference(other.high),
-        }
+        let low = self.low.difference(other.low);
+        let high = self.high.difference(other.high);
+        Bits256 { low, high }
     }
 
     fn shifted_up(self, by: u16) -> Bits256 {
@@ -107,15 +99,12 @@ impl BitSet for Bits256 {
             self
         } else if by < 128 {
             let over = self.low.shifted_down(128 - by);
-            Bits256 {
-                low: self.low.shifted_up(by),
-                high: self.high.shifted_up(by).union(over),
-            }
+            let low = self.low.shifted_up(by);
+            let high = self.high.shifted_up(by).union(over);
+            Bits256 { low, high }
         } else {
-            Bits256 {
-                low: 0,
-                high: self.low.shifted_up(by - 128),
-            }
+            let high = self.low.shifted_up(by - 128);
+            Bits256 { low: 0, high }
         }
     }
 
@@ -124,15 +113,12 @@ impl BitSet for Bits256 {
             self
         } else if by < 128 {
             let over = self.high.shifted_up(128 - by);
-            Bits256 {
-                low: self.low.shifted_down(by).union(over),
-                high: self.high.shifted_down(by),
-            }
+            let low = self.low.shifted_down(by).union(over);
+            let high = self.high.shifted_down(by);
+            Bits256 { low, high }
         } else {
-            Bits256 {
-                low: self.high.shifted_down(by - 128),
-                high: 0,
-            }
+            let low = self.high.shifted_down(by - 128);
+            Bits256 { low, high: 0 }
         }
     }
 
@@ -146,10 +132,9 @@ impl BitSet for Bits256 {
     }
 
     fn reversed(self) -> Bits256 {
-        Bits256 {
-            low: self.high.reversed(),
-            high: self.low.reversed(),
-        }
+        let low = self.high.reversed();
+        let high = self.low.reversed();
+        Bits256 { low, high }
     }
 
     fn first_index(self) -> u16 {

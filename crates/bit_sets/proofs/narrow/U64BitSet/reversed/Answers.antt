@@ -17,7 +17,7 @@ turned_is i l = eqb-true (turned i) (63 - i) (below_all 64 (λ i. nat_eq (turned
 
 pub returns : goal.returns
 returns c =
-    let none : IsMaskOf (λ i. (i < 64) × Has c.args.self i) c.args.self = 
+    let none : IsMaskOf (λ i. (i < 64) × Has c.args.self i) c.args.self =
     record { to = λ i h. (has_below 64 _ i c.ranges.self.fits h, h); from = λ i h. h.1 } in
     let ones = step _ _ _ (λ i. i) _ _ (all_paired 0x5555555555555555 1 refl) none c.swap_pairs-ones.ensures in
     let twos = step _ _ _ _ _ _ (all_paired 0x3333333333333333 2 refl) ones c.swap_pairs-twos.ensures in

@@ -5,4 +5,4 @@ use Rattle.bit_sets.proofs.wide.Bits256BitSet.reversed.Goals as goal
 
 pub returns : goal.returns
 returns c =
-    words_reversed 128 c.args.self.low c.args.self.high _ _ (search rules) c.reversed.type_inv c.reversed-2.ensures c.reversed.ensures
+    words_reversed 128 c.args.self.low c.args.self.high _ _ (search rules) c.reversed-low.type_inv c.reversed-high.ensures c.reversed-low.ensures

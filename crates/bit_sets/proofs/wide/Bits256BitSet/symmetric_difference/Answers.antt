@@ -5,5 +5,5 @@ use Rattle.bit_sets.proofs.wide.Bits256BitSet.symmetric_difference.Goals as goal
 
 pub returns : goal.returns
 returns c =
-    halves _ _ _ _ _ c.symmetric_difference.type_inv c.symmetric_difference.ensures (λ i l. grind (arith, wholes))
-    c.symmetric_difference-2.ensures (λ i. grind (arith, wholes))
+    halves _ _ _ _ _ c.symmetric_difference-low.type_inv c.symmetric_difference-low.ensures (λ i l. grind (arith, wholes))
+    c.symmetric_difference-high.ensures (λ i. grind (arith, wholes))
