@@ -3,7 +3,7 @@
 
 ghost use Rattle.std.specs.Prelude.{◌≡◌, ◌≢◌, ◌+◌, ◌*◌, ◌^◌, ◌<◌, ◌≤◌, ◌==◌, ◌⊎◌, ℕ, false, refl};
 ghost use Rattle.std.proofs.Common.{arith};
-ghost use Rattle.bit_sets.specs.Masks.{Has, has, IsMaskOf, IsShifted};
+ghost use Rattle.bit_sets.specs.Masks.{Has, has, IsMaskOf, IsReversed, IsShifted};
 
 use crate::{BitSet, Bits256};
 
@@ -13,6 +13,18 @@ use crate::{BitSet, Bits256};
 pub struct WordPair {
     pub low: u64,
     pub high: u64,
+}
+
+impl WordPair {
+    /// Returns the mirrored set.
+    fn reversed(self) -> WordPair
+        ensures { IsMaskOf (IsReversed 128 (Has (self.high * 2 ^ 64 + self.low)))
+            (result.high * 2 ^ 64 + result.low) }
+    {
+        let low = self.high.reversed();
+        let high = self.low.reversed();
+        WordPair { low, high }
+    }
 }
 
 /// Returns `mask` with each index in `low` exchanged with the one that is greater by `by`. No other
@@ -130,10 +142,7 @@ impl BitSet for u64 {
     }
 
     fn widened(self) -> Bits256 {
-        Bits256 {
-            low: self as u128,
-            high: 0,
-        }
+        u128::from(self).widened()
     }
 
     fn to_stored(self) -> u64 {
@@ -235,9 +244,7 @@ impl BitSet for u128 {
     }
 
     fn reversed(self) -> u128 {
-        let low = ((self & 0xffffffffffffffff) as u64).reversed();
-        let high = ((self >> 64) as u64).reversed();
-        ((low as u128) << 64) | high as u128
+        u128::from_stored(self.to_stored().reversed())
     }
 
     fn first_index(self) -> u16 {
@@ -272,10 +279,7 @@ impl BitSet for u128 {
         // For full sets the words are reversed one by one, so that LLVM does an array of them two
         // words at a time.
         if len == 128 {
-            return WordPair {
-                low: stored.high.reversed(),
-                high: stored.low.reversed(),
-            };
+            return stored.reversed();
         }
         u128::from_stored(stored)
             .reversed()
