@@ -36,18 +36,6 @@ index_in (suc n) m b p = elim (cases_eq (m % 2) 1) [
 pub some_index : (m : ℕ) → 0 < m → (i : ℕ) × Has m i
 some_index m p = index_in m m (omega arith) p
 
-bit_at_difference : (w a b others i : ℕ) → a < 2 ^ w → ((i : ℕ) → i < w → bit_at others i ≡ 1 - bit_at b i)
-    → bit_at (bit_and a others) i ≡ min (bit_at a i) (1 - bit_at b i)
-bit_at_difference w a b others i fits flips = grind (arith, bit_at_and, bit_at_above)
-
-pub difference_64 : (a b i : ℕ) → a < 18446744073709551616 → b < 18446744073709551616
-    → bit_at (bit_and a (18446744073709551615 - b)) i ≡ min (bit_at a i) (1 - bit_at b i)
-difference_64 a b i fa fb = bit_at_difference 64 a b (18446744073709551615 - b) i fa (λ i. bit_at_not w64 b i fb)
-
-pub difference_128 : (a b i : ℕ) → a < 340282366920938463463374607431768211456 → b < 340282366920938463463374607431768211456
-    → bit_at (bit_and a (340282366920938463463374607431768211455 - b)) i ≡ min (bit_at a i) (1 - bit_at b i)
-difference_128 a b i fa fb = bit_at_difference 128 a b (340282366920938463463374607431768211455 - b) i fa (λ i. bit_at_not w128 b i fb)
-
 -- a word of ones has all indices below its width
 pub full_64 : IsMaskOf (λ i. i < 64) 18446744073709551615
 full_64 = low_ones 64
@@ -57,15 +45,6 @@ full_128 = low_ones 128
 
 pub full_256 : IsMaskOf (λ i. i < 256) 115792089237316195423570985008687907853269984665640564039457584007913129639935
 full_256 = low_ones 256
-
-single_bit : (w k i : ℕ) → k < w → bit_at (1 * 2 ^ k % 2 ^ w) i ≡ cond (nat_eq i k) 1 0
-single_bit w k i h = let one = one_shl k w h in rw one (grind (arith, nat_tests, bit_at-pow_same, bit_at-pow_other))
-
-pub single_bit_64 : (k i : ℕ) → k < 64 → bit_at (1 * 2 ^ k % 18446744073709551616) i ≡ cond (nat_eq i k) 1 0
-single_bit_64 k i h = single_bit 64 k i h
-
-pub single_bit_128 : (k i : ℕ) → k < 128 → bit_at (1 * 2 ^ k % 340282366920938463463374607431768211456) i ≡ cond (nat_eq i k) 1 0
-single_bit_128 k i h = single_bit 128 k i h
 
 -- the number of trailing zeros is the least index of a word that is not 0
 least : (w : Width) (n i : ℕ) → 0 < n → n < 2 ^ bits w → Has n (trailing_zeros w n) × (Has n i → trailing_zeros w n ≤ i)
@@ -78,8 +57,5 @@ pub least_128 : (n i : ℕ) → 0 < n → n < 3402823669209384634633746074317682
     → Has n (trailing_zeros w128 n) × (Has n i → trailing_zeros w128 n ≤ i)
 least_128 n i p l = least w128 n i p l
 
--- the rules for a bit of the result of an operation on words
-pub ruleset words = (bit_at_and, bit_at_or, bit_at_xor, bit_at-lt, single_bit_64, single_bit_128, nat_tests, difference_64, difference_128)
-
--- the rules for the indices of a word
-pub ruleset indices = (words, one_is, full_64, full_128, least_64, least_128, none_above, up_is, bit_at_shr)
+-- the rules for the result of an operation on words
+pub ruleset words = (bit_at_and, bit_at_or, bit_at_xor, bit_at-lt, nat_tests, one_is, full_64, full_128, least_64, least_128, none_above, up_is, bit_at_shr)

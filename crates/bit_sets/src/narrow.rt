@@ -1,5 +1,5 @@
 //! Bit sets of 64 and of 128 indices, each in one word.
-#![tactic(auto, using(crate::proofs::WordSteps::indices))]
+#![tactic(auto, using(crate::proofs::WordSteps::words))]
 
 ghost use Rattle.std.specs.Prelude.{◌≡◌, ◌≢◌, ◌+◌, ◌*◌, ◌^◌, ◌<◌, ◌≤◌, ◌==◌, ◌⊎◌, ℕ, false, refl};
 ghost use Rattle.std.proofs.Common.{arith};
@@ -76,15 +76,6 @@ impl BitSet for u64 {
         (self >> index) & 1 == 1
     }
 
-    #[tactic(auto, using(crate::proofs::WordSteps::words))]
-    fn with_bit(self, index: u16, value: bool) -> u64 {
-        if value {
-            self | (1 << index)
-        } else {
-            self & !(1 << index)
-        }
-    }
-
     fn intersection(self, other: u64) -> u64 {
         self & other
     }
@@ -95,11 +86,6 @@ impl BitSet for u64 {
 
     fn symmetric_difference(self, other: u64) -> u64 {
         self ^ other
-    }
-
-    #[tactic(auto, using(crate::proofs::WordSteps::words))]
-    fn difference(self, other: u64) -> u64 {
-        self & !other
     }
 
     fn shifted_up(self, by: u16) -> u64 {
@@ -204,15 +190,6 @@ impl BitSet for u128 {
         (self >> index) & 1 == 1
     }
 
-    #[tactic(auto, using(crate::proofs::WordSteps::words))]
-    fn with_bit(self, index: u16, value: bool) -> u128 {
-        if value {
-            self | (1 << index)
-        } else {
-            self & !(1 << index)
-        }
-    }
-
     fn intersection(self, other: u128) -> u128 {
         self & other
     }
@@ -223,11 +200,6 @@ impl BitSet for u128 {
 
     fn symmetric_difference(self, other: u128) -> u128 {
         self ^ other
-    }
-
-    #[tactic(auto, using(crate::proofs::WordSteps::words))]
-    fn difference(self, other: u128) -> u128 {
-        self & !other
     }
 
     fn shifted_up(self, by: u16) -> u128 {

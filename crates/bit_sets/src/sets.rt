@@ -55,7 +55,15 @@ pub trait BitSet: Copy {
     /// Returns the set with index `place` added if `wanted` is true, and removed if not.
     fn with_bit(self, index: u16, value: bool) -> Self
         requires { index < WIDTH }
-        ensures { IsMaskOf (IsWithBit (Has (bits self)) index value) (bits result) };
+        ensures { IsMaskOf (IsWithBit (Has (bits self)) index value) (bits result) }
+    {
+        let bit = Self::first().shifted_up(index);
+        if value {
+            self.union(bit)
+        } else {
+            self.difference(bit)
+        }
+    }
 
     /// Returns the indices that are in both sets.
     fn intersection(self, other: Self) -> Self
@@ -72,7 +80,10 @@ pub trait BitSet: Copy {
     /// Returns the indices that are in `self` and not in `other`.
     fn difference(self, other: Self) -> Self
         ensures { IsMaskOf (λ i. Has (bits self) i × (has (bits other) i ≡ false))
-            (bits result) };
+            (bits result) }
+    {
+        self.symmetric_difference(self.intersection(other))
+    }
 
     /// Returns the set with `by` added to each index. Indices that would reach the width are
     /// dropped.

@@ -87,12 +87,6 @@ impl BitSet for Bits256 {
         Bits256 { low, high }
     }
 
-    fn difference(self, other: Bits256) -> Bits256 {
-        let low = self.low.difference(other.low);
-        let high = self.high.difference(other.high);
-        Bits256 { low, high }
-    }
-
     fn shifted_up(self, by: u16) -> Bits256 {
         // A shift by 0 is a case of its own: `over` would be shifted by the whole width of a half.
         if by == 0 {
