@@ -1,12 +1,11 @@
 -- The operations on one word, as operations on sets of indices.
-use Rattle.std.proofs.Common.{◌≡◌, ℕ, zero, suc, ◌+◌, ◌-◌, ◌*◌, ◌/◌, ◌%◌, ◌^◌, ◌<◌, ◌≤◌, inl, inr, ◌∙◌, arith, min, cond, nat_eq}
-use Rattle.std.specs.Int.{bit_at, w64, w128, trailing_zeros, Width}
+use Rattle.std.proofs.Common.{◌≡◌, ℕ, zero, suc, ◌+◌, ◌-◌, ◌*◌, ◌/◌, ◌%◌, ◌^◌, ◌<◌, ◌≤◌, inl, inr, ◌∙◌, arith}
+use Rattle.std.specs.Int.{w64, w128, trailing_zeros, Width}
 use mir.Val.{bits}
-use Rattle.std.specs.Int.RustNames.{bit_and}
 use Rattle.std.proofs.lemmas.Bool.{cases_eq}
 use Rattle.std.proofs.lemmas.Bool.Decides.{nat_tests}
 use Rattle.std.proofs.lemmas.Nat.Bits.{bit_at_and, bit_at_or, bit_at_above, bit_at_xor, bit_at_not, bit_at-lt, bit_at-zero, bit_at_ones, bit_at_ones_above, bit_at-pow_same, bit_at-pow_other, bit_at_lowest, bit_at-suc, bit_at-trailing_zeros}
-use Rattle.std.proofs.lemmas.Nat.{pow-add, one_shl}
+use Rattle.std.proofs.lemmas.Nat.{pow-add}
 use Rattle.bit_sets.proofs.Steps.{bit_at_shr, up_is}
 use Rattle.bit_sets.specs.Masks.{Has, IsMaskOf}
 

@@ -139,10 +139,6 @@ impl BitSet for u64 {
         stored
     }
 
-    fn reverse_stored(stored: u64, len: u16) -> u64 {
-        stored.reversed().shifted_down(64 - len)
-    }
-
     fn hash_word(self) -> u64 {
         self
     }

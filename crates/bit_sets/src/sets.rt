@@ -141,7 +141,11 @@ pub trait BitSet: Copy {
     fn reverse_stored(stored: Self::Stored, len: u16) -> Self::Stored
         requires { (0 < len) × (len ≤ WIDTH) }
         ensures { IsMaskOf (λ i. (i < len) × Has (stored_bits stored) (len - 1 - i))
-            (stored_bits result) };
+            (stored_bits result) }
+    {
+        let mirrored = Self::from_stored(stored).reversed();
+        mirrored.shifted_down(Self::WIDTH - len).to_stored()
+    }
 
     /// Returns a word that depends on all bits of the set, for hashing. Equal sets have equal
     /// words, though the contract doesn't promise it.

@@ -163,10 +163,6 @@ impl BitSet for Bits256 {
         stored
     }
 
-    fn reverse_stored(stored: Bits256, len: u16) -> Bits256 {
-        stored.reversed().shifted_down(256 - len)
-    }
-
     fn hash_word(self) -> u64 {
         self.low.hash_word() ^ self.high.hash_word().rotate_left(17)
     }

@@ -1,5 +1,5 @@
 -- `u128::reverse_stored`: a set that is not full is mirrored and shifted down.
-use Rattle.std.proofs.Common.{◌≡◌, arith}
+use Rattle.std.proofs.Common.{arith}
 use Rattle.bit_sets.proofs.Reversing.{within_first}
 use Rattle.bit_sets.proofs.narrow.U128BitSet.reverse_stored.Goals as goal
 
