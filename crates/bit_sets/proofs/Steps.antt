@@ -25,19 +25,16 @@ up_is w a s = grind (arith, bit_at_mod, bit_at_shl_low, bit_at_shl_high, has_bel
 pub mask_same : (P Q : ℕ → Type 0) (a : ℕ) → IsMaskOf P a → ((i : ℕ) → P i → Q i) → ((i : ℕ) → Q i → P i) → IsMaskOf Q a
 mask_same P Q a p f g = grind arith
 
--- `P` holds of index `j` if it holds of all `n` indices from `i` on, and `j` is one of them
-all_at : (P : ℕ → Type 0) (n i j : ℕ) → AllFrom P n i → i ≤ j → j < i + n → P j
-all_at P n i j h l b = let e : i + (j - i) ≡ j = omega arith in rw e at (h (j - i) (omega arith))
+-- `P` holds of all `n` indices from `i` on if it holds of the first `m` and of the last `m`, which overlap or touch
+all_more : (P : ℕ → Type 0) (m s n i z : ℕ) → s ≤ m → m + s ≡ n → AllFrom P m i → AllFrom P m (i + s) → z < n → P (i + z)
+all_more P m s n i z l t first last b = grind (arith, first z, last (z - s))
 
 -- two stretches of `m` indices, `s` apart, that overlap or touch make one of `m + s`
 pub widen : (mask w m s n next : ℕ) → IsMaskOf (AllFrom (Has mask) m) w → IsMaskOf (λ i. Has w i × Has w (i + s)) next → s ≤ m → m + s ≡ n
     → IsMaskOf (AllFrom (Has mask) n) next
 widen mask w m s n next p q l t =
-    let at = all_at (Has mask) in
+    let after : (i z : ℕ) → i + s + z ≡ i + (s + z) = λ i z. omega arith in
     record {
-      to = λ i h z b. let two = q.to i h in elim (cases_lt z m) [
-        | inl low ↦ p.to i two.0 z low
-        | inr high ↦ at m (i + s) (i + z) (p.to _ two.1) (omega arith) (omega arith)
-      ];
-      from = λ i h. q.from i (p.from i (λ z b. h z (omega arith)), p.from _ (λ z b. at n i _ h (omega arith) (omega arith)));
+      to = λ i h z. let two = q.to i h in all_more (Has mask) m s n i z l t (p.to i two.0) (p.to _ two.1);
+      from = λ i h. q.from i (p.from i (λ z b. h z (omega arith)), p.from _ (λ z b. rw (after i z) (h (s + z) (omega arith))));
     }

@@ -13,10 +13,6 @@ use Rattle.bit_sets.specs.Masks.{Has, IsMaskOf}
 pub low_ones : (n : ℕ) → IsMaskOf (λ i. i < n) (2 ^ n - 1)
 low_ones n = grind (arith, bit_at_ones, bit_at_ones_above)
 
--- the word 1 has index 0 alone
-pub one_is : IsMaskOf (λ i. i ≡ 0) 1
-one_is = grind (arith, low_ones 1)
-
 pub none_is : (P : ℕ → Type 0) → ((i : ℕ) → P i → ⊥) → IsMaskOf P 0
 none_is P f = grind (arith, bit_at-zero)
 
@@ -57,4 +53,4 @@ pub least_128 : (n i : ℕ) → 0 < n → n < 3402823669209384634633746074317682
 least_128 n i p l = least w128 n i p l
 
 -- the rules for the result of an operation on words
-pub ruleset words = (bit_at_and, bit_at_or, bit_at_xor, bit_at-lt, nat_tests, one_is, full_64, full_128, least_64, least_128, none_above, up_is, bit_at_shr)
+pub ruleset words = (bit_at_and, bit_at_or, bit_at_xor, bit_at-lt, nat_tests, full_64, full_128, least_64, least_128, none_above, up_is, bit_at_shr)

@@ -59,10 +59,6 @@ impl BitSet for u64 {
         0
     }
 
-    fn first() -> u64 {
-        1
-    }
-
     fn full() -> u64 {
         u64::MAX
     }
@@ -167,10 +163,6 @@ impl BitSet for u128 {
 
     fn empty() -> u128 {
         0
-    }
-
-    fn first() -> u128 {
-        1
     }
 
     fn full() -> u128 {

@@ -36,8 +36,12 @@ pub trait BitSet: Copy {
         ensures { bits result ≡ 0 };
 
     /// Returns the set of index 0 alone.
+    #[tactic(auto, using(crate::proofs::Doubling::one_within))]
     fn first() -> Self
-        ensures { IsMaskOf (λ i. i ≡ 0) (bits result) };
+        ensures { IsMaskOf (λ i. i ≡ 0) (bits result) }
+    {
+        Self::full().shifted_down(Self::WIDTH - 1)
+    }
 
     /// Returns the set of all indices below the width.
     fn full() -> Self

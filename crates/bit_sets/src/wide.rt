@@ -33,11 +33,6 @@ impl BitSet for Bits256 {
         Bits256 { low: 0, high: 0 }
     }
 
-    #[tactic(auto, using(crate::proofs::WordSteps::one_is))]
-    fn first() -> Bits256 {
-        Bits256 { low: 1, high: 0 }
-    }
-
     #[tactic(auto, using(crate::proofs::WordSteps::full_256))]
     fn full() -> Bits256 {
         Bits256 {
