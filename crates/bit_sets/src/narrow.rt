@@ -29,7 +29,6 @@ impl WordPair {
 
 /// Returns `mask` with each index in `low` exchanged with the one that is greater by `by`. No other
 /// index is kept.
-#[tactic(auto)]
 fn swap_pairs(mask: u64, low: u64, by: u16) -> u64
     requires { by < 64 }
     ensures { IsMaskOf (λ i. (Has mask (i + by) × Has low i)
@@ -67,7 +66,6 @@ impl BitSet for u64 {
         self == 0
     }
 
-    #[tactic(auto)]
     fn contains(self, index: u16) -> bool {
         (self >> index) & 1 == 1
     }
@@ -173,7 +171,6 @@ impl BitSet for u128 {
         self == 0
     }
 
-    #[tactic(auto)]
     fn contains(self, index: u16) -> bool {
         (self >> index) & 1 == 1
     }

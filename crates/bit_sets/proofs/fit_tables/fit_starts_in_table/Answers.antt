@@ -9,8 +9,6 @@ pub returns : goal.returns
 returns g c = λ mask are.
     let of = c.level_of-level.ensures in
     let level = c.level_of-level.result.0 in
-    let low : level ≤ g.W.BitSet.LOG2_WIDTH =
-    level_within level c.args.length g.W.BitSet.WIDTH g.W.BitSet.LOG2_WIDTH
-    (omega (arith, of.length)) c.requires.1 g.met.W.BitSet.width_is in
+    let low = level_within level c.args.length _ _ (omega (arith, of.length)) c.requires.1 g.met.W.BitSet.width_is in
     let was = get_or-map g.W.BitSet.bits c.args.table.now level _ 0 (omega (arith, c.told-table, of.level)) in
     widen _ _ _ _ _ _ (rw was at (are.each level low)) c.and_shifted.ensures (omega (arith, of.rest)) of.length

@@ -9,8 +9,7 @@ returns g c =
     let of = c.level_of-level.ensures in
     let level = c.level_of-level.result.0 in
     let top = g.W.BitSet.LOG2_WIDTH in
-    let low : level ≤ top =
-    level_within level c.args.length g.W.BitSet.WIDTH top (omega (arith, of.length)) c.requires.1 g.met.W.BitSet.width_is in
+    let low = level_within level c.args.length _ top (omega (arith, of.length)) c.requires.1 g.met.W.BitSet.width_is in
     let set =
     level_set g.W.BitSet.bits c.args.levels.now top level _ _ _ _ _ _ low (omega (arith, c.told-levels, of.level))
     (omega (arith, of.rest)) of.length c.or_shifted.ensures c.union.ensures in
