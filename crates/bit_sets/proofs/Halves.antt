@@ -39,20 +39,16 @@ pub halves : (P Q R : ℕ → Type 0) (low high : ℕ) → Fits low → IsMaskOf
     → ((i : ℕ) → P (i + 128) ↔ R i) → IsMaskOf P (from_halves low high)
 halves P Q R low high f p q r s = grind (arith, wholes)
 
--- the bit of an index below 128, for an index that is equal to it
-pub low_at : (low high i j : ℕ) → i < 128 → j ≡ i → bit_at (from_halves low high) j ≡ bit_at low i
-low_at low high i j l e = grind (arith, bit_low)
-
--- the bit of an index from 128 on, for an index that is equal to `i + 128`
-pub high_at : (low high : ℕ) → Fits low → (i j : ℕ) → j ≡ i + 128 → bit_at (from_halves low high) j ≡ bit_at high i
-high_at low high f i j e = grind (arith, at_high)
-
 -- which indices below 128 are in two halves that are shifted down by less than 128
 pub down_low : (low high by i : ℕ) → by < 128 → Fits low → i < 128
     → Has (from_halves low high) (i + by) ↔ (Has low (i + by) ⊎ IsShifted 128 (Has high) (128 - by) i)
-down_low low high by i b f l = grind (arith, wholes, high_at low high f (i - (128 - by)))
+down_low low high by i b f l = grind (arith, wholes, at_high low high (i + by))
+
+-- which indices from 128 on are in two halves that are shifted down
+pub down_high : (low high by i : ℕ) → Fits low → Has (from_halves low high) (i + 128 + by) ↔ Has high (i + by)
+down_high low high by i f = grind (arith, at_high low high (i + 128 + by))
 
 -- which indices from 128 on are in two halves that are shifted up by less than 128
 pub up_high : (low high by i : ℕ) → by < 128 → Fits low
     → IsShifted 256 (Has (from_halves low high)) by (i + 128) ↔ (IsShifted 128 (Has high) by i ⊎ Has low (i + (128 - by)))
-up_high low high by i b f = grind (arith, low_at low high (i + (128 - by)), high_at low high f (i - by), above low (i + (128 - by)))
+up_high low high by i b f = grind (arith, bit_low low high (i + 128 - by), at_high low high (i + 128 - by), above low (i + (128 - by)))

@@ -1,5 +1,5 @@
 -- The operations on one word, as operations on sets of indices.
-use Rattle.std.proofs.Common.{◌≡◌, ℕ, zero, suc, ◌+◌, ◌-◌, ◌*◌, ◌/◌, ◌%◌, ◌^◌, ◌<◌, ◌≤◌, inl, inr, ◌∙◌, arith}
+use Rattle.std.proofs.Common.{ℕ, zero, suc, ◌+◌, ◌-◌, ◌*◌, ◌/◌, ◌%◌, ◌^◌, ◌<◌, ◌≤◌, inl, inr, ◌∙◌, arith}
 use Rattle.std.specs.Int.{w64, w128, trailing_zeros, Width}
 use mir.Val.{bits}
 use Rattle.std.proofs.lemmas.Bool.{cases_eq}

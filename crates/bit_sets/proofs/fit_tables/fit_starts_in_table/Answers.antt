@@ -1,5 +1,5 @@
 -- `fit_starts_in_table`: two stretches of the length's level, the second one ending at the end, make one of the length.
-use Rattle.std.proofs.Common.{◌≤◌, arith}
+use Rattle.std.proofs.Common.{arith}
 use Rattle.std.proofs.lemmas.List.{get_or-map}
 use Rattle.bit_sets.proofs.Doubling.{level_within}
 use Rattle.bit_sets.proofs.Steps.{widen}

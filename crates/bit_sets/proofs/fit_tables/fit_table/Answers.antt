@@ -7,9 +7,8 @@ use Rattle.bit_sets.proofs.fit_tables.fit_table.Goals as goal
 
 pub and_shifted-requires : goal.and_shifted-requires
 and_shifted-requires g c =
-    let end = c.LOG2_WIDTH-level-end.ensures in
-    let test = c.loop-level-test.true in
-    step_within c.loop-level.level g.W.BitSet.WIDTH g.W.BitSet.LOG2_WIDTH (omega arith) g.met.W.BitSet.top_is.1 g.met.W.BitSet.width_is
+    step_within c.loop-level.level _ _ (omega (arith, c.LOG2_WIDTH-level-end.ensures, c.loop-level-test.true))
+    g.met.W.BitSet.top_is.1 g.met.W.BitSet.width_is
 
 pub loop-level-preserved : goal.loop-level-preserved
 loop-level-preserved g c =

@@ -1,5 +1,5 @@
 -- `add_spread`: the mask, spread by the rest of the length, is joined to the level of the length.
-use Rattle.std.proofs.Common.{◌≤◌, arith}
+use Rattle.std.proofs.Common.{arith}
 use Rattle.bit_sets.proofs.Doubling.{level_within}
 use Rattle.bit_sets.proofs.LevelSteps.{level_set}
 use Rattle.bit_sets.proofs.levels.add_spread.Goals as goal
