@@ -38,8 +38,8 @@ IsReversed width P i = (i < width) × P (width - 1 - i)
 abbrev pub has : ℕ → ℕ → Bool
 has mask i = nat_eq (bit_at mask i) 1
 
--- index `i` is in the set of `P` after `place` was added to it, if `wanted` is true, or removed
--- from it
+-- index `i` is in the set of `P` after `index` was added to it, if `value` is true, or removed from
+-- it
 abbrev pub IsWithBit : (ℕ → Type 0) → ℕ → Bool → ℕ → Type 0
 IsWithBit P index value i = (P i × (i ≢ index)) ⊎ ((i ≡ index) × (value ≡ true))
 

@@ -45,7 +45,7 @@ pub fn fit_table<W: BitSet>(mask: W) -> [W; LEVELS]
 }
 
 /// Returns each index from which on `length` consecutive indices are in the mask whose fit table is
-/// `windows`.
+/// `table`.
 pub fn fit_starts_in_table<W: BitSet>(table: &[W; LEVELS], length: u16) -> W
     requires { (0 < length) × (length ≤ W.WIDTH) }
     ensures { (mask : ℕ) → IsFitTable mask W.LOG2_WIDTH (map W.bits table.now)

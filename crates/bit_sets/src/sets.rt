@@ -51,12 +51,12 @@ pub trait BitSet: Copy {
     fn is_empty(self) -> bool
         ensures { result ≡ (bits self == 0) };
 
-    /// Reports whether index `place` is in the set.
+    /// Reports whether `index` is in the set.
     fn contains(self, index: u16) -> bool
         requires { index < WIDTH }
         ensures { result ≡ has (bits self) index };
 
-    /// Returns the set with index `place` added if `wanted` is true, and removed if not.
+    /// Returns the set with `index` added if `value` is true, and removed if not.
     fn with_bit(self, index: u16, value: bool) -> Self
         requires { index < WIDTH }
         ensures { IsMaskOf (IsWithBit (Has (bits self)) index value) (bits result) }
