@@ -1,5 +1,7 @@
 -- Known cells at both ends of a line: what is deduced of the line is what is deduced of the cells between them.
-use Rattle.line_core.proofs.Names.{mirror_index, has_true, true_has, get_or-take, mask_same, has, common_steps, rules, ◌≡◌, ◌↔◌, ℕ, zero, suc, ◌+◌, ◌-◌, ◌<◌, ◌≤◌, Bool, true, false, List, [], ◌∷◌, ◌++◌, length, map, Option, Some, None, refl, sym, ap, ◌∙◌, arith, take, drop, reverse, append_assoc, get_or, append-nil, length-map, length-drop, length-take-le, map-append, Has, IsMaskOf, get_or-reverse, AreLengths, length-reverse, reverse-reverse, ext_get_or, Cell, Unknown, Blank, Extends, colour, is_filled, runs, runs_after, deduced, runs_after-zero, runs_after-true, runs_after-false, runs_after-close, runs_after-nil}
+use Rattle.line_core.proofs.LineCells.{lengths_of, clue_of}
+use Rattle.grid_core.specs.Clues.{is_clue}
+use Rattle.line_core.proofs.Names.{mirror_index, has_true, true_has, get_or-take, mask_same, has, common_steps, rules, ◌≡◌, ◌↔◌, ℕ, zero, suc, ◌+◌, ◌-◌, ◌<◌, ◌≤◌, Bool, true, false, List, [], ◌∷◌, ◌++◌, length, map, Option, Some, None, refl, sym, ap, ◌∙◌, arith, take, drop, reverse, append_assoc, get_or, append-nil, length-map, length-drop, length-take-le, map-append, Has, IsMaskOf, get_or-reverse, length-reverse, reverse-reverse, ext_get_or, Cell, Unknown, Blank, Extends, colour, is_filled, runs, runs_after, deduced, runs_after-zero, runs_after-true, runs_after-false, runs_after-close, runs_after-nil}
 use Rattle.std.specs.Option.{option_map}
 use Rattle.std.proofs.lemmas.List.{append_cancel_left, drop-drop, take_rest, map-id, take-append-drop, reverse-append}
 use Rattle.std.proofs.lemmas.List.Elements.{All-drop, All-take}
@@ -248,10 +250,13 @@ module _ (l : List Cell) (n m : ℕ) (front : IsKnownEnd l n) (back : IsKnownEnd
             (λ is. turn.0 (behind.0 (first.0 is)) ∙ left, λ is. first.1 (behind.1 (turn.1 (is ∙ sym left)))),
       )
 
--- the numbers of a part of a clue are in the same range
-pub lengths_part : (width n m : ℕ) (clue : List ℕ) → AreLengths width clue → AreLengths width (take n (drop m clue))
-lengths_part width n m clue are =
-    record { positive = search (rules, All-take, All-drop, are.positive); short = search (rules, All-take, All-drop, are.short) }
+-- a part of a clue is a clue
+pub clue_part : (limit n m : ℕ) (clue : List ℕ) → is_clue limit clue ≡ true → is_clue limit (take n (drop m clue)) ≡ true
+clue_part limit n m clue is =
+    let are = lengths_of limit clue is in
+    let few : length clue ≤ 128 = search rules in
+    clue_of limit (take n (drop m clue)) (grind (arith, common_steps))
+    (record { positive = search (rules, All-take, All-drop, are.positive); short = search (rules, All-take, All-drop, are.short) })
 
 -- ---- the deduced line
 

@@ -3,12 +3,17 @@ use Rattle.std.proofs.Common.{◌↔◌, ◌≡◌, ℕ, ◌+◌, ◌<◌, ◌�
 use Rattle.grid_core.specs.declared.cells.Cell.{Cell}
 use Rattle.grid_core.specs.declared.cells.Cell.TheVariants.{Unknown}
 use Rattle.grid_core.specs.Cells.{allows, is_filled}
+use Rattle.grid_core.specs.Clues.{is_clue}
 use Rattle.bit_sets.specs.Masks.{Has, has, IsMaskOf}
 use Rattle.bit_sets.proofs.HasLemmas.{true_has}
 use Rattle.bit_sets.proofs.WordSteps.{none_is as is_none, some_index}
-use Rattle.std.proofs.lemmas.Bool.{false_from_ne_true, cases_lt}
+use Rattle.std.proofs.lemmas.Bool.{and_from, false_from_ne_true, cases_lt}
 use Rattle.std.proofs.lemmas.List.{get_or-reverse, length-reverse}
 use Rattle.std.proofs.lemmas.Nat.Bits.{bit_at-zero}
+use Rattle.std.proofs.lemmas.List.Elements.{recursion_from_All}
+use Rattle.std.proofs.lemmas.List.Sums.{AllPass-from_list_all, list_all-from_AllPass}
+use Rattle.std.specs.List.{All}
+use Rattle.line_core.proofs.RunLaws.{ArePositive}
 use Rattle.line_core.specs.steps.Feasibility.{MayBe, AreLengths}
 
 not_filled_cell : (c : Cell) → (is_filled c ≡ false) ↔ (allows c false ≡ true)
@@ -38,6 +43,24 @@ lacks m i none = false_from_ne_true (has m i) (λ e. none (true_has m i e))
 pub written_more : (P : ℕ → ℕ → Type 0) (xs : List ℕ) (j v : ℕ) → j < length xs → P j v → ((k : ℕ) → k < j → P k (get_or xs k 0)) → (k : ℕ)
     → k < j + 1 → P k (get_or (set xs j v) k 0)
 written_more P xs j v l here below k h = search rules
+
+-- the numbers of a clue are lengths of runs
+pub lengths_of : (limit : ℕ) (clue : List ℕ) → is_clue limit clue ≡ true → AreLengths limit clue
+lengths_of limit clue is =
+    record { positive = search (rules, AllPass-from_list_all); short = search (rules, AllPass-from_list_all) }
+
+-- at most 128 lengths of runs are a clue
+pub clue_of : (limit : ℕ) (clue : List ℕ) → length clue ≤ 128 → AreLengths limit clue → is_clue limit clue ≡ true
+clue_of limit clue few are = search (rules, and_from, list_all-from_AllPass, are.positive, are.short)
+
+-- each number of a clue is positive
+pub clue_positive : (limit : ℕ) (clue : List ℕ) → is_clue limit clue ≡ true → ArePositive clue
+clue_positive limit clue is = recursion_from_All _ clue (lengths_of limit clue is).positive
+
+-- a clue is one for each limit that its numbers don't exceed
+pub clue_within : (limit width : ℕ) (clue : List ℕ) → is_clue limit clue ≡ true → All (λ n. n ≤ width) clue → is_clue width clue ≡ true
+clue_within limit width clue is within =
+    clue_of width clue (search rules) (record { positive = (lengths_of limit clue is).positive; short = within })
 
 -- each number of a clue is positive and at most `width`
 pub length_at : (width : ℕ) (clue : List ℕ) (j : ℕ) → AreLengths width clue → j < length clue

@@ -1,6 +1,7 @@
 //! Deduction: finds the cells of a line that have the same colour in all placings.
 
-ghost use Rattle.std.specs.Prelude.{◌≡◌, ◌<◌, ◌≤◌, List, Some, length, map, IfOk, All};
+ghost use Rattle.std.specs.Prelude.{◌≡◌, ◌<◌, ◌≤◌, List, Some, length, map, true, IfOk};
+ghost use Rattle.grid_core.specs.Clues.{is_clue};
 ghost use Rattle.grid_core.specs.declared.cells.Cell.{Cell};
 ghost use Rattle.bit_sets.specs.Masks.{IsMaskOf};
 ghost use Rattle.line_core.specs.Deduction.{deduced};
@@ -95,25 +96,24 @@ fn general_support<W: BitSet>(
 /// Returns the cells that are filled in some placing, and the cells that are blank in some. A line
 /// whose cells are all unknown is computed directly; any other line is padded to the width of the
 /// sets, and scanned unless its clue is a single run. `gaps` is a buffer for the suffix gaps.
-pub fn line_support<W: BitSet>(
-    domain: &LineDomain<W>,
+fn line_support<W: BitSet>(
+    line: &BitLine<W>,
     clue: &[u16],
     gaps: &mut [W::Stored; MAX_GAPS],
 ) -> (W, W)
-    ghost line: { List Cell }
-    requires domain { IsDomainOf W.WIDTH line domain.now.len
-        (W.bits domain.now.not_filled) (W.bits domain.now.not_blank) }
-    requires clue { AreLengths W.WIDTH clue.now }
-    requires count { length clue.now ≤ MAX_RUNS }
-    ensures filled { IsMaskOf (IsFillable line clue.now) (W.bits result.0) }
-    ensures blank { IsMaskOf (IsBlankable line clue.now) (W.bits result.1) }
+    ghost cells: { List Cell }
+    requires cells { line.now ≡ cells }
+    requires clue { is_clue W.WIDTH clue.now ≡ true }
+    ensures filled { IsMaskOf (IsFillable cells clue.now) (W.bits result.0) }
+    ensures blank { IsMaskOf (IsBlankable cells clue.now) (W.bits result.1) }
 {
-    if is_unknown(domain) {
+    let domain = LineDomain::of(line);
+    if is_unknown(&domain) {
         return unknown_line_support(domain.len, clue);
     }
     // A padded line is mirrored without a shift. The appended cells are blank in each placing, so
     // they have to be removed from the second set only.
-    let (fillable, blankable) = general_support(&padded(domain), clue, gaps);
+    let (fillable, blankable) = general_support(&padded(&domain), clue, gaps);
     (fillable, blankable.intersection(prefix(domain.len)))
 }
 
@@ -134,22 +134,18 @@ pub fn deduced_from<W: BitSet>(len: u16, fillable: W, blankable: W) -> Option<Bi
     Some(BitLine::from_sets(len, filled, blank))
 }
 
-/// Returns the deduced line for the numbers of a clue, or `None` if there is no placing. `gaps` is
-/// a buffer for the suffix gaps.
+/// Returns the deduced line, or `None` if there is no placing. `gaps` is a buffer for the suffix
+/// gaps.
 fn deduce_numbers<W: BitSet>(
     gaps: &mut [W::Stored; MAX_GAPS],
     line: &BitLine<W>,
     clue: &[u16],
 ) -> Option<BitLine<W>>
-    ghost cells: { List Cell }
-    requires cells { line.now ≡ cells }
-    requires clue { AreLengths W.WIDTH clue.now }
-    requires count { length clue.now ≤ MAX_RUNS }
-    ensures { result ≡ deduced cells clue.now }
+    requires { is_clue W.WIDTH clue.now ≡ true }
+    ensures { result ≡ deduced line.now clue.now }
 {
-    let domain = LineDomain::of(line);
-    let (fillable, blankable) = line_support(&domain, clue, gaps);
-    deduced_from(domain.len, fillable, blankable)
+    let (fillable, blankable) = line_support(line, clue, gaps);
+    deduced_from(line.len(), fillable, blankable)
 }
 
 /// Returns the deduced line, or `None` if there is no placing. Uses sets of 64 indices if these
@@ -161,8 +157,7 @@ fn deduce_part<W: BitSet>(
     line: &BitLine<W>,
     clue: &[u16],
 ) -> Option<BitLine<W>>
-    requires clue { AreLengths W.WIDTH clue.now }
-    requires count { length clue.now ≤ MAX_RUNS }
+    requires { is_clue W.WIDTH clue.now ≡ true }
     ensures { result ≡ deduced line.now clue.now }
 {
     if bits_needed(line.len(), clue) > 64 {
@@ -183,8 +178,7 @@ fn deduce_trimmed<W: BitSet>(
     line: &BitLine<W>,
     clue: &[u16],
 ) -> Option<BitLine<W>>
-    requires clue { AreLengths W.WIDTH clue.now }
-    requires count { length clue.now ≤ MAX_RUNS }
+    requires { is_clue W.WIDTH clue.now ≡ true }
     ensures { result ≡ deduced line.now clue.now }
 {
     let (front, back) = known_ends(line);
@@ -229,19 +223,6 @@ impl Tables {
     }
 }
 
-/// Returns the deduced line, or `None` if there is no placing. No number of the clue may exceed the
-/// width of the sets. `gaps` is a buffer for the suffix gaps.
-fn deduce_within<W: BitSet>(
-    gaps: &mut [W::Stored; MAX_GAPS],
-    line: &BitLine<W>,
-    clue: &Clue,
-) -> Option<BitLine<W>>
-    requires { All (λ number. number ≤ W.WIDTH) clue.now }
-    ensures { result ≡ deduced line.now clue.now }
-{
-    deduce_numbers(gaps, line, clue.numbers())
-}
-
 /// Writes, for each unknown cell of a line of at most `MAX_LOOKAHEAD_LEN` cells, the line's support
 /// after that cell is filled and after it is made blank. `suffix` is a buffer for the suffix gaps.
 /// The entries of known cells are unspecified.
@@ -249,39 +230,40 @@ fn write_lookaheads_within<W: BitSet>(
     suffix: &mut [W::Stored; MAX_GAPS],
     buffers: &mut LookaheadBuffers<W>,
     line: &BitLine<W>,
-    clue: &Clue,
+    clue: &[u16],
     lookaheads: &mut [Lookahead<W>],
 )
-    requires clue { All (λ number. number ≤ W.WIDTH) clue.now }
+    requires clue { is_clue W.WIDTH clue.now ≡ true }
     requires buffers { length clue.now ≤ buffers.old.max_runs }
     requires lookaheads { HasEntries line.now lookaheads.old }
     ensures lookaheads { WritesLookaheads clue.now line.now lookaheads.old lookaheads.new }
     ensures buffers { buffers.new.max_runs ≡ buffers.old.max_runs }
 {
-    buffers.write_lookaheads(line, clue.numbers(), suffix, lookaheads);
+    buffers.write_lookaheads(line, clue, suffix, lookaheads);
 }
 
 /// A bit set in which lines are stored and deduced.
 pub trait LineBits: BitSet {
     /// Returns the line in which each cell has the colour that all placings share, and is unknown
-    /// if they differ; `None` if there is no placing. No number of `clue` may exceed the width of
-    /// the sets.
-    fn deduce(tables: &mut Tables, line: &BitLine<Self>, clue: &Clue) -> Option<BitLine<Self>>
-        requires { All (λ number. number ≤ Self.WIDTH) clue.now }
+    /// if they differ; `None` if there is no placing. `clue` has at most 128 numbers, each from 1 to
+    /// the width of the sets.
+    fn deduce(tables: &mut Tables, line: &BitLine<Self>, clue: &[u16]) -> Option<BitLine<Self>>
+        requires { is_clue Self.WIDTH clue.now ≡ true }
         ensures answer { result ≡ deduced line.now clue.now }
         ensures tables { tables.new ≡ tables.old };
 
     /// Writes, for each unknown cell of `line`, the support of the line after that cell is filled
-    /// and after it is made blank. The line has at most `MAX_LOOKAHEAD_LEN` cells, and no number of
-    /// `clue` may exceed the width of the sets. The entries of known cells are unspecified.
+    /// and after it is made blank. The line has at most `MAX_LOOKAHEAD_LEN` cells, and `clue` at
+    /// most 128 numbers, each from 1 to the width of the sets. The entries of known cells are
+    /// unspecified.
     fn write_lookaheads(
         tables: &mut Tables,
         buffers: &mut LookaheadBuffers<Self>,
         line: &BitLine<Self>,
-        clue: &Clue,
+        clue: &[u16],
         lookaheads: &mut [Lookahead<Self>],
     )
-        requires clue { All (λ number. number ≤ Self.WIDTH) clue.now }
+        requires clue { is_clue Self.WIDTH clue.now ≡ true }
         requires buffers { length clue.now ≤ buffers.old.max_runs }
         requires lookaheads { HasEntries line.now lookaheads.old }
         ensures lookaheads { WritesLookaheads clue.now line.now lookaheads.old lookaheads.new }
@@ -290,17 +272,17 @@ pub trait LineBits: BitSet {
 }
 
 impl LineBits for u64 {
-    fn deduce(tables: &mut Tables, line: &BitLine<u64>, clue: &Clue) -> Option<BitLine<u64>> {
+    fn deduce(tables: &mut Tables, line: &BitLine<u64>, clue: &[u16]) -> Option<BitLine<u64>> {
         let narrow = &mut tables.buffers.narrow;
         ensure_initialized::<u64>(narrow);
-        deduce_within(&mut narrow[0], line, clue)
+        deduce_numbers(&mut narrow[0], line, clue)
     }
 
     fn write_lookaheads(
         tables: &mut Tables,
         buffers: &mut LookaheadBuffers<u64>,
         line: &BitLine<u64>,
-        clue: &Clue,
+        clue: &[u16],
         lookaheads: &mut [Lookahead<u64>],
     ) {
         let narrow = &mut tables.buffers.narrow;
@@ -310,23 +292,18 @@ impl LineBits for u64 {
 }
 
 impl LineBits for u128 {
-    fn deduce(tables: &mut Tables, line: &BitLine<u128>, clue: &Clue) -> Option<BitLine<u128>> {
+    fn deduce(tables: &mut Tables, line: &BitLine<u128>, clue: &[u16]) -> Option<BitLine<u128>> {
         let buffers = &mut tables.buffers;
         ensure_initialized::<u64>(&mut buffers.narrow);
         ensure_initialized::<u128>(&mut buffers.middle);
-        deduce_trimmed(
-            &mut buffers.narrow[0],
-            &mut buffers.middle[0],
-            line,
-            clue.numbers(),
-        )
+        deduce_trimmed(&mut buffers.narrow[0], &mut buffers.middle[0], line, clue)
     }
 
     fn write_lookaheads(
         tables: &mut Tables,
         buffers: &mut LookaheadBuffers<u128>,
         line: &BitLine<u128>,
-        clue: &Clue,
+        clue: &[u16],
         lookaheads: &mut [Lookahead<u128>],
     ) {
         let middle = &mut tables.buffers.middle;
@@ -339,24 +316,19 @@ impl LineBits for Bits256 {
     fn deduce(
         tables: &mut Tables,
         line: &BitLine<Bits256>,
-        clue: &Clue,
+        clue: &[u16],
     ) -> Option<BitLine<Bits256>> {
         let buffers = &mut tables.buffers;
         ensure_initialized::<u64>(&mut buffers.narrow);
         ensure_initialized::<Bits256>(&mut buffers.wide);
-        deduce_trimmed(
-            &mut buffers.narrow[0],
-            &mut buffers.wide[0],
-            line,
-            clue.numbers(),
-        )
+        deduce_trimmed(&mut buffers.narrow[0], &mut buffers.wide[0], line, clue)
     }
 
     fn write_lookaheads(
         tables: &mut Tables,
         buffers: &mut LookaheadBuffers<Bits256>,
         line: &BitLine<Bits256>,
-        clue: &Clue,
+        clue: &[u16],
         lookaheads: &mut [Lookahead<Bits256>],
     ) {
         let wide = &mut tables.buffers.wide;
@@ -367,9 +339,9 @@ impl LineBits for Bits256 {
 
 /// Returns the deduced line, or `None` if there is no placing, using sets of type `W`, which have
 /// to hold the line and the numbers of the clue.
-fn deduce_as<W: LineBits>(tables: &mut Tables, line: &Line, clue: &Clue) -> Option<Line>
+fn deduce_as<W: LineBits>(tables: &mut Tables, line: &Line, clue: &[u16]) -> Option<Line>
     requires line { length line.now ≤ W.WIDTH }
-    requires clue { All (λ number. number ≤ W.WIDTH) clue.now }
+    requires clue { is_clue W.WIDTH clue.now ≡ true }
     ensures answer { result ≡ deduced line.now clue.now }
     ensures tables { tables.new ≡ tables.old }
 {
@@ -383,14 +355,16 @@ fn deduce_as<W: LineBits>(tables: &mut Tables, line: &Line, clue: &Clue) -> Opti
 /// and is unknown if they differ; `None` if there is no placing. Uses the narrowest sets that hold
 /// both the line and the numbers of the clue. The line may have no more cells than `tables` was
 /// made for.
+#[tactic(auto, using(crate::proofs::LineCells::clue_within))]
 pub fn deduce(tables: &mut Tables, line: &Line, clue: &Clue) -> Option<Line>
     requires { length line.now ≤ tables.old }
     ensures answer { result ≡ deduced line.now clue.now }
     ensures tables { tables.new ≡ tables.old }
 {
-    match SetWidth::of(bits_needed(line.len(), clue.numbers())) {
-        SetWidth::Narrow => deduce_as::<u64>(tables, line, clue),
-        SetWidth::Middle => deduce_as::<u128>(tables, line, clue),
-        SetWidth::Wide => deduce_as::<Bits256>(tables, line, clue),
+    let numbers = clue.numbers();
+    match SetWidth::of(bits_needed(line.len(), numbers)) {
+        SetWidth::Narrow => deduce_as::<u64>(tables, line, numbers),
+        SetWidth::Middle => deduce_as::<u128>(tables, line, numbers),
+        SetWidth::Wide => deduce_as::<Bits256>(tables, line, numbers),
     }
 }

@@ -1,10 +1,10 @@
 //! The known cells at both ends of a line, which are trimmed before it is deduced.
 
-ghost use Rattle.std.specs.Prelude.{◌≡◌, ◌+◌, ◌<◌, ◌≤◌, ℕ, length, reverse};
+ghost use Rattle.std.specs.Prelude.{◌≡◌, ◌+◌, ◌<◌, ◌≤◌, ℕ, length, reverse, true};
 ghost use Rattle.bit_sets.specs.Masks.{has};
+ghost use Rattle.grid_core.specs.Clues.{is_clue};
 ghost use Rattle.line_core.specs.steps.CluePrefix.{IsCluePrefix, mirrored_if};
 ghost use Rattle.line_core.specs.steps.Lookahead.{mirror_index};
-ghost use Rattle.line_core.specs.steps.Feasibility.{AreLengths};
 ghost use Rattle.line_core.specs.steps.KnownEnds.{AreKnown, IsInnerClue, IsKnownEnd, filled_first};
 
 use crate::clue_prefix::match_clue_prefix;
@@ -91,7 +91,7 @@ fn end_runs<W: BitSet, const MIRRORED: bool>(
     clue: &[u16],
 ) -> Option<usize>
     requires cells { cells ≤ length line.now }
-    requires clue { AreLengths W.WIDTH clue.now }
+    requires clue { is_clue W.WIDTH clue.now ≡ true }
     ensures { IsCluePrefix
         (filled_first cells (mirrored_if MIRRORED line.now))
         (mirrored_if MIRRORED clue.now) result }
@@ -114,7 +114,7 @@ pub fn inner_clue_range<W: BitSet>(
 ) -> Option<(usize, usize)>
     requires front { IsKnownEnd line.now front }
     requires back { IsKnownEnd (reverse line.now) back }
-    requires clue { AreLengths W.WIDTH clue.now }
+    requires clue { is_clue W.WIDTH clue.now ≡ true }
     ensures { IsInnerClue
         (filled_first front line.now) (filled_first back (reverse line.now)) clue.now result }
 {

@@ -1,7 +1,8 @@
 //! Lookahead tables: what a line deduces after one more of its cells is known.
 
-ghost use Rattle.std.specs.Prelude.{◌≡◌, ◌≢◌, ◌↔◌, ◌<◌, ◌≤◌, ℕ, List, None, Some, length, vec_capacity, vec_len, All, IfOk, IfSome, IsTrue};
+ghost use Rattle.std.specs.Prelude.{◌≡◌, ◌≢◌, ◌↔◌, ◌<◌, ◌≤◌, ℕ, List, None, Some, length, vec_capacity, vec_len, true, IfOk, IfSome, IsTrue};
 ghost use Rattle.bit_sets.specs.Masks.{IsMaskOf};
+ghost use Rattle.grid_core.specs.Clues.{is_clue};
 ghost use Rattle.line_core.specs.Deduction.{deduced};
 ghost use Rattle.line_core.specs.Lookahead.{AreInert, HasOneCellMore, IsTableOf, AreLookaheadsOf, inert_if};
 ghost use Rattle.line_core.specs.steps.Lookahead.{IsNewTable};
@@ -12,7 +13,7 @@ use crate::deduction::{LineBits, Tables};
 use crate::lookahead::{Lookahead, MAX_LOOKAHEAD_LEN, Support};
 use crate::lookahead_buffers::LookaheadBuffers;
 use bit_sets::BitSet;
-use grid_core::{BitLine, Cell, Clue, NoMemory};
+use grid_core::{BitLine, Cell, NoMemory};
 use std::alloc::Global;
 use std::marker::Model;
 
@@ -148,9 +149,9 @@ impl<W: LineBits> LookaheadTable<W> {
         tables: &mut Tables,
         buffers: &mut LookaheadBuffers<W>,
         line: &BitLine<W>,
-        clue: &Clue,
+        clue: &[u16],
     )
-        requires clue { All (λ number. number ≤ W.WIDTH) clue.now }
+        requires clue { is_clue W.WIDTH clue.now ≡ true }
         requires short { length line.now ≤ MAX_LOOKAHEAD_LEN }
         requires buffers { length clue.now ≤ buffers.old.max_runs }
         ensures table { IsNewTable clue.now line.now self.new }
@@ -166,17 +167,17 @@ impl<W: LineBits> LookaheadTable<W> {
 
     /// Builds the table of `line` and `clue`, unless it is the table of that line already. Clears
     /// the table if the line has more than `MAX_LOOKAHEAD_LEN` cells, or the clue more runs than
-    /// the buffers are for. No number of the clue may exceed the width of the sets, and the old
-    /// table has to be of the same clue.
+    /// the buffers are for. The clue has at most 128 numbers, each from 1 to the width of the sets,
+    /// and the old table has to be of the same clue.
     #[tactic(auto, using(crate::proofs::LookaheadLemmas::empty_table))]
     pub fn write(
         &mut self,
         tables: &mut Tables,
         buffers: &mut LookaheadBuffers<W>,
         line: &BitLine<W>,
-        clue: &Clue,
+        clue: &[u16],
     )
-        requires clue { All (λ number. number ≤ W.WIDTH) clue.now }
+        requires clue { is_clue W.WIDTH clue.now ≡ true }
         requires table { IsTableOf clue.now self.old }
         ensures table { IsTableOf clue.now self.new }
         ensures line { length line.now ≤ MAX_LOOKAHEAD_LEN → length clue.now ≤ buffers.old.max_runs
@@ -188,7 +189,7 @@ impl<W: LineBits> LookaheadTable<W> {
             return;
         }
         self.line = None;
-        if line.len() <= MAX_LOOKAHEAD_LEN && clue.numbers().len() <= buffers.max_runs() {
+        if line.len() <= MAX_LOOKAHEAD_LEN && clue.len() <= buffers.max_runs() {
             self.write_new(tables, buffers, line, clue);
         }
     }

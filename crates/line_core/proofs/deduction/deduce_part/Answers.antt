@@ -1,7 +1,11 @@
--- `deduce_part`: the deduced part is as long as the part.
-use Rattle.line_core.proofs.Names.{arith}
+-- `deduce_part`: the numbers are within the sets, and the deduced part is as long as the part.
+use Rattle.line_core.proofs.Names.{arith, rules}
+use Rattle.line_core.proofs.LineCells.{clue_within}
 use Rattle.line_core.proofs.DeductionLaws.{length-deduced}
 use Rattle.line_core.proofs.deduction.deduce_part.Goals as goal
+
+pub deduce_numbers-requires-2 : goal.deduce_numbers-requires-2
+deduce_numbers-requires-2 g c = search (rules, clue_within)
 
 pub resized-requires-in-Some : goal.resized-requires-in-Some
 resized-requires-in-Some g c =

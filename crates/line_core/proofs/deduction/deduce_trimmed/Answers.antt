@@ -1,6 +1,6 @@
 -- `deduce_trimmed`: what is deduced of the cells between the known ends is deduced of the line.
 use Rattle.line_core.proofs.Names.{rules, ◌-◌}
-use Rattle.line_core.proofs.KnownEnds.{lengths_part, inner_dead, inner_more, inner_none, inner_some, inner_within}
+use Rattle.line_core.proofs.KnownEnds.{clue_part, inner_dead, inner_more, inner_none, inner_some, inner_within}
 use Rattle.line_core.proofs.deduction.deduce_trimmed.Goals as goal
 
 pub returns-in_err-from : goal.returns-in_err-from
@@ -10,7 +10,7 @@ returns-in_err-from g c =
 
 pub deduce_part-requires : goal.deduce_part-requires
 deduce_part-requires g c =
-    let are = lengths_part _ (c.in_ok-from.to - c.in_ok-from.from) c.in_ok-from.from c.args.clue.now c.requires.clue in search rules
+    let part = clue_part _ (c.in_ok-from.to - c.in_ok-from.from) c.in_ok-from.from c.args.clue.now c.requires in search rules
 
 pub with_slice-requires-clause-within : goal.with_slice-requires-clause-within
 with_slice-requires-clause-within g c =

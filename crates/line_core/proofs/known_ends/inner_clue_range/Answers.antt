@@ -1,6 +1,6 @@
 -- `inner_clue_range`: no run continues from a known end into the inner cells.
 use Rattle.line_core.proofs.Names.{length, ◌-◌}
-use Rattle.line_core.proofs.KnownEnds.{none_front, none_back, some_left, lengths_part}
+use Rattle.line_core.proofs.KnownEnds.{none_front, none_back, some_left, clue_part}
 use Rattle.line_core.proofs.known_ends.inner_clue_range.Goals as goal
 
 pub returns-in_err-from : goal.returns-in_err-from
@@ -9,7 +9,7 @@ returns-in_err-from g c =
 
 pub end_runs-requires-2-clause-clue : goal.end_runs-requires-2-clause-clue
 end_runs-requires-2-clause-clue g c =
-    lengths_part _ (length c.args.clue.now - c.in_ok-from.from) c.in_ok-from.from c.args.clue.now c.requires.clue
+    clue_part _ (length c.args.clue.now - c.in_ok-from.from) c.in_ok-from.from c.args.clue.now c.requires.clue
 
 pub returns-in_err-runs : goal.returns-in_err-runs
 returns-in_err-runs g c =

@@ -1,5 +1,0 @@
--- The ghost argument of the call of `deduce_numbers` in `deduce_within`: the line.
-use Rattle.line_core.proofs.deduction.deduce_within.Given as goal
-
-abbrev pub ghost-deduce_numbers : goal.ghost-deduce_numbers
-ghost-deduce_numbers g a = a.line.now
