@@ -148,10 +148,10 @@ fn deduce_numbers<W: BitSet>(
     deduced_from(line.len(), fillable, blankable)
 }
 
-/// Returns the deduced line, or `None` if there is no placing. Uses sets of 64 indices if these
-/// hold the line and the numbers of the clue, and sets of type `W` if not. `narrow` and `gaps` are
-/// buffers for the suffix gaps in these sets.
-fn deduce_part<W: BitSet>(
+/// Returns the deduced line, or `None` if there is no placing. Uses sets of 64 indices, on which
+/// each operation costs less, if these hold the line and the numbers of the clue, and sets of type
+/// `W` if not. `narrow` and `gaps` are buffers for the suffix gaps in these sets.
+fn deduce_narrowed<W: BitSet>(
     narrow: &mut [u64; MAX_GAPS],
     gaps: &mut [W::Stored; MAX_GAPS],
     line: &BitLine<W>,
@@ -183,12 +183,11 @@ fn deduce_trimmed<W: BitSet>(
 {
     let (front, back) = known_ends(line);
     if front == 0 && back == 0 {
-        return deduce_numbers(gaps, line, clue);
+        return deduce_narrowed(narrow, gaps, line, clue);
     }
     let (from, to) = inner_clue_range(line, front, back, clue)?;
-    // What remains may fit into sets of 64 indices, on which each operation costs less.
     let inner = line.slice(front, line.len() - front - back);
-    match deduce_part(narrow, gaps, &inner, &clue[from..to]) {
+    match deduce_narrowed(narrow, gaps, &inner, &clue[from..to]) {
         None => None,
         Some(deduced) => Some(line.with_slice(front, &deduced)),
     }

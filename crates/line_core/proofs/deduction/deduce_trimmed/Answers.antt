@@ -8,8 +8,8 @@ returns-in_err-from g c =
     let ends = c.known_ends-front.ensures in
     rw c.from_residual.ensures (inner_dead c.args.line.now _ _ ends.front ends.back ends.inner c.args.clue.now c.in_err-from.ensures)
 
-pub deduce_part-requires : goal.deduce_part-requires
-deduce_part-requires g c =
+pub deduce_narrowed-requires-2 : goal.deduce_narrowed-requires-2
+deduce_narrowed-requires-2 g c =
     let part = clue_part _ (c.in_ok-from.to - c.in_ok-from.from) c.in_ok-from.from c.args.clue.now c.requires in search rules
 
 pub with_slice-requires-clause-within : goal.with_slice-requires-clause-within

@@ -1,8 +1,8 @@
--- `deduce_part`: the numbers are within the sets, and the deduced part is as long as the part.
+-- `deduce_narrowed`: the numbers are within the narrow sets, and so is the deduced line, as long as the line.
 use Rattle.line_core.proofs.Names.{arith, rules}
 use Rattle.line_core.proofs.LineCells.{clue_within}
 use Rattle.line_core.proofs.DeductionLaws.{length-deduced}
-use Rattle.line_core.proofs.deduction.deduce_part.Goals as goal
+use Rattle.line_core.proofs.deduction.deduce_narrowed.Goals as goal
 
 pub deduce_numbers-requires-2 : goal.deduce_numbers-requires-2
 deduce_numbers-requires-2 g c = search (rules, clue_within)
