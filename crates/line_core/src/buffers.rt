@@ -1,20 +1,20 @@
-//! The buffers for the gaps of a clue.
+//! The buffers for the suffix sets of a line.
 
 ghost use Rattle.std.specs.Prelude.{◌<◌, vec_capacity, vec_len};
 
-use crate::suffix_gaps::MAX_GAPS;
+use crate::suffixes::MAX_GAPS;
 use bit_sets::{BitSet, Bits256, WordPair};
 use grid_core::NoMemory;
 use std::alloc::Global;
 
-/// The buffers for the gaps of a clue, one for each set width. Each is allocated once, and
+/// The buffers for the suffix sets of a line, one for each set width. Each is allocated once, and
 /// initialized on first use.
-pub struct GapBuffers {
-    /// Gaps in sets of 64 indices.
+pub struct SuffixBuffers {
+    /// Sets of 64 indices.
     pub narrow: Vec<[u64; MAX_GAPS]>,
-    /// Gaps in sets of 128 indices.
+    /// Sets of 128 indices.
     pub middle: Vec<[WordPair; MAX_GAPS]>,
-    /// Gaps in sets of 256 indices.
+    /// Sets of 256 indices.
     pub wide: Vec<[Bits256; MAX_GAPS]>,
     ghost narrow_fits: { 0 < vec_capacity narrow },
     ghost middle_fits: { 0 < vec_capacity middle },
@@ -23,9 +23,9 @@ pub struct GapBuffers {
 
 /// Written by hand so that callers' proofs see one call: a derived drop is expanded at each exit of
 /// each caller.
-impl Drop for GapBuffers {
+impl Drop for SuffixBuffers {
     fn drop(self) {
-        let GapBuffers {
+        let SuffixBuffers {
             narrow: _,
             middle: _,
             wide: _,
@@ -33,10 +33,10 @@ impl Drop for GapBuffers {
     }
 }
 
-impl GapBuffers {
+impl SuffixBuffers {
     /// Allocates all three buffers. Returns `NoMemory` if an allocation fails.
-    pub fn new(alloc: Global) -> Result<GapBuffers, NoMemory> {
-        Ok(GapBuffers {
+    pub fn new(alloc: Global) -> Result<SuffixBuffers, NoMemory> {
+        Ok(SuffixBuffers {
             narrow: Vec::with_capacity(alloc, 1)?,
             middle: Vec::with_capacity(alloc, 1)?,
             wide: Vec::with_capacity(alloc, 1)?,

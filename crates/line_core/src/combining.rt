@@ -11,7 +11,7 @@ ghost use Rattle.line_core.specs.steps.Feasibility.{IsFeasibleEnd};
 
 use crate::lookahead::{Lookahead, Support};
 use crate::prefix_supports::{ROW_STRIDE, run_and_prefix};
-use crate::suffix_gaps::MAX_GAPS;
+use crate::suffixes::MAX_GAPS;
 use bit_sets::{BitSet, prefix};
 
 /// Adds `support` to the lookahead of each cell in `from..to`: to the support after that cell is

@@ -7,11 +7,11 @@ ghost use Rattle.bit_sets.specs.Masks.{IsMaskOf};
 ghost use Rattle.line_core.specs.Deduction.{deduced};
 ghost use Rattle.line_core.specs.Lookahead.{HasEntries, WritesLookaheads};
 ghost use Rattle.line_core.specs.steps.PrefixScan.{IsDomainOf, padded};
-ghost use Rattle.line_core.specs.steps.Feasibility.{AreLengths, AreSuffixGaps, IsFillable, IsBlankable};
+ghost use Rattle.line_core.specs.steps.Feasibility.{AreLengths, AreSuffixes, IsFillable, IsBlankable};
 ghost use Rattle.line_core.specs.Support.{deduced_from};
 
 use crate::Line;
-use crate::buffers::{GapBuffers, ensure_initialized};
+use crate::buffers::{SuffixBuffers, ensure_initialized};
 use crate::domains::{LineDomain, padded};
 use crate::known_ends::{inner_clue_range, known_ends};
 use crate::lookahead::Lookahead;
@@ -19,9 +19,7 @@ use crate::lookahead_buffers::LookaheadBuffers;
 use crate::overlaps::{is_unknown, unknown_line_support};
 use crate::prefix_scan::PrefixScan;
 use crate::single_run::single_run_support;
-use crate::suffix_gaps::{
-    MAX_GAPS, feasible_ends, feasible_inner_ends, suffix_gap, write_suffix_gaps,
-};
+use crate::suffixes::{MAX_GAPS, first_suffix_gap, suffix_ends, write_suffixes};
 use crate::widths::{SetWidth, bits_needed};
 use bit_sets::{BitSet, Bits256, LEVELS, add_spread, fit_table, prefix, spread_levels};
 use grid_core::{BitLine, Clue, MAX_RUNS, MAX_SIDE, NoMemory};
@@ -29,54 +27,43 @@ use std::alloc::Global;
 use std::marker::Model;
 
 /// Returns the cells that are filled in some placing, and the cells that are blank in some, by a
-/// prefix scan of the line. `gaps` are its suffix gaps, as `write_suffix_gaps` writes them.
+/// prefix scan of the line. `suffixes` are its suffix sets, as `write_suffixes` writes them.
 fn scanned_support<W: BitSet>(
     domain: &LineDomain<W>,
     clue: &[u16],
-    gaps: &[W::Stored; MAX_GAPS],
+    suffixes: &[W::Stored; MAX_GAPS],
 ) -> (W, W)
     ghost line: { List Cell }
     requires domain { IsDomainOf W.WIDTH line domain.now.len
         (W.bits domain.now.not_filled) (W.bits domain.now.not_blank) }
     requires clue { AreLengths W.WIDTH clue.now }
     requires count { length clue.now ≤ MAX_RUNS }
-    requires suffix { AreSuffixGaps line clue.now (map W.stored_bits gaps.now) }
+    requires suffixes { AreSuffixes line clue.now (map W.stored_bits suffixes.now) }
     ensures filled { IsMaskOf (IsFillable line clue.now) (W.bits result.0) }
     ensures blank { IsMaskOf (IsBlankable line clue.now) (W.bits result.1) }
 {
     let fits = fit_table(domain.not_blank);
     let mut scan = PrefixScan::new(domain);
-    let mut blankable = scan.gap().intersection(suffix_gap(clue, gaps, 0));
-    if clue.is_empty() {
-        return (W::empty(), blankable);
-    }
+    let mut blankable = scan.gap().intersection(first_suffix_gap(clue, suffixes));
     // The ends of each run are collected by its length, and all are extended to whole runs at once
     // in the end.
     let mut spread = [W::empty(); LEVELS];
-    // The last run is scanned after the loop: only it may end at the last cell of the line, and the
-    // others are spared the test for that.
-    let last = clue.len() - 1;
-    for j in 0..last {
+    for j in 0..clue.len() {
         let ends = scan.next_run(&fits, clue[j]);
-        let suffix = suffix_gap(clue, gaps, j + 1);
-        let feasible = feasible_inner_ends(clue, j, ends, suffix);
+        let suffix = suffix_ends(clue, suffixes, j);
+        let feasible = ends.intersection(suffix);
         add_spread(&mut spread, feasible, clue[j]);
-        blankable = blankable.union(scan.gap().intersection(suffix));
+        blankable = blankable.union(scan.gap().intersection(suffix.shifted_up(1)));
     }
-    let last_ends = scan.next_run(&fits, clue[last]);
-    let after = suffix_gap(clue, gaps, clue.len());
-    let last_feasible = feasible_ends(domain, clue, last, last_ends, after);
-    add_spread(&mut spread, last_feasible, clue[last]);
-    blankable = blankable.union(scan.gap().intersection(after));
     (spread_levels(&mut spread), blankable)
 }
 
 /// Returns the cells that are filled in some placing, and the cells that are blank in some, of any
-/// line. `gaps` is a buffer for the suffix gaps.
+/// line. `suffixes` is a buffer for the suffix sets.
 fn general_support<W: BitSet>(
     domain: &LineDomain<W>,
     clue: &[u16],
-    gaps: &mut [W::Stored; MAX_GAPS],
+    suffixes: &mut [W::Stored; MAX_GAPS],
 ) -> (W, W)
     ghost line: { List Cell }
     requires domain { IsDomainOf W.WIDTH line domain.now.len
@@ -89,17 +76,17 @@ fn general_support<W: BitSet>(
     if clue.len() == 1 {
         return single_run_support(domain, clue);
     }
-    write_suffix_gaps(domain, clue, gaps);
-    scanned_support(domain, clue, gaps)
+    write_suffixes(domain, clue, suffixes);
+    scanned_support(domain, clue, suffixes)
 }
 
 /// Returns the cells that are filled in some placing, and the cells that are blank in some. A line
 /// whose cells are all unknown is computed directly; any other line is padded to the width of the
-/// sets, and scanned unless its clue is a single run. `gaps` is a buffer for the suffix gaps.
+/// sets, and scanned unless its clue is a single run. `suffixes` is a buffer for the suffix sets.
 fn line_support<W: BitSet>(
     line: &BitLine<W>,
     clue: &[u16],
-    gaps: &mut [W::Stored; MAX_GAPS],
+    suffixes: &mut [W::Stored; MAX_GAPS],
 ) -> (W, W)
     ghost cells: { List Cell }
     requires cells { line.now ≡ cells }
@@ -113,7 +100,7 @@ fn line_support<W: BitSet>(
     }
     // A padded line is mirrored without a shift. The appended cells are blank in each placing, so
     // they have to be removed from the second set only.
-    let (fillable, blankable) = general_support(&padded(&domain), clue, gaps);
+    let (fillable, blankable) = general_support(&padded(&domain), clue, suffixes);
     (fillable, blankable.intersection(prefix(domain.len)))
 }
 
@@ -134,26 +121,26 @@ pub fn deduced_from<W: BitSet>(len: u16, fillable: W, blankable: W) -> Option<Bi
     Some(BitLine::from_sets(len, filled, blank))
 }
 
-/// Returns the deduced line, or `None` if there is no placing. `gaps` is a buffer for the suffix
-/// gaps.
+/// Returns the deduced line, or `None` if there is no placing. `suffixes` is a buffer for the suffix
+/// sets.
 fn deduce_numbers<W: BitSet>(
-    gaps: &mut [W::Stored; MAX_GAPS],
+    suffixes: &mut [W::Stored; MAX_GAPS],
     line: &BitLine<W>,
     clue: &[u16],
 ) -> Option<BitLine<W>>
     requires { is_clue W.WIDTH clue.now ≡ true }
     ensures { result ≡ deduced line.now clue.now }
 {
-    let (fillable, blankable) = line_support(line, clue, gaps);
+    let (fillable, blankable) = line_support(line, clue, suffixes);
     deduced_from(line.len(), fillable, blankable)
 }
 
 /// Returns the deduced line, or `None` if there is no placing. Uses sets of 64 indices, on which
 /// each operation costs less, if these hold the line and the numbers of the clue, and sets of type
-/// `W` if not. `narrow` and `gaps` are buffers for the suffix gaps in these sets.
+/// `W` if not. `narrow` and `suffixes` are buffers for the suffix sets of these types.
 fn deduce_narrowed<W: BitSet>(
     narrow: &mut [u64; MAX_GAPS],
-    gaps: &mut [W::Stored; MAX_GAPS],
+    suffixes: &mut [W::Stored; MAX_GAPS],
     line: &BitLine<W>,
     clue: &[u16],
 ) -> Option<BitLine<W>>
@@ -161,7 +148,7 @@ fn deduce_narrowed<W: BitSet>(
     ensures { result ≡ deduced line.now clue.now }
 {
     if bits_needed(line.len(), clue) > 64 {
-        return deduce_numbers(gaps, line, clue);
+        return deduce_numbers(suffixes, line, clue);
     }
     match deduce_numbers::<u64>(narrow, &line.resized(), clue) {
         None => None,
@@ -171,10 +158,10 @@ fn deduce_narrowed<W: BitSet>(
 
 /// Returns the deduced line, or `None` if there is no placing. Trims the known cells at both ends
 /// first, if there are enough of them, and deduces the cells between them alone. `narrow` and
-/// `gaps` are buffers for the suffix gaps.
+/// `suffixes` are buffers for the suffix sets.
 fn deduce_trimmed<W: BitSet>(
     narrow: &mut [u64; MAX_GAPS],
-    gaps: &mut [W::Stored; MAX_GAPS],
+    suffixes: &mut [W::Stored; MAX_GAPS],
     line: &BitLine<W>,
     clue: &[u16],
 ) -> Option<BitLine<W>>
@@ -183,11 +170,11 @@ fn deduce_trimmed<W: BitSet>(
 {
     let (front, back) = known_ends(line);
     if front == 0 && back == 0 {
-        return deduce_narrowed(narrow, gaps, line, clue);
+        return deduce_narrowed(narrow, suffixes, line, clue);
     }
     let (from, to) = inner_clue_range(line, front, back, clue)?;
     let inner = line.slice(front, line.len() - front - back);
-    match deduce_narrowed(narrow, gaps, &inner, &clue[from..to]) {
+    match deduce_narrowed(narrow, suffixes, &inner, &clue[from..to]) {
         None => None,
         Some(deduced) => Some(line.with_slice(front, &deduced)),
     }
@@ -197,7 +184,7 @@ fn deduce_trimmed<W: BitSet>(
 #[derive(Drop)]
 pub struct Tables {
     longest: u16,
-    buffers: GapBuffers,
+    buffers: SuffixBuffers,
 }
 
 impl Model for Tables {
@@ -217,13 +204,13 @@ impl Tables {
     {
         Ok(Tables {
             longest,
-            buffers: GapBuffers::new(alloc)?,
+            buffers: SuffixBuffers::new(alloc)?,
         })
     }
 }
 
 /// Writes, for each unknown cell of a line of at most `MAX_LOOKAHEAD_LEN` cells, the line's support
-/// after that cell is filled and after it is made blank. `suffix` is a buffer for the suffix gaps.
+/// after that cell is filled and after it is made blank. `suffix` is a buffer for the suffix sets.
 /// The entries of known cells are unspecified.
 fn write_lookaheads_within<W: BitSet>(
     suffix: &mut [W::Stored; MAX_GAPS],

@@ -1,6 +1,6 @@
 //! The set operations of the prefix scan: the gaps between runs, and the ends of runs.
 
-ghost use Rattle.std.specs.Prelude.{◌≡◌, ◌-◌, ◌<◌, ◌≤◌, ◌⊎◌};
+ghost use Rattle.std.specs.Prelude.{◌≡◌, ◌-◌, ◌<◌, ◌≤◌};
 ghost use Rattle.bit_sets.specs.Masks.{Has, IsMaskOf, IsFlooded, IsShifted};
 
 use bit_sets::BitSet;
@@ -15,19 +15,15 @@ pub fn first_gap<W: BitSet>(not_filled: W) -> W
     W::flood(not_filled.intersection(W::first()), not_filled)
 }
 
-/// Returns the last cells of a run of `length` cells, one for each index at which it can start: one
-/// right after a cell of `gap` or in `line_start`, and in `fit_starts`, the indices from which
-/// `length` cells can be filled.
-#[tactic(auto, using(bit_sets::proofs::Doubling::one_within))]
-pub fn run_ends<W: BitSet>(gap: W, line_start: W, fit_starts: W, length: u16) -> W
+/// Returns the last cells of a run of `length` cells, one for each index of `starts` that is in
+/// `fit_starts`, the indices from which `length` cells can be filled.
+pub fn run_ends<W: BitSet>(starts: W, fit_starts: W, length: u16) -> W
     requires { (0 < length) × (length ≤ W.WIDTH) }
     ensures { IsMaskOf (IsShifted W.WIDTH
-        (λ s. (IsShifted W.WIDTH (Has (W.bits gap)) 1 s ⊎ Has (W.bits line_start) s)
-        × Has (W.bits fit_starts) s)
+        (λ s. Has (W.bits starts) s × Has (W.bits fit_starts) s)
         (length - 1)) (W.bits result) }
 {
-    let starts = gap.shifted_up(1).union(line_start).intersection(fit_starts);
-    starts.shifted_up(length - 1)
+    starts.intersection(fit_starts).shifted_up(length - 1)
 }
 
 /// Returns the gap after a run with the last cells `ends`: the cells after each of these, as long

@@ -18,7 +18,7 @@ mod prefix_scan;
 mod prefix_supports;
 mod single_run;
 mod starts;
-mod suffix_gaps;
+mod suffixes;
 mod widths;
 
 use bit_sets::Bits256;

@@ -14,7 +14,7 @@ use crate::combining::{EndSupports, combine_supports};
 use crate::domains::{LineDomain, reversed};
 use crate::lookahead::{Lookahead, Support};
 use crate::prefix_supports::{ROW_STRIDE, write_feasible, write_prefix_supports};
-use crate::suffix_gaps::MAX_GAPS;
+use crate::suffixes::MAX_GAPS;
 use bit_sets::BitSet;
 use grid_core::{BitLine, MAX_RUNS, NoMemory};
 use std::alloc::Global;
@@ -33,7 +33,7 @@ fn make_rows<W: BitSet>(table: &mut Vec<Support<W>>, runs: usize)
 }
 
 /// Writes the feasible gaps and the feasible ends of runs of the mirrored line, whose clue is
-/// `mirrored`. `suffix` is a buffer for the suffix gaps.
+/// `mirrored`. `suffix` is a buffer for the suffix sets.
 fn write_mirrored_feasible<W: BitSet>(
     domain: &LineDomain<W>,
     mirrored: &[u16],

@@ -14,7 +14,7 @@ ghost use Rattle.line_core.specs.steps.Combining.{AreMore, HasColour};
 use crate::domains::LineDomain;
 use crate::lookahead::Support;
 use crate::prefix_scan::PrefixScan;
-use crate::suffix_gaps::{MAX_GAPS, feasible_ends, suffix_gap, write_suffix_gaps};
+use crate::suffixes::{MAX_GAPS, first_suffix_gap, suffix_ends, write_suffixes};
 use bit_sets::{BitSet, fit_table, prefix};
 use grid_core::MAX_RUNS;
 
@@ -24,11 +24,11 @@ use grid_core::MAX_RUNS;
 pub const ROW_STRIDE: usize = 128;
 
 /// Writes the feasible gaps of a line, before each run and after the last one, and the feasible
-/// ends of each run. `suffix` is a buffer for the suffix gaps.
+/// ends of each run. `suffixes` is a buffer for the suffix sets.
 pub fn write_feasible<W: BitSet>(
     domain: &LineDomain<W>,
     clue: &[u16],
-    suffix: &mut [W::Stored; MAX_GAPS],
+    suffixes: &mut [W::Stored; MAX_GAPS],
     gaps: &mut [W::Stored; MAX_GAPS],
     ends: &mut [W::Stored; MAX_GAPS],
 )
@@ -40,17 +40,16 @@ pub fn write_feasible<W: BitSet>(
     ensures { AreFeasible line clue.now
         (map W.stored_bits gaps.new) (map W.stored_bits ends.new) }
 {
-    write_suffix_gaps(domain, clue, suffix);
+    write_suffixes(domain, clue, suffixes);
     let fits = fit_table(domain.not_blank);
     let mut scan = PrefixScan::new(domain);
-    let first = scan.gap().intersection(suffix_gap(clue, suffix, 0));
+    let first = scan.gap().intersection(first_suffix_gap(clue, suffixes));
     gaps[0] = first.to_stored();
     for j in 0..clue.len() {
         let run_ends = scan.next_run(&fits, clue[j]);
-        let after = suffix_gap(clue, suffix, j + 1);
-        let feasible = feasible_ends(domain, clue, j, run_ends, after);
-        let gap = scan.gap().intersection(after);
-        ends[j] = feasible.to_stored();
+        let suffix: W = suffix_ends(clue, suffixes, j);
+        let gap = scan.gap().intersection(suffix.shifted_up(1));
+        ends[j] = run_ends.intersection(suffix).to_stored();
         gaps[j + 1] = gap.to_stored();
     }
 }

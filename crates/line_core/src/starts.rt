@@ -6,14 +6,14 @@ ghost use Rattle.bit_sets.specs.Masks.{Has};
 ghost use Rattle.line_core.specs.RunStarts.{leftmost, rightmost};
 ghost use Rattle.line_core.specs.steps.Outermost.{outermost, IsAsFar, IsOuterStart};
 ghost use Rattle.line_core.specs.steps.PrefixScan.{IsDomainOf};
-ghost use Rattle.line_core.specs.steps.Feasibility.{AreLengths, AreSuffixGaps, HasPlacing};
+ghost use Rattle.line_core.specs.steps.Feasibility.{AreLengths, AreSuffixes, HasPlacing};
 
 use crate::Line;
-use crate::buffers::{GapBuffers, ensure_initialized};
+use crate::buffers::{SuffixBuffers, ensure_initialized};
 use crate::domains::LineDomain;
 use crate::gaps::first_gap;
 use crate::prefix_scan::PrefixScan;
-use crate::suffix_gaps::{MAX_GAPS, feasible_ends, suffix_gap, write_suffix_gaps};
+use crate::suffixes::{MAX_GAPS, first_suffix_gap, suffix_ends, write_suffixes};
 use crate::widths::{SetWidth, bits_needed};
 use bit_sets::{BitSet, Bits256, fit_table};
 use grid_core::{BitLine, Clue, MAX_RUNS, MAX_SIDE, NoMemory};
@@ -42,21 +42,21 @@ fn outermost_index<W: BitSet>(direction: Direction, indices: W) -> u16
 }
 
 /// Reports whether a line has a placing for an empty clue, that is, whether its first cell can be
-/// blank without any run before or after it. `gaps` are its suffix gaps.
+/// blank without any run before or after it. `suffixes` are its suffix sets.
 fn may_have_no_run<W: BitSet>(
     domain: &LineDomain<W>,
     clue: &[u16],
-    gaps: &[W::Stored; MAX_GAPS],
+    suffixes: &[W::Stored; MAX_GAPS],
 ) -> bool
     ghost line: { List Cell }
     requires domain { IsDomainOf W.WIDTH line domain.now.len
         (W.bits domain.now.not_filled) (W.bits domain.now.not_blank) }
     requires clue { length clue.now ≡ 0 }
-    requires suffix { AreSuffixGaps line clue.now (map W.stored_bits gaps.now) }
+    requires suffix { AreSuffixes line clue.now (map W.stored_bits suffixes.now) }
     ensures { MatchBool result (HasPlacing line clue.now) (HasPlacing line clue.now → ⊥) }
 {
     let gap = first_gap(domain.not_filled);
-    let blankable = gap.intersection(suffix_gap(clue, gaps, 0));
+    let blankable = gap.intersection(first_suffix_gap(clue, suffixes));
     blankable.contains(0)
 }
 
@@ -67,13 +67,13 @@ struct StartList {
 }
 
 /// Writes, for each run, the start that is furthest in a direction among all placings. Returns
-/// whether there is a placing; if not, the contents of `list` are unspecified. `gaps` are the
-/// suffix gaps of the line.
+/// whether there is a placing; if not, the contents of `list` are unspecified. `suffixes` are the
+/// suffix sets of the line.
 fn write_starts<W: BitSet>(
     direction: Direction,
     domain: &LineDomain<W>,
     clue: &[u16],
-    gaps: &[W::Stored; MAX_GAPS],
+    suffixes: &[W::Stored; MAX_GAPS],
     list: &mut StartList,
 ) -> bool
     ghost line: { List Cell }
@@ -81,7 +81,7 @@ fn write_starts<W: BitSet>(
         (W.bits domain.now.not_filled) (W.bits domain.now.not_blank) }
     requires clue { AreLengths W.WIDTH clue.now }
     requires count { (0 < length clue.now) × (length clue.now ≤ MAX_RUNS) }
-    requires suffix { AreSuffixGaps line clue.now (map W.stored_bits gaps.now) }
+    requires suffix { AreSuffixes line clue.now (map W.stored_bits suffixes.now) }
     ensures starts { MatchBool result
         ((j : ℕ) → j < length clue.now
         → IsOuterStart direction line clue.now j (slice_index list.new.starts j))
@@ -94,8 +94,7 @@ fn write_starts<W: BitSet>(
     // placing, so the choice for one run does not restrict those for others.
     for j in 0..clue.len() {
         let ends = scan.next_run(&fits, clue[j]);
-        let suffix = suffix_gap(clue, gaps, j + 1);
-        let feasible = feasible_ends(domain, clue, j, ends, suffix);
+        let feasible = ends.intersection(suffix_ends(clue, suffixes, j));
         if feasible.is_empty() {
             return false;
         }
@@ -105,13 +104,13 @@ fn write_starts<W: BitSet>(
 }
 
 /// Writes the starts of the placing that is outermost in a direction, using sets of type `W`.
-/// Returns whether there is a placing; if not, the contents of `list` are unspecified. `gaps` is a
-/// buffer for the suffix gaps.
+/// Returns whether there is a placing; if not, the contents of `list` are unspecified. `suffixes` is a
+/// buffer for the suffix sets.
 fn find_starts<W: BitSet>(
     direction: Direction,
     line: &BitLine<W>,
     clue: &[u16],
-    gaps: &mut [W::Stored; MAX_GAPS],
+    suffixes: &mut [W::Stored; MAX_GAPS],
     list: &mut StartList,
 ) -> bool
     ghost cells: { List Cell }
@@ -123,11 +122,11 @@ fn find_starts<W: BitSet>(
         (outermost direction cells clue.now ≡ None) }
 {
     let domain = LineDomain::of(line);
-    write_suffix_gaps(&domain, clue, gaps);
+    write_suffixes(&domain, clue, suffixes);
     if clue.is_empty() {
-        may_have_no_run(&domain, clue, gaps)
+        may_have_no_run(&domain, clue, suffixes)
     } else {
-        write_starts(direction, &domain, clue, gaps, list)
+        write_starts(direction, &domain, clue, suffixes, list)
     }
 }
 
@@ -138,7 +137,7 @@ fn find_by_width(
     direction: Direction,
     line: &Line,
     clue: &[u16],
-    buffers: &mut GapBuffers,
+    buffers: &mut SuffixBuffers,
     list: &mut StartList,
 ) -> bool
     requires clue { AreLengths MAX_SIDE clue.now }
@@ -150,18 +149,18 @@ fn find_by_width(
     match SetWidth::of(bits_needed(line.len(), clue)) {
         SetWidth::Narrow => {
             ensure_initialized::<u64>(&mut buffers.narrow);
-            let gaps = &mut buffers.narrow[0];
-            find_starts::<u64>(direction, &line.resized(), clue, gaps, list)
+            let suffixes = &mut buffers.narrow[0];
+            find_starts::<u64>(direction, &line.resized(), clue, suffixes, list)
         }
         SetWidth::Middle => {
             ensure_initialized::<u128>(&mut buffers.middle);
-            let gaps = &mut buffers.middle[0];
-            find_starts::<u128>(direction, &line.resized(), clue, gaps, list)
+            let suffixes = &mut buffers.middle[0];
+            find_starts::<u128>(direction, &line.resized(), clue, suffixes, list)
         }
         SetWidth::Wide => {
             ensure_initialized::<Bits256>(&mut buffers.wide);
-            let gaps = &mut buffers.wide[0];
-            find_starts::<Bits256>(direction, &line.resized(), clue, gaps, list)
+            let suffixes = &mut buffers.wide[0];
+            find_starts::<Bits256>(direction, &line.resized(), clue, suffixes, list)
         }
     }
 }
@@ -172,7 +171,7 @@ fn find_by_width(
 pub struct Starts {
     count: usize,
     list: StartList,
-    buffers: GapBuffers,
+    buffers: SuffixBuffers,
 }
 
 impl Model for Starts {
@@ -197,7 +196,7 @@ impl Starts {
             list: StartList {
                 starts: [0; MAX_RUNS],
             },
-            buffers: GapBuffers::new(alloc)?,
+            buffers: SuffixBuffers::new(alloc)?,
         })
     }
 

@@ -37,6 +37,12 @@ MayBe line filled i = (i < length line) × (allows (slice_index_or line i Unknow
 abbrev pub IsGapAfter : List Cell → List ℕ → ℕ → Type 0
 IsGapAfter line runs i = MayBe line false i × HasPlacing (reversed_prefix Unknown line i) runs
 
+-- the next run after `runs`, of which the last one comes first, may start at `s` in sets of `width`
+-- indices, as far as the cells before allow: the last of these has to be blank
+abbrev pub IsNextStart : ℕ → List Cell → List ℕ → ℕ → Type 0
+IsNextStart width line runs s =
+    (s < width) × (s ≤ length line) × MayBeginBlank (reversed_prefix Unknown line s) runs
+
 -- a run of `number` cells can start at `s`: these cells can be filled, and the cells before, of
 -- which the last one has to be blank, can have exactly `runs`, of which the last one comes first
 abbrev pub IsStartAfter : List Cell → List ℕ → ℕ → ℕ → Type 0
@@ -53,11 +59,14 @@ IsEndAfter line runs number e = (number ≤ e + 1) × IsStartAfter line runs num
 abbrev pub IsPrefixGap : List Cell → List ℕ → ℕ → ℕ → Type 0
 IsPrefixGap line clue j i = IsGapAfter line (reversed_prefix 0 clue j) i
 
--- `gaps` have the prefix gaps of the mirrored line and clue, before each run and after the last one
-abbrev pub AreReversedGaps : List Cell → List ℕ → List ℕ → Type 0
-AreReversedGaps line clue gaps =
-    (j : ℕ) → j ≤ length clue
-    → IsMaskOf (IsPrefixGap (reverse line) (reverse clue) j) (slice_index gaps j)
+-- `masks` have the next starts of the mirrored line before each run of the mirrored clue, and the
+-- prefix gap after the last one
+pub record AreReversedSuffixes (width : ℕ) (line : List Cell) (clue masks : List ℕ) : Type 0 where
+  pub starts : (k : ℕ) → k < length clue
+      → IsMaskOf (IsNextStart width (reverse line) (reversed_prefix 0 (reverse clue) k))
+      (slice_index masks k)
+  pub gap : IsMaskOf (IsPrefixGap (reverse line) (reverse clue) (length clue))
+      (slice_index masks (length clue))
 
 -- each set of `new` is that of `old`, mirrored within a line of `len` cells
 abbrev pub AreReversedMasks : ℕ → List ℕ → List ℕ → Type 0
@@ -76,11 +85,18 @@ IsEnd line clue j e = IsEndAfter line (reversed_prefix 0 clue j) (slice_index_or
 abbrev pub IsSuffixGap : List Cell → List ℕ → ℕ → ℕ → Type 0
 IsSuffixGap line clue j i = MayBe line false i × HasPlacing (drop (i + 1) line) (drop j clue)
 
--- `gaps` have the suffix gaps before each run and after the last one, the last one first
-abbrev pub AreSuffixGaps : List Cell → List ℕ → List ℕ → Type 0
-AreSuffixGaps line clue gaps =
-    (j : ℕ) → j ≤ length clue
-    → IsMaskOf (IsSuffixGap line clue j) (slice_index gaps (length clue - j))
+-- run `j` may end at `e`, as far as the cells after allow: the first of these has to be blank, and
+-- they can have exactly the runs after it
+abbrev pub IsSuffixEnd : List Cell → List ℕ → ℕ → ℕ → Type 0
+IsSuffixEnd line clue j e =
+    (e < length line) × MayBeginBlank (drop (e + 1) line) (drop (j + 1) clue)
+
+-- `masks` have the suffix ends of each run, the last run first, and then the suffix gap before the
+-- first run
+pub record AreSuffixes (line : List Cell) (clue masks : List ℕ) : Type 0 where
+  pub ends : (j : ℕ) → j < length clue
+      → IsMaskOf (IsSuffixEnd line clue j) (slice_index masks (length clue - 1 - j))
+  pub gap : IsMaskOf (IsSuffixGap line clue 0) (slice_index masks (length clue))
 
 -- `e` is a feasible end of run `j`: the run ends there in some placing
 abbrev pub IsFeasibleEnd : List Cell → List ℕ → ℕ → ℕ → Type 0

@@ -1,8 +1,8 @@
 -- The ghost arguments of the calls in `general_support`: the line.
 use Rattle.line_core.proofs.deduction.general_support.Given as goal
 
-abbrev pub ghost-write_suffix_gaps : goal.ghost-write_suffix_gaps
-ghost-write_suffix_gaps g a = g.line
+abbrev pub ghost-write_suffixes : goal.ghost-write_suffixes
+ghost-write_suffixes g a = g.line
 
 abbrev pub ghost-scanned_support : goal.ghost-scanned_support
 ghost-scanned_support g a = g.line

@@ -2,19 +2,13 @@
 use Rattle.line_core.proofs.Names.{◌≡◌, ℕ, ◌<◌, ◌≤◌, length, get_or, map, IsMaskOf, reversed_prefix, IsFeasibleEnd, IsScanOver, IsFeasibleGap}
 use Rattle.line_core.proofs.prefix_supports.write_feasible.Given as goal
 
-abbrev pub ghost-write_suffix_gaps : goal.ghost-write_suffix_gaps
-ghost-write_suffix_gaps g a = g.line
-
-abbrev pub ghost-suffix_gap : goal.ghost-suffix_gap
-ghost-suffix_gap g a = g.line
-
-abbrev pub ghost-feasible_ends : goal.ghost-feasible_ends
-ghost-feasible_ends g a = g.line
+abbrev pub ghost-write_suffixes : goal.ghost-write_suffixes
+ghost-write_suffixes g a = g.line
 
 abbrev pub invariant-loop-j : goal.invariant-loop-j
 invariant-loop-j g l = record {
   scan : IsScanOver g.W.BitSet.WIDTH g.W.BitSet.LOG2_WIDTH g.line (reversed_prefix 0 l.clue l.j) (g.W.BitSet.bits l.scan.not_filled)
-      (map g.W.BitSet.bits l.fits) (g.W.BitSet.bits l.scan.line_start) (g.W.BitSet.bits l.scan.gap);
+      (map g.W.BitSet.bits l.fits) (g.W.BitSet.bits l.scan.starts) (g.W.BitSet.bits l.scan.gap);
   gap_count : length l.gaps ≡ 129;
   end_count : length l.ends ≡ 129;
   gaps : (k : ℕ) → k ≤ l.j → IsMaskOf (IsFeasibleGap g.line l.clue k) (get_or (map g.W.BitSet.stored_bits l.gaps) k 0);

@@ -1,8 +1,8 @@
 -- The ghost arguments of the calls in `find_starts`: the line.
 use Rattle.line_core.proofs.starts.find_starts.Given as goal
 
-abbrev pub ghost-write_suffix_gaps : goal.ghost-write_suffix_gaps
-ghost-write_suffix_gaps g a = g.cells
+abbrev pub ghost-write_suffixes : goal.ghost-write_suffixes
+ghost-write_suffixes g a = g.cells
 
 abbrev pub ghost-may_have_no_run : goal.ghost-may_have_no_run
 ghost-may_have_no_run g a = g.cells

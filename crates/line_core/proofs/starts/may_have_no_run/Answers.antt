@@ -13,4 +13,4 @@ returns g c =
     let domain = c.requires.1.1.1.0 in
     let gap = gap_none_is g.line _ _ domain.not_filled_is c.first_gap-gap.ensures in
     given _ _ (HasPlacing g.line c.args.clue.now) c.contains.ensures
-    (no_run_is g.line _ _ _ _ c.requires.1.1.1.1.0 domain.some gap c.suffix_gap.ensures c.intersection-blankable.ensures)
+    (no_run_is g.line _ _ _ _ c.requires.1.1.1.1.0 domain.some gap (c.first_suffix_gap.ensures g.line c.requires.1.1.1.1.1) c.intersection-blankable.ensures)

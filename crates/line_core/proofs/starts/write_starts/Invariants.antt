@@ -2,16 +2,10 @@
 use Rattle.line_core.proofs.Names.{◌≡◌, ℕ, ◌<◌, get_or, length, map, reversed_prefix, IsScanOver, IsOuterStart}
 use Rattle.line_core.proofs.starts.write_starts.Given as goal
 
-abbrev pub ghost-suffix_gap : goal.ghost-suffix_gap
-ghost-suffix_gap g a = g.line
-
-abbrev pub ghost-feasible_ends : goal.ghost-feasible_ends
-ghost-feasible_ends g a = g.line
-
 abbrev pub invariant-loop-j : goal.invariant-loop-j
 invariant-loop-j g l = record {
   scan : IsScanOver g.W.BitSet.WIDTH g.W.BitSet.LOG2_WIDTH g.line (reversed_prefix 0 l.clue l.j) (g.W.BitSet.bits l.scan.not_filled)
-      (map g.W.BitSet.bits l.fits) (g.W.BitSet.bits l.scan.line_start) (g.W.BitSet.bits l.scan.gap);
+      (map g.W.BitSet.bits l.fits) (g.W.BitSet.bits l.scan.starts) (g.W.BitSet.bits l.scan.gap);
   starts : (k : ℕ) → k < l.j → IsOuterStart l.direction g.line l.clue k (get_or l.list.starts k 0);
   len : length l.list.starts ≡ length l.fn.list.starts;
 }

@@ -1,6 +1,6 @@
 -- `reverse_all`: each turn reverses one more mask.
 use Rattle.line_core.proofs.Names.{◌-◌, ◌∙◌, ◌<◌, length, get_or, map, ap, arith, length-set, map-set, length-map, Has, IsMaskOf, written_more, get_or-set_other, bits_at}
-use Rattle.line_core.proofs.suffix_gaps.reverse_all.Goals as goal
+use Rattle.line_core.proofs.suffixes.reverse_all.Goals as goal
 
 pub loop-i-preserved : goal.loop-i-preserved
 loop-i-preserved g c =

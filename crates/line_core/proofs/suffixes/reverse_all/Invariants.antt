@@ -1,6 +1,6 @@
 -- The invariant of the loop of `reverse_all`: the masks so far are reversed, and the others unchanged.
 use Rattle.line_core.proofs.Names.{◌≡◌, ◌-◌, ℕ, ◌<◌, ◌≤◌, length, get_or, map, Has, IsMaskOf}
-use Rattle.line_core.proofs.suffix_gaps.reverse_all.Given as goal
+use Rattle.line_core.proofs.suffixes.reverse_all.Given as goal
 
 abbrev pub invariant-loop-i : goal.invariant-loop-i
 invariant-loop-i g l = record {
