@@ -62,8 +62,8 @@ feasible_mirrored l clue j i jl il whole =
 -- ---- what goes with one cell of a colour
 
 -- an unknown cell can have each colour
-pub unknown_may : (l : List Cell) (x : ℕ) (c : Bool) → x < length l → get_or l x (colour true) ≡ Unknown → MayBe l c x
-unknown_may l x c within unknown = search (rules, get_or_default)
+unknown_may : (l : List Cell) (x : ℕ) (c : Bool) → x < length l → get_or l x Unknown ≡ Unknown → MayBe l c x
+unknown_may l x c within unknown = search rules
 
 -- masks of the cells that go with the colour `c` at `x` are the support of the line with that colour there
 support_after : (l : List Cell) (clue : List ℕ) (x : ℕ) (c : Bool) (m : SupportMasks) → ArePositive clue → MayBe l c x
@@ -305,4 +305,5 @@ combined_run l clue gaps j old new a more = record {
 
 pub combined_all : (l : List Cell) (clue : List ℕ) (lookaheads : List LookaheadMasks) → ArePositive clue
     → AreCombined l clue (length clue + 1) (length clue) lookaheads → AreLookaheads l clue lookaheads
-combined_all l clue lookaheads pos a = λ x h unknown. search (rules, combined_filled, combined_blank, unknown_may, a.filled, a.blank)
+combined_all l clue lookaheads pos a x true h unknown = combined_filled l clue x _ pos (unknown_may l x true h unknown) (a.filled x h)
+combined_all l clue lookaheads pos a x false h unknown = combined_blank l clue x _ pos (unknown_may l x false h unknown) (a.blank x h)

@@ -126,13 +126,15 @@ suffixes_of l clue w len old new e short reversed mirrored = record {
   ends = λ j h.
       let k = length clue - 1 - j in
       let starts = reversed.starts k (omega arith) in
-      let turned : (i : ℕ) → i < length l → IsNextStart w (reverse l) (reversed_prefix 0 (reverse clue) k) (len - 1 - i) ↔ IsSuffixEnd l clue j i =
+      let runs = reversed_prefix 0 (reverse clue) k in
+      let turned : (i : ℕ) → i < length l → IsNextStart w (reverse l) runs (len - 1 - i) ↔ IsSuffixEnd l clue j i =
       λ i il. search (rules, reversed_prefix_of_reverse, length-reverse) in
       mask_same _ _ _ (mirrored k (omega arith)) (λ i x. (turned i (omega (arith, x.0))).0 (starts.to _ x.1))
       (λ i x. (omega (arith, x.0), starts.from _ ((turned i x.0).1 x)));
   gap =
+      let whole : length clue - 0 ≡ length clue = omega arith in
       let turned : (i : ℕ) → i < length l → IsPrefixGap (reverse l) (reverse clue) (length clue) (len - 1 - i) ↔ IsSuffixGap l clue 0 i =
-      λ i il. let whole : length clue - 0 ≡ length clue = omega arith in rw (sym e) (rw whole at (reversed_gap l clue 0 i (omega arith) il)) in
+      λ i il. rw (sym e) (rw whole at (reversed_gap l clue 0 i (omega arith) il)) in
       mask_same _ _ _ (mirrored (length clue) (omega arith)) (λ i x. (turned i (omega (arith, x.0))).0 (reversed.gap.to _ x.1))
       (λ i x. (omega (arith, x.0.0), reversed.gap.from _ ((turned i x.0.0).1 x)));
 }

@@ -3,7 +3,7 @@ use Rattle.line_core.proofs.Names.{rules, ◌≡◌, ℕ, zero, suc, ◌+◌, �
 use Rattle.line_core.proofs.Joining.{begins, begins_some, runs_about, closed_first}
 
 -- a placing may be preceded by one more blank cell
-blank_before : (c : Cell) (cells : List Cell) (cs : List ℕ) → allows c false ≡ true → HasPlacing cells cs → HasPlacing (c ∷ cells) cs
+pub blank_before : (c : Cell) (cells : List Cell) (cs : List ℕ) → allows c false ≡ true → HasPlacing cells cs → HasPlacing (c ∷ cells) cs
 blank_before c cells cs a p = let q = (closed_first c cells cs).1 (a, p) in (q.0, q.1, q.2)
 
 -- a placing begins with a blank cell, or with a run

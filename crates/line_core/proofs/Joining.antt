@@ -189,7 +189,8 @@ closed_prefix_from l runs (suc s) h = search (rules, (closed_first (get_or l s U
 
 -- ---- the mirrored line and clue
 
-pub reversed_prefix_of_reverse : {A : Type 0} (d : A) (xs : List A) (p m : ℕ) → p + m ≡ length xs → reversed_prefix d (reverse xs) p ≡ drop m xs
+pub reversed_prefix_of_reverse : {A : Type 0} (d : A) (xs : List A) (p m : ℕ) → p + m ≡ length xs
+    → reversed_prefix d (reverse xs) p ≡ drop m xs
 reversed_prefix_of_reverse {A = A} d xs zero m e = sym (drop_of_length-le xs {i = m} (omega arith))
 reversed_prefix_of_reverse {A = A} d xs (suc p) m e =
     search (rules, get_or-reverse, drop-cons, reversed_prefix_of_reverse d xs p (suc m) (omega arith))

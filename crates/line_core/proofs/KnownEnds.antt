@@ -1,14 +1,13 @@
 -- Known cells at both ends of a line: what is deduced of the line is what is deduced of the cells between them.
 use Rattle.line_core.proofs.LineCells.{lengths_of, clue_of}
 use Rattle.grid_core.specs.Clues.{is_clue}
-use Rattle.line_core.proofs.Names.{mirror_index, has_true, true_has, get_or-take, mask_same, has, common_steps, rules, ◌≡◌, ◌↔◌, ℕ, zero, suc, ◌+◌, ◌-◌, ◌<◌, ◌≤◌, Bool, true, false, List, [], ◌∷◌, ◌++◌, length, map, Option, Some, None, refl, sym, ap, ◌∙◌, arith, take, drop, reverse, append_assoc, get_or, append-nil, length-map, length-drop, length-take-le, map-append, Has, IsMaskOf, get_or-reverse, length-reverse, reverse-reverse, ext_get_or, Cell, Unknown, Blank, Extends, colour, is_filled, runs, runs_after, deduced, runs_after-zero, runs_after-true, runs_after-false, runs_after-close, runs_after-nil}
+use Rattle.line_core.proofs.Names.{mirror_index, has_true, true_has, get_or-take, mask_same, has, common_steps, rules, ◌≡◌, ◌↔◌, ℕ, zero, suc, ◌+◌, ◌-◌, ◌<◌, ◌≤◌, Bool, true, false, List, [], ◌∷◌, ◌++◌, length, map, Option, Some, None, refl, sym, ap, ◌∙◌, arith, take, drop, reverse, append_assoc, get_or, append-nil, length-map, length-drop, length-take-le, map-append, Has, IsMaskOf, get_or-reverse, length-reverse, reverse-reverse, ext_get_or, Cell, Unknown, Extends, colour, is_filled, runs, runs_after, deduced, runs_after-zero, runs_after-true, runs_after-false, runs_after-close, runs_after-nil}
 use Rattle.std.specs.Option.{option_map}
 use Rattle.std.proofs.lemmas.List.{append_cancel_left, drop-drop, take_rest, map-id, take-append-drop, reverse-append}
 use Rattle.std.proofs.lemmas.List.Elements.{All-drop, All-take}
 use Rattle.std.proofs.Math.Seq.{take-suc}
 use Rattle.grid_core.specs.Cells.{is_known}
-use Rattle.grid_core.specs.Lines.{IsUnknownCell}
-use Rattle.line_core.specs.steps.KnownEnds.{AreKnown, IsInnerClue, IsKnownEnd, filled_first}
+use Rattle.line_core.specs.steps.KnownEnds.{IsInnerClue, IsKnownEnd, filled_first}
 use Rattle.line_core.specs.steps.CluePrefix.{IsCluePrefix, IsFilled, mirrored_if}
 use Rattle.line_core.specs.Order.{AtMost}
 use Rattle.line_core.proofs.DeductionLaws.{IsPlacing, deduced-greatest, deduced-below, deduced-above, get_or-map_colour, length-deduced, length-Extends, AtMost-antisym, full_same, Extends-refl}
@@ -121,30 +120,6 @@ module _ (f g : List Bool) (l : List Cell) (clue : List ℕ) where
 
 -- ---- known ends
 
-known_is : (c : Cell) → (c ≡ Unknown → ⊥) → is_known c ≡ true
-known_is c e = search rules
-
--- known cells, up to and including the last blank one, are a known end
-pub known_end_is : (l : List Cell) (known last : ℕ) → known ≤ length l → AreKnown l known → get_or l last Unknown ≡ Blank
-    → last < known
-    → IsKnownEnd l (last + 1)
-known_end_is l known last within are blank low = record {
-  within = omega arith;
-  known = λ i h. are i (omega arith);
-  closed = λ some. let e : last + 1 - 1 ≡ last = omega arith in rw e blank;
-}
-
--- known cells at the other end, up to and including their last blank one, are a known end of the mirrored line
-pub known_end_mirrored : (l : List Cell) (known first : ℕ) → known ≤ length l → AreKnown (reverse l) known
-    → (first < known → get_or l (first + (length l - known)) Unknown ≡ Blank) → IsKnownEnd (reverse l) (known - first)
-known_end_mirrored l known first within are blank = record {
-  within = omega (arith, length-reverse l);
-  known = λ i h. are i (omega arith);
-  closed = λ some.
-      let e : length l - 1 - (known - first - 1) ≡ first + (length l - known) = omega arith in
-      rw (get_or-reverse l (known - first - 1) Unknown (omega arith), e) (blank (omega arith));
-}
-
 -- the mask of a test of the line's cells, on the mirrored line or as it is
 pub mirrored_values : (t : Bool) (φ : Cell → Bool) (l : List Cell) (len set m : ℕ) → len ≡ length l
     → ((i : ℕ) → i < length l → has set i ≡ φ (get_or l i Unknown)) → ((i : ℕ) → i < len → has m i ≡ has set (mirror_index t len i))
@@ -163,22 +138,6 @@ filled_is l n set first m within given f b = mask_same _ _ m b (λ i h.
     let inside = f.to i h.1 in filled_at n i l inside ∙ sym (given i inside) ∙ has_true set i h.0) (λ i h.
     let inside : i < n = omega (arith, filled_within (filled_first n l) i h, length-map (take n l) is_filled, length-take-le n l within) in
     (true_has set i (given i inside ∙ sym (filled_at n i l inside) ∙ h), f.from i inside))
-
-module _ (l : List Cell) (unknown : ℕ) (u : IsMaskOf (IsUnknownCell l) unknown) where
-  -- the cells before the first unknown one are known
-  pub known_before : (first : ℕ) → Has unknown first → ((i : ℕ) → Has unknown i → first ≤ i) → (first ≤ length l) × AreKnown l first
-  known_before first has least =
-      let within = (u.to first has).0 in (omega arith, λ i h. known_is _ (λ e. omega (arith, least i (u.from i (omega arith, e)))))
-
-  -- the cells after the last unknown one, from the other end, are known
-  pub known_after : (len last : ℕ) → len ≡ length l → ((i : ℕ) → Has unknown i → i ≤ last)
-      → (len - 1 - last ≤ length l) × AreKnown (reverse l) (len - 1 - last)
-  known_after len last e greatest = (
-    omega arith,
-    λ i h.
-        let k = length l - 1 - i in
-        rw (get_or-reverse l i Unknown (omega arith)) (known_is _ (λ same. omega (arith, greatest k (u.from k (omega arith, same))))),
-  )
 
 -- ---- the numbers of the clue that are left
 

@@ -1,5 +1,5 @@
 -- A line with one more known cell than the line of a lookahead table, and what the table holds for it.
-use Rattle.line_core.proofs.Names.{◌||◌, CellExtends, Extends, Has, ◌≢◌, ◌≤◌, get_or-map-range_with_len, has, has_true, map, range_with_len, deduced_cell, rules, false, true, Filled, Blank, ArePositive, ◌≡◌, ℕ, ◌<◌, ◌∙◌, Bool, inl, inr, List, None, Some, deduced, length, get_or, set, sym, arith, refl, ap, ext_get_or, length-set, Cell, Unknown, IsMaskOf}
+use Rattle.line_core.proofs.Names.{◌||◌, CellExtends, Extends, Has, ◌≢◌, ◌≤◌, get_or-map-range_with_len, has, has_true, map, range_with_len, deduced_cell, rules, false, true, ArePositive, ◌≡◌, ℕ, ◌<◌, ◌∙◌, Bool, inl, inr, List, None, Some, deduced, length, get_or, set, sym, arith, refl, ap, ext_get_or, length-set, Cell, Unknown, IsMaskOf}
 use Rattle.std.proofs.lemmas.List.{get_or-set_same, get_or-set_other, get_or_default}
 use Rattle.std.proofs.lemmas.Bool.{cases_eq}
 use Rattle.grid_core.proofs.Changing.{same_cells}
@@ -79,18 +79,12 @@ empty_table clue t none = record { lookaheads = λ line is. cc; inert = λ line 
 -- lookaheads of a line determine what is deduced of it with each colour at each unknown cell
 pub lookaheads_are : (line : List Cell) (clue : List ℕ) (lookaheads : List LookaheadMasks) → ArePositive clue → 0 < length line
     → AreLookaheads line clue lookaheads → AreLookaheadsOf clue line lookaheads
-lookaheads_are line clue lookaheads pos some is = record { are_deduced = at }
-  where
-    at : (x : ℕ) (filled : Bool) → x < length line → get_or line x Unknown ≡ Unknown
-        → deduced_from (length line) (masks_if filled (get_or lookaheads x no_lookahead)).fillable
-        (masks_if filled (get_or lookaheads x no_lookahead)).blankable
-        ≡ deduced (coloured line x filled) clue
-    at x true within unknown =
-        let p = (is x within (get_or_default line x Filled Unknown within ∙ unknown)).filled_is in
-        support-deduced (coloured line x true) clue (length line) _ _ pos some (length-set line x Filled) p.fillable_is p.blankable_is
-    at x false within unknown =
-        let p = (is x within (get_or_default line x Filled Unknown within ∙ unknown)).blank_is in
-        support-deduced (coloured line x false) clue (length line) _ _ pos some (length-set line x Blank) p.fillable_is p.blankable_is
+lookaheads_are line clue lookaheads pos some is = record {
+  are_deduced = λ x filled within unknown.
+      let p = is x filled within unknown in
+      let long = length-set line x (colour filled) in
+      support-deduced (coloured line x filled) clue (length line) _ _ pos some long p.fillable_is p.blankable_is;
+}
 
 -- what is deduced with a colour at cell `x` is determined by the masks that are read from the lookahead there
 pub lookahead_at : (line : List Cell) (clue : List ℕ) (filled : Bool) (lookaheads : List LookaheadMasks) (x i : ℕ)

@@ -1,7 +1,8 @@
 -- The leftmost and the rightmost starts: the search of the definition finds them, and so do the feasible ends.
-use Rattle.line_core.proofs.Names.{◌↔◌, inl, inr, false_from_ne_true, rules, ◌≡◌, ℕ, suc, ◌+◌, ◌-◌, ◌<◌, ◌≤◌, Bool, true, false, not, List, [], ◌∷◌, length, map, Some, None, refl, sym, ap, ◌∙◌, arith, get_or, ext_get_or, nat_le, take, MatchBool, All, list_all, find, All-head, All-tail, All-weaker, and_parts, leb-true, le-leb, list_all-map, length-take-le, get_or-take, Cell, placings, run_starts, all_starts, Direction, Left, Right, outermost, IsAsFar, IsOuterStart, Has, IsMaskOf, IsFeasibleEnd, IsPrefixGap, IsSuffixGap, HasPlacing, ArePositive, cases_Bool, common_steps}
+use Rattle.line_core.proofs.GapFloods.{blank_before}
+use Rattle.line_core.proofs.Names.{none_has, none_in, true≢false, nat_eq, eqb-true, eq-eqb, Filled, Unknown, agrees, and_parts, IsMaskOf, MatchBool, inl, inr, rules, ◌≡◌, ℕ, suc, ◌+◌, ◌-◌, ◌<◌, ◌≤◌, Bool, true, false, not, List, [], ◌∷◌, length, map, Some, None, refl, sym, ap, ◌∙◌, arith, get_or, ext_get_or, nat_le, take, MatchBool, All, list_all, find, All-head, All-tail, All-weaker, and_parts, leb-true, le-leb, list_all-map, length-take-le, get_or-take, Cell, placings, run_starts, all_starts, Direction, Left, Right, outermost, IsAsFar, IsOuterStart, IsMaskOf, IsFeasibleEnd, HasPlacing, ArePositive, cases_Bool, common_steps}
 use lib.Pointwise.{pointwise}
-use Rattle.line_core.proofs.Joining.{positive_at, blankable_to, blankable_from}
+use Rattle.line_core.proofs.Joining.{positive_at}
 use Rattle.line_core.proofs.FeasibleEnds.{feasible_of, placing_with}
 use Rattle.line_core.proofs.DeductionLaws.{IsPlacing, placings_listed, none_listed, not_all, agrees_is}
 use Rattle.line_core.proofs.RunStarts.{starts_from, run_starts-from, covered}
@@ -81,17 +82,22 @@ module _ (l : List Cell) (clue : List ℕ) where
       let (x, agree, is, starts) = placing_of l clue ss pos d in
       feasible_of l clue x j (get_or ss j 0 + get_or clue j 0 - 1) agree is h (rw starts (omega (arith, positive_at clue pos j h)))
 
-  -- a placing without runs exists exactly if the first cell can be blank as a gap before all runs
-  pub no_run_is : (gap suffix m : ℕ) → length clue ≡ 0 → 0 < length l → IsMaskOf (IsPrefixGap l clue 0) gap
-      → IsMaskOf (IsSuffixGap l clue 0) suffix
-      → IsMaskOf (λ i. Has gap i × Has suffix i) m → Has m 0 ↔ HasPlacing l clue
-  no_run_is gap suffix m none some g a q = (
-    λ h. let both = q.to 0 h in search (rules, blankable_to l clue 0 (0, omega arith, g.to 0 both.0, a.to 0 both.1)),
-    λ (x, agree, is).
-        let blank = false_from_ne_true (get_or x 0 false) (λ e. let c = covered x clue 0 is e in omega (arith, c.inside)) in
-        let (j, jl, before, after) = blankable_from l clue 0 some (x, agree, is, blank) in
-        let first : j ≡ 0 = omega arith in q.from 0 (g.from 0 (rw first at before), a.from 0 (rw first at after)),
-  )
+-- a line without filled cells has the placing without runs
+empty_placing : (l : List Cell) → ((i : ℕ) → get_or l i Unknown ≡ Filled → ⊥) → HasPlacing l []
+empty_placing [] none = ([], refl, refl)
+empty_placing (c ∷ l) none = search (rules, blank_before, none 0, empty_placing l (λ i. none (suc i)))
+
+filled_kept : (l : List Cell) (x : List Bool) (i : ℕ) → agrees l x ≡ true → get_or l i Unknown ≡ Filled → get_or x i false ≡ true
+filled_kept (c ∷ l) (b ∷ x) (suc i) a h = search (rules, and_parts, filled_kept l x i)
+filled_kept l x i a h = search (rules, and_parts)
+
+-- a line has a placing without runs exactly if no cell is known to be filled
+pub no_run_is : (b : Bool) (l : List Cell) (clue : List ℕ) (filled : ℕ) → length clue ≡ 0
+    → IsMaskOf (λ i. get_or l i Unknown ≡ Filled) filled → b ≡ nat_eq filled 0 → MatchBool b (HasPlacing l clue) (HasPlacing l clue → ⊥)
+no_run_is true l [] filled none p e = empty_placing l (λ i at. none_has filled i (eqb-true filled 0 (sym e)) (p.from i at))
+no_run_is false l [] filled none p e = λ (x, agree, is). true≢false (sym (eq-eqb filled 0 (none_in _ filled p (λ i at.
+    omega (arith, (covered x [] i is (filled_kept l x i agree at)).inside)))) ∙ sym e)
+no_run_is b l (n ∷ clue) filled none p e = absurd (omega arith)
 
 -- ---- in either direction
 

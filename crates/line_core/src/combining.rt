@@ -85,11 +85,11 @@ fn support_with_run<W: BitSet>(
     let next = end + 1;
     let start = next - clue[j];
     let run = prefix::<W>(clue[j]).shifted_up(start);
-    let mut support = run_and_prefix(start, run, &supports.before[ROW_STRIDE * j..]);
+    let support = run_and_prefix(start, run, &supports.before[ROW_STRIDE * j..]);
     // The last run may end at the last cell of the line, without a gap after it.
     if next < supports.len {
         let mirrored = usize::from(supports.len - 1 - next);
-        support.add(&supports.after[ROW_STRIDE * (clue.len() - (j + 1)) + mirrored]);
+        return support.with(&supports.after[ROW_STRIDE * (clue.len() - (j + 1)) + mirrored]);
     }
     support
 }

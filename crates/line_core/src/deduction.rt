@@ -121,8 +121,8 @@ pub fn deduced_from<W: BitSet>(len: u16, fillable: W, blankable: W) -> Option<Bi
     Some(BitLine::from_sets(len, filled, blank))
 }
 
-/// Returns the deduced line, or `None` if there is no placing. `suffixes` is a buffer for the suffix
-/// sets.
+/// Returns the deduced line, or `None` if there is no placing. `suffixes` is a buffer for the
+/// suffix sets.
 fn deduce_numbers<W: BitSet>(
     suffixes: &mut [W::Stored; MAX_GAPS],
     line: &BitLine<W>,
@@ -231,8 +231,8 @@ fn write_lookaheads_within<W: BitSet>(
 /// A bit set in which lines are stored and deduced.
 pub trait LineBits: BitSet {
     /// Returns the line in which each cell has the colour that all placings share, and is unknown
-    /// if they differ; `None` if there is no placing. `clue` has at most 128 numbers, each from 1 to
-    /// the width of the sets.
+    /// if they differ; `None` if there is no placing. `clue` has at most 128 numbers, each from 1
+    /// to the width of the sets.
     fn deduce(tables: &mut Tables, line: &BitLine<Self>, clue: &[u16]) -> Option<BitLine<Self>>
         requires { is_clue Self.WIDTH clue.now ≡ true }
         ensures answer { result ≡ deduced line.now clue.now }

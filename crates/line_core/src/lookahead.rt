@@ -42,14 +42,6 @@ impl<W: BitSet> Support<W> {
         }
     }
 
-    /// Adds the cells of `more`, colour by colour.
-    pub(crate) fn add(&mut self, more: &Support<W>)
-        ensures { AreMore (HasColour more.now) self.old self.new }
-    {
-        self.fillable = self.fillable.union(more.fillable);
-        self.blankable = self.blankable.union(more.blankable);
-    }
-
     /// Returns a copy of `self`.
     pub(crate) fn copied(&self) -> Support<W>
         ensures { result ≡ self.now }
@@ -136,9 +128,9 @@ impl<W: BitSet> Lookahead<W> {
         ensures other { masks_if (not filled) self.new ≡ masks_if (not filled) self.old }
     {
         if filled {
-            self.if_filled.add(more);
+            self.if_filled = self.if_filled.with(more);
         } else {
-            self.if_blank.add(more);
+            self.if_blank = self.if_blank.with(more);
         }
     }
 }

@@ -134,8 +134,8 @@ impl<W: BitSet> LookaheadBuffers<W> {
         make_rows(&mut self.after, clue.len());
         let domain = LineDomain::of(line);
         let (gaps, ends) = (&mut self.gaps[0], &mut self.ends[0]);
-        // The mirrored line comes first: both lines use the same buffers for gaps and ends, and only
-        // those of the line itself are needed afterwards.
+        // The mirrored line comes first: both lines use the same buffers for gaps and ends, and
+        // only those of the line itself are needed afterwards.
         let mut numbers = [0; MAX_RUNS];
         let mirrored = &mut numbers[..clue.len()];
         mirrored.copy_from_slice(clue);

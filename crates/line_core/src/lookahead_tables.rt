@@ -5,7 +5,6 @@ ghost use Rattle.bit_sets.specs.Masks.{IsMaskOf};
 ghost use Rattle.grid_core.specs.Clues.{is_clue};
 ghost use Rattle.line_core.specs.Deduction.{deduced};
 ghost use Rattle.line_core.specs.Lookahead.{AreInert, HasOneCellMore, IsTableOf, AreLookaheadsOf, inert_if};
-ghost use Rattle.line_core.specs.steps.Lookahead.{IsNewTable};
 ghost use Rattle.line_core.specs.Support.{deduced_from};
 ghost use Rattle.line_core.specs.declared.lookahead.TheConstants.{MAX_LOOKAHEAD_LEN};
 
@@ -143,28 +142,6 @@ impl<W: LineBits> LookaheadTable<W> {
         }
     }
 
-    /// Builds the table of a line of at most `MAX_LOOKAHEAD_LEN` cells.
-    fn write_new(
-        &mut self,
-        tables: &mut Tables,
-        buffers: &mut LookaheadBuffers<W>,
-        line: &BitLine<W>,
-        clue: &[u16],
-    )
-        requires clue { is_clue W.WIDTH clue.now ≡ true }
-        requires short { length line.now ≤ MAX_LOOKAHEAD_LEN }
-        requires buffers { length clue.now ≤ buffers.old.max_runs }
-        ensures table { IsNewTable clue.now line.now self.new }
-        ensures tables { tables.new ≡ tables.old }
-        ensures buffers { buffers.new.max_runs ≡ buffers.old.max_runs }
-    {
-        make_entries(&mut self.lookaheads, line.len());
-        W::write_lookaheads(tables, buffers, line, clue, &mut self.lookaheads);
-        self.inert_filled = inert_cells(line, &self.lookaheads, true);
-        self.inert_blank = inert_cells(line, &self.lookaheads, false);
-        self.line = Some(line.copy());
-    }
-
     /// Builds the table of `line` and `clue`, unless it is the table of that line already. Clears
     /// the table if the line has more than `MAX_LOOKAHEAD_LEN` cells, or the clue more runs than
     /// the buffers are for. The clue has at most 128 numbers, each from 1 to the width of the sets,
@@ -189,9 +166,14 @@ impl<W: LineBits> LookaheadTable<W> {
             return;
         }
         self.line = None;
-        if line.len() <= MAX_LOOKAHEAD_LEN && clue.len() <= buffers.max_runs() {
-            self.write_new(tables, buffers, line, clue);
+        if line.len() > MAX_LOOKAHEAD_LEN || clue.len() > buffers.max_runs() {
+            return;
         }
+        make_entries(&mut self.lookaheads, line.len());
+        W::write_lookaheads(tables, buffers, line, clue, &mut self.lookaheads);
+        self.inert_filled = inert_cells(line, &self.lookaheads, true);
+        self.inert_blank = inert_cells(line, &self.lookaheads, false);
+        self.line = Some(line.copy());
     }
 
     /// Returns the unknown cells of the table's line that can be filled, or, unless `filled`, made

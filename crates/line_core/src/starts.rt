@@ -11,9 +11,8 @@ ghost use Rattle.line_core.specs.steps.Feasibility.{AreLengths, AreSuffixes, Has
 use crate::Line;
 use crate::buffers::{SuffixBuffers, ensure_initialized};
 use crate::domains::LineDomain;
-use crate::gaps::first_gap;
 use crate::prefix_scan::PrefixScan;
-use crate::suffixes::{MAX_GAPS, first_suffix_gap, suffix_ends, write_suffixes};
+use crate::suffixes::{MAX_GAPS, suffix_ends, write_suffixes};
 use crate::widths::{SetWidth, bits_needed};
 use bit_sets::{BitSet, Bits256, fit_table};
 use grid_core::{BitLine, Clue, MAX_RUNS, MAX_SIDE, NoMemory};
@@ -39,25 +38,6 @@ fn outermost_index<W: BitSet>(direction: Direction, indices: W) -> u16
         Direction::Left => indices.first_index(),
         Direction::Right => indices.last_index(),
     }
-}
-
-/// Reports whether a line has a placing for an empty clue, that is, whether its first cell can be
-/// blank without any run before or after it. `suffixes` are its suffix sets.
-fn may_have_no_run<W: BitSet>(
-    domain: &LineDomain<W>,
-    clue: &[u16],
-    suffixes: &[W::Stored; MAX_GAPS],
-) -> bool
-    ghost line: { List Cell }
-    requires domain { IsDomainOf W.WIDTH line domain.now.len
-        (W.bits domain.now.not_filled) (W.bits domain.now.not_blank) }
-    requires clue { length clue.now ≡ 0 }
-    requires suffix { AreSuffixes line clue.now (map W.stored_bits suffixes.now) }
-    ensures { MatchBool result (HasPlacing line clue.now) (HasPlacing line clue.now → ⊥) }
-{
-    let gap = first_gap(domain.not_filled);
-    let blankable = gap.intersection(first_suffix_gap(clue, suffixes));
-    blankable.contains(0)
 }
 
 /// A buffer for the start of each run of a placing.
@@ -104,8 +84,8 @@ fn write_starts<W: BitSet>(
 }
 
 /// Writes the starts of the placing that is outermost in a direction, using sets of type `W`.
-/// Returns whether there is a placing; if not, the contents of `list` are unspecified. `suffixes` is a
-/// buffer for the suffix sets.
+/// Returns whether there is a placing; if not, the contents of `list` are unspecified. `suffixes`
+/// is a buffer for the suffix sets.
 fn find_starts<W: BitSet>(
     direction: Direction,
     line: &BitLine<W>,
@@ -121,13 +101,12 @@ fn find_starts<W: BitSet>(
         (outermost direction cells clue.now ≡ Some (take (length clue.now) list.new.starts))
         (outermost direction cells clue.now ≡ None) }
 {
+    if clue.is_empty() {
+        return line.filled().is_empty();
+    }
     let domain = LineDomain::of(line);
     write_suffixes(&domain, clue, suffixes);
-    if clue.is_empty() {
-        may_have_no_run(&domain, clue, suffixes)
-    } else {
-        write_starts(direction, &domain, clue, suffixes, list)
-    }
+    write_starts(direction, &domain, clue, suffixes, list)
 }
 
 /// Writes the starts of the placing that is outermost in a direction, using the narrowest sets that

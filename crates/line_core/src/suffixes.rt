@@ -1,5 +1,5 @@
-//! The suffix sets of a line: where runs may end, and the first gap may be, as far as the cells after
-//! allow.
+//! The suffix sets of a line: where runs may end, and the first gap may be, as far as the cells
+//! after allow.
 
 ghost use Rattle.std.specs.Prelude.{◌≡◌, ◌+◌, ◌<◌, ◌≤◌, List, length, map};
 ghost use Rattle.grid_core.specs.declared.cells.Cell.{Cell};

@@ -1,17 +1,11 @@
 -- What the sets of a lookahead table stand for, and feasible gaps and ends.
-use Rattle.std.specs.Prelude.{◌≡◌, ℕ, ◌+◌, ◌-◌, ◌*◌, ◌<◌, ◌≤◌, Bool, true, false, ◌||◌, List, length, slice_index_or, Some}
+use Rattle.std.specs.Prelude.{◌≡◌, ℕ, ◌+◌, ◌-◌, ◌*◌, ◌<◌, ◌≤◌, Bool, true, false, ◌||◌, List, length, slice_index_or}
 use Rattle.grid_core.specs.declared.cells.Cell.{Cell}
 use Rattle.grid_core.specs.declared.cells.Cell.TheVariants.{Unknown}
-use Rattle.grid_core.specs.Cells.{colour}
 use Rattle.bit_sets.specs.Masks.{Has, has, IsMaskOf}
 use Rattle.line_core.specs.declared.prefix_supports.TheConstants.{ROW_STRIDE}
-use Rattle.line_core.specs.Lookahead.{SupportMasks, LookaheadMasks, Table, IsTableOf, no_support, no_lookahead, coloured}
+use Rattle.line_core.specs.Lookahead.{SupportMasks, LookaheadMasks, masks_if, no_support, no_lookahead, coloured}
 use Rattle.line_core.specs.steps.Feasibility.{reversed_prefix, MayBe, IsGapAfter, IsPrefixGap, IsSuffixGap, IsFeasibleEnd, IsFillable, IsBlankable}
-
--- `table` is the table of `line` and `clue`
-pub record IsNewTable (clue : List ℕ) (line : List Cell) (table : Table) : Type 0 where
-  pub of_clue : IsTableOf clue table
-  pub line_is : table.line ≡ Some line
 
 -- by the support `masks` the line is alive, and each of `cells` stays unknown
 pub record LeavesUndecided (masks : SupportMasks) (cells : ℕ) : Type 0 where
@@ -23,18 +17,13 @@ pub record IsSupportOf (line : List Cell) (clue : List ℕ) (masks : SupportMask
   pub fillable_is : IsMaskOf (IsFillable line clue) masks.fillable
   pub blankable_is : IsMaskOf (IsBlankable line clue) masks.blankable
 
--- `lookahead` has the support of the line after cell `x` is filled, and after it is made blank
-pub record IsLookaheadAt
-    (line : List Cell) (clue : List ℕ) (x : ℕ) (lookahead : LookaheadMasks) : Type 0 where
-  pub filled_is : IsSupportOf (coloured line x true) clue lookahead.if_filled
-  pub blank_is : IsSupportOf (coloured line x false) clue lookahead.if_blank
-
--- `lookaheads` have, for each unknown cell of the line, the support after it is filled and after it
--- is made blank
+-- `lookaheads` have, for each unknown cell of the line and each colour, the support of the line
+-- with that colour there
 abbrev pub AreLookaheads : List Cell → List ℕ → List LookaheadMasks → Type 0
 AreLookaheads line clue lookaheads =
-    (x : ℕ) → x < length line → slice_index_or line x (colour true) ≡ Unknown
-    → IsLookaheadAt line clue x (slice_index_or lookaheads x no_lookahead)
+    (x : ℕ) (filled : Bool) → x < length line → slice_index_or line x Unknown ≡ Unknown
+    → IsSupportOf (coloured line x filled) clue
+    (masks_if filled (slice_index_or lookaheads x no_lookahead))
 
 -- the support `masks` has, for each colour, exactly the cells of which `P` holds
 pub record AreMasks (P : Bool → ℕ → Type 0) (masks : SupportMasks) : Type 0 where

@@ -11,10 +11,10 @@ returns-then-next-supports g c =
     let up = up_to_is g.line _ _ _ _ _ line supports _ _ supports.lengths jl whole _ _ _ c.prefix.ensures
     c.shifted_up-run.ensures c.run_and_prefix-support.ensures in
     beside_is g.line _ _ _ _ _ line supports _ _ supports.lengths jl whole _ _ _ _ c.if-next-supports.true
-    c.from-mirrored.ensures c.index-supports-clue.is up (rw (← c.index-supports-clue.is) at c.add.ensures)
+    c.from-mirrored.ensures c.index-supports-clue.is up (rw (← c.index-supports-clue.is) at c.with.ensures)
 
-pub returns-else-next-supports : goal.returns-else-next-supports
-returns-else-next-supports g c =
+pub returns : goal.returns
+returns g c =
     let (line, (jl, (whole, supports))) = c.requires.1.1 in
     let up = up_to_is g.line _ _ _ _ _ line supports _ _ supports.lengths jl whole _ _ _ c.prefix.ensures
     c.shifted_up-run.ensures c.run_and_prefix-support.ensures in

@@ -9,4 +9,5 @@ returns-clause-filled g c = search (rules, clue_positive, fillable_alone)
 
 pub returns-clause-blank : goal.returns-clause-blank
 returns-clause-blank g c =
-    let first = rw (c.of-domain.ensures.len_is, c.requires.1.1.1.0) at c.prefix.ensures in search (rules, clue_positive, blankable_alone, first)
+    let first = rw (c.of-domain.ensures.len_is, c.requires.1.1.1.0) at c.prefix.ensures in
+    search (rules, clue_positive, blankable_alone, first)

@@ -11,7 +11,8 @@ loop-j-init g c =
     let gaps = c.args.gaps.now in
     let scan = c.new-scan.ensures g.line _ c.requires.1.1.1.0 c.fit_table-fits.ensures in
     let gap : IsMaskOf (IsPrefixGap g.line clue 0) (g.W.BitSet.bits c.gap.result) = rw c.gap.ensures scan.gap_is in
-    let whole = rw (← c.to_stored.ensures) at (meet_of _ _ _ _ _ gap (c.first_suffix_gap.ensures g.line c.write_suffixes.ensures) c.intersection-first.ensures) in
+    let suffix = c.first_suffix_gap.ensures g.line c.write_suffixes.ensures in
+    let whole = rw (← c.to_stored.ensures) at (meet_of _ _ _ _ _ gap suffix c.intersection-first.ensures) in
     record {
       scan = scan;
       gap_count = length-set gaps _ _ ∙ c.told-gaps;

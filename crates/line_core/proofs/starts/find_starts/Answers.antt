@@ -1,14 +1,17 @@
 -- `find_starts`: the starts written are those of the outermost placing, or there is no placing.
-use Rattle.line_core.proofs.Names.{rules, ◌<◌, ℕ, length, get_or, arith, sym, ◌∙◌, eqb-true, eqb-false, recursion_from_All, HasPlacing, IsOuterStart, ArePositive}
-use Rattle.line_core.proofs.Outermost.{match_more, answered}
+use Rattle.line_core.proofs.Names.{rules, ◌≡◌, ◌<◌, ℕ, length, get_or, arith, sym, ◌∙◌, eqb-true, eqb-false, recursion_from_All, HasPlacing, IsOuterStart, ArePositive}
+use Rattle.line_core.proofs.Outermost.{match_more, answered, no_run_is}
 use Rattle.line_core.proofs.FeasibleEnds.{placing_with}
 use Rattle.line_core.proofs.starts.find_starts.Goals as goal
 
 pub returns-then-is_empty : goal.returns-then-is_empty
-returns-then-is_empty g c = search (rules, eqb-true, recursion_from_All, match_more, answered)
+returns-then-is_empty g c =
+    let none : length c.args.clue.now ≡ 0 = eqb-true _ 0 (sym c.is_empty.ensures ∙ c.if-is_empty.true) in
+    let found = no_run_is _ g.cells c.args.clue.now _ none (rw c.requires.1.1.1.0 at c.filled.ensures) c.is_empty-then-is_empty.ensures in
+    search (rules, recursion_from_All, match_more, answered)
 
-pub returns-else-is_empty : goal.returns-else-is_empty
-returns-else-is_empty g c =
+pub returns : goal.returns
+returns g c =
     let clue = c.args.clue.now in
     let pos : ArePositive clue = recursion_from_All _ clue c.requires.1.1.1.1.0.positive in
     let some : 0 < length clue = (let ne = eqb-false (length clue) 0 (sym c.is_empty.ensures ∙ c.if-is_empty.false) in omega arith) in

@@ -4,8 +4,5 @@ use Rattle.line_core.proofs.starts.find_starts.Given as goal
 abbrev pub ghost-write_suffixes : goal.ghost-write_suffixes
 ghost-write_suffixes g a = g.cells
 
-abbrev pub ghost-may_have_no_run : goal.ghost-may_have_no_run
-ghost-may_have_no_run g a = g.cells
-
 abbrev pub ghost-write_starts : goal.ghost-write_starts
 ghost-write_starts g a = g.cells
