@@ -20,7 +20,7 @@ use crate::overlaps::{is_unknown, unknown_line_support};
 use crate::prefix_scan::PrefixScan;
 use crate::single_run::single_run_support;
 use crate::suffixes::{MAX_GAPS, first_suffix_gap, suffix_ends, write_suffixes};
-use crate::widths::{SetWidth, bits_needed};
+use crate::widths::bits_needed;
 use bit_sets::{BitSet, Bits256, LEVELS, add_spread, fit_table, prefix, spread_levels};
 use grid_core::{BitLine, Clue, MAX_RUNS, MAX_SIDE, NoMemory};
 use std::alloc::Global;
@@ -323,34 +323,13 @@ impl LineBits for Bits256 {
     }
 }
 
-/// Returns the deduced line, or `None` if there is no placing, using sets of type `W`, which have
-/// to hold the line and the numbers of the clue.
-fn deduce_as<W: LineBits>(tables: &mut Tables, line: &Line, clue: &[u16]) -> Option<Line>
-    requires line { length line.now ≤ W.WIDTH }
-    requires clue { is_clue W.WIDTH clue.now ≡ true }
-    ensures answer { result ≡ deduced line.now clue.now }
-    ensures tables { tables.new ≡ tables.old }
-{
-    match W::deduce(tables, &line.resized(), clue) {
-        None => None,
-        Some(deduced) => Some(deduced.widened()),
-    }
-}
-
 /// Returns the line in which each cell has the colour that all placings of `clue` on `line` share,
-/// and is unknown if they differ; `None` if there is no placing. Uses the narrowest sets that hold
-/// both the line and the numbers of the clue. The line may have no more cells than `tables` was
-/// made for.
-#[tactic(auto, using(crate::proofs::LineCells::clue_within))]
+/// and is unknown if they differ; `None` if there is no placing. The line may have no more cells
+/// than `tables` was made for.
 pub fn deduce(tables: &mut Tables, line: &Line, clue: &Clue) -> Option<Line>
     requires { length line.now ≤ tables.old }
     ensures answer { result ≡ deduced line.now clue.now }
     ensures tables { tables.new ≡ tables.old }
 {
-    let numbers = clue.numbers();
-    match SetWidth::of(bits_needed(line.len(), numbers)) {
-        SetWidth::Narrow => deduce_as::<u64>(tables, line, numbers),
-        SetWidth::Middle => deduce_as::<u128>(tables, line, numbers),
-        SetWidth::Wide => deduce_as::<Bits256>(tables, line, numbers),
-    }
+    Bits256::deduce(tables, line, clue.numbers())
 }

@@ -9,11 +9,10 @@ ghost use Rattle.line_core.specs.steps.PrefixScan.{IsDomainOf};
 ghost use Rattle.line_core.specs.steps.Feasibility.{AreLengths, AreSuffixes, HasPlacing};
 
 use crate::Line;
-use crate::buffers::{SuffixBuffers, ensure_initialized};
+use crate::buffers::ensure_initialized;
 use crate::domains::LineDomain;
 use crate::prefix_scan::PrefixScan;
 use crate::suffixes::{MAX_GAPS, suffix_ends, write_suffixes};
-use crate::widths::{SetWidth, bits_needed};
 use bit_sets::{BitSet, Bits256, fit_table};
 use grid_core::{BitLine, Clue, MAX_RUNS, MAX_SIDE, NoMemory};
 use std::alloc::Global;
@@ -109,63 +108,30 @@ fn find_starts<W: BitSet>(
     write_starts(direction, &domain, clue, suffixes, list)
 }
 
-/// Writes the starts of the placing that is outermost in a direction, using the narrowest sets that
-/// hold the line and the numbers of the clue. Returns whether there is a placing; if not, the
-/// contents of `list` are unspecified.
-fn find_by_width(
-    direction: Direction,
-    line: &Line,
-    clue: &[u16],
-    buffers: &mut SuffixBuffers,
-    list: &mut StartList,
-) -> bool
-    requires clue { AreLengths MAX_SIDE clue.now }
-    requires count { length clue.now ≤ MAX_RUNS }
-    ensures { MatchBool result
-        (outermost direction line.now clue.now ≡ Some (take (length clue.now) list.new.starts))
-        (outermost direction line.now clue.now ≡ None) }
-{
-    match SetWidth::of(bits_needed(line.len(), clue)) {
-        SetWidth::Narrow => {
-            ensure_initialized::<u64>(&mut buffers.narrow);
-            let suffixes = &mut buffers.narrow[0];
-            find_starts::<u64>(direction, &line.resized(), clue, suffixes, list)
-        }
-        SetWidth::Middle => {
-            ensure_initialized::<u128>(&mut buffers.middle);
-            let suffixes = &mut buffers.middle[0];
-            find_starts::<u128>(direction, &line.resized(), clue, suffixes, list)
-        }
-        SetWidth::Wide => {
-            ensure_initialized::<Bits256>(&mut buffers.wide);
-            let suffixes = &mut buffers.wide[0];
-            find_starts::<Bits256>(direction, &line.resized(), clue, suffixes, list)
-        }
-    }
-}
-
-/// The starts of the runs of a placing, in order, with the buffers for finding them. Contracts see
-/// it as the list of the starts.
+/// The starts of the runs of a placing, in order, with the buffer for finding them. Contracts see it
+/// as the list of the starts.
 #[derive(Drop)]
 pub struct Starts {
     count: usize,
     list: StartList,
-    buffers: SuffixBuffers,
+    /// The buffer for the suffix sets of a line.
+    suffixes: Vec<[Bits256; MAX_GAPS]>,
 }
 
 impl Model for Starts {
-    ghost use Rattle.std.specs.Prelude.{◌≤◌, ℕ, List, take};
+    ghost use Rattle.std.specs.Prelude.{◌<◌, ◌≤◌, ℕ, List, take, vec_capacity};
     ghost use Rattle.grid_core.specs.declared.limits.TheConstants.{MAX_RUNS};
 
     ghost Value = { List ℕ };
 
     ghost view = { λ starts. take starts.count starts.list.starts };
 
-    ghost invariant = { λ starts. starts.count ≤ MAX_RUNS };
+    ghost invariant = { λ starts.
+        (starts.count ≤ MAX_RUNS) × (0 < vec_capacity starts.suffixes) };
 }
 
 impl Starts {
-    /// Allocates the buffers, with an empty list of starts. Returns `NoMemory` if an allocation
+    /// Allocates the buffer, with an empty list of starts. Returns `NoMemory` if an allocation
     /// fails.
     pub fn new(alloc: Global) -> Result<Starts, NoMemory>
         ensures { IfOk result (λ starts. starts ≡ []) }
@@ -175,7 +141,7 @@ impl Starts {
             list: StartList {
                 starts: [0; MAX_RUNS],
             },
-            buffers: SuffixBuffers::new(alloc)?,
+            suffixes: Vec::with_capacity(alloc, 1)?,
         })
     }
 
@@ -197,7 +163,8 @@ impl Starts {
             (outermost direction line.now clue.now ≡ Some self.new)
             ((outermost direction line.now clue.now ≡ None) × (self.new ≡ [])) }
     {
-        let found = find_by_width(direction, line, clue, &mut self.buffers, &mut self.list);
+        ensure_initialized::<Bits256>(&mut self.suffixes);
+        let found = find_starts(direction, line, clue, &mut self.suffixes[0], &mut self.list);
         self.count = if found { clue.len() } else { 0 };
         found
     }
