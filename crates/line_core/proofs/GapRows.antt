@@ -1,5 +1,5 @@
 -- The rows of a table of prefix supports, written gap by gap.
-use Rattle.line_core.proofs.Names.{Bool, CanBeMirrored, ◌↔◌, ◌⊎◌, ◌∷◌, rules, eqb-true, none_has, true, ◌≡◌, ◌≢◌, ◌∙◌, ℕ, zero, suc, ◌+◌, ◌-◌, ◌<◌, ◌≤◌, List, ◌++◌, length, false, refl, sym, subst, arith, zero-add, inl, inr, get_or, set, take, map, Cell, Has, IsMaskOf, IsShifted, IsGapAfter, IsFeasibleEnd, reversed_prefix, nat_eq, ◌*◌, ◌/◌, get_or-set_other, get_or-set_same, true≢false, drop, [], length-drop, drop_of_length-le, append-nil, get_or-take, get_or-drop, get_or-append-add, get_or_append_left, length-take-le, take_all, cases_eq, cases_lt, bit_at, IsWithBit, bits_at, length_at, add-one, AreLengths, SupportMasks, no_support, IsPrefixSupport, IsFeasibleGap, IsMirroredIn, HasColour, AreMasks, AreMore, mirror_index, IsRow, bit_at-suc, bit_at_lowest, bit_at-lt, same_from_bits}
+use Rattle.line_core.proofs.Names.{Bool, CanBeMirrored, ◌↔◌, ◌⊎◌, ◌∷◌, rules, eqb-true, none_has, true, ◌≡◌, ◌≢◌, ◌∙◌, ℕ, zero, suc, ◌+◌, ◌-◌, ◌<◌, ◌≤◌, List, length, false, sym, subst, arith, zero-add, inl, inr, get_or, set, take, map, Cell, Has, IsMaskOf, IsShifted, IsGapAfter, IsFeasibleEnd, reversed_prefix, nat_eq, ◌*◌, ◌/◌, get_or-set_other, get_or-set_same, true≢false, drop, [], length-drop, take_all, cases_eq, cases_lt, bit_at, IsWithBit, bits_at, length_at, add-one, AreLengths, SupportMasks, no_support, IsPrefixSupport, IsFeasibleGap, IsMirroredIn, HasColour, AreMasks, AreMore, mirror_index, IsRow, AreRowsTo, bit_at-suc, bit_at_lowest, bit_at-lt, same_from_bits}
 use Rattle.line_core.proofs.ColouredGaps.{before_from, before_to, gap_less, feasible_back, feasible_end_back, feasible_before_end, Step}
 use Rattle.line_core.proofs.SupportMasks.{masks_are, masks_same}
 
@@ -67,17 +67,18 @@ last_more all left next p Q last v first least m here old i k h lacks there =
 
 -- the prefix support at a gap after run `j`, from that at the gap one cell before and from the row before
 pub next_prefix_support : (t : Bool) (l : List Cell) (clue : List ℕ) (j w gaps left ends longer ended p : ℕ)
-    (before rows : List SupportMasks)
+    (before table : List SupportMasks)
     (last old m : SupportMasks) → AreLengths w clue → j < length clue → length l ≤ 128 → IsMaskOf (IsFeasibleGap l clue (j + 1)) gaps
     → IsMaskOf (IsFeasibleEnd l clue j) ends → IsMaskOf (IsShifted w (Has gaps) 1) longer
     → IsMaskOf (IsShifted w (Has ends) 1) ended → p < w
-    → Has gaps p → Has left p → ((i : ℕ) → Has left i → p ≤ i) → before ≡ take 128 rows → IsRow t l clue j 0 rows
+    → Has gaps p → Has left p → ((i : ℕ) → Has left i → p ≤ i)
+    → ((k : ℕ) → k < 128 → get_or before k no_support ≡ get_or table (128 * j + k) no_support) → IsRow t l clue j (128 * j) table
     → IsLast gaps left (IsPrefixSupport t l (reversed_prefix 0 clue (j + 1))) last
     → AreMasks (λ v k. ((v ≡ false) × IsMirroredIn t (length l) p (p + 1) k) ⊎ (Has longer p × HasColour last v k)) old
     → (let n = get_or clue j 0 in AreMore (λ v k. Has ended p × (((v ≡ true) × IsMirroredIn t (length l) (p - n) p k)
     ⊎ ((n < p) × HasColour (get_or before (p - n - 1) no_support) v k))) old m)
     → IsPrefixSupport t l (reversed_prefix 0 clue (j + 1)) p m
-next_prefix_support t l clue j w gaps left ends longer ended p before rows last old m are jl short ps es lm em pw is here low front given
+next_prefix_support t l clue j w gaps left ends longer ended p before table last old m are jl short ps es lm em pw is here low front given
     suffix a b =
     rw (add-one j) (masks_same _ _ m b (λ v k. (
       λ h. let y = to v k h in (y.0, before_from l runs n p v (mirror_index t (length l) k) some whole.0 y.1),
@@ -109,7 +110,7 @@ next_prefix_support t l clue j w gaps left ends longer ended p before rows last 
         let gap = feasible_before_end l clue j (p - 1) jl some (omega arith) (es.to (p - 1) (em.to p h).2) in
         let e : p - 1 - n ≡ p - n - 1 = omega arith in
         let inside : p - 1 - n < 128 = omega (arith, gap.0.0.0) in
-        masks_are _ _ (rw (sym e, front, get_or-take 128 rows (p - 1 - n) no_support inside) (rw zero-add at (given (p - 1 - n) gap)))
+        masks_are _ _ (rw (sym e, front (p - 1 - n) inside) (given (p - 1 - n) gap))
 
     to : (v : Bool) (k : ℕ) → HasColour old v k ⊎ (Has ended p × (((v ≡ true) × IsMirroredIn t (length l) (p - n) p k)
         ⊎ ((n < p) × HasColour (get_or before (p - n - 1) no_support) v k)))
@@ -146,10 +147,6 @@ pub stored_is : {A : Type 0} (bits : A → ℕ) (P : ℕ → Type 0) (xs : List 
     → m ≡ bits (get_or xs i d) → IsMaskOf P (get_or (map bits xs) i 0) → IsMaskOf P m
 stored_is bits P xs i d m inside e p = subst (IsMaskOf P) (sym (e ∙ bits_at bits xs i d inside)) p
 
--- the rows for up to `j` runs hold their prefix supports
-abbrev pub AreRowsTo : Bool → List Cell → List ℕ → ℕ → List SupportMasks → Type 0
-AreRowsTo t l clue j table = (q : ℕ) → q ≤ j → IsRow t l clue q (128 * q) table
-
 pub rows_none : (t : Bool) (l : List Cell) (clue : List ℕ) (table : List SupportMasks)
     → ((i : ℕ) → IsFeasibleGap l clue 0 i → IsPrefixSupport t l [] i (get_or table i no_support)) → AreRowsTo t l clue 0 table
 rows_none t l clue table given q h i whole = let e : q ≡ 0 = omega arith in rw (e, zero-add) (given i (rw e at whole))
@@ -161,33 +158,11 @@ part_is a xs = take_all (length xs - a) (drop a xs) (omega (arith, length-drop a
 pub part_long : (a : ℕ) (xs : List SupportMasks) → length (take (length xs - a) (drop a xs)) ≡ length xs - a
 part_long a xs = rw part_is (length-drop a xs)
 
-pub put_back : (a : ℕ) (xs ys : List SupportMasks) → take a xs ++ (ys ++ drop (length xs - a) (drop a xs)) ≡ take a xs ++ ys
-put_back a xs ys = rw (drop_of_length-le (drop a xs) {i = length xs - a} (omega (arith, length-drop a xs)), append-nil) refl
-
--- the row for `j` runs, as it is read from the table
-pub row_at : (t : Bool) (l : List Cell) (clue : List ℕ) (j : ℕ) (table : List SupportMasks) → AreRowsTo t l clue j table
-    → IsRow t l clue j 0 (take (length table - 128 * j) (drop (128 * j) table))
-row_at t l clue j table given i whole =
-    rw (part_is, get_or-drop (128 * j) table (0 + i) no_support, zero-add i) (given j (omega arith) i whole)
-
 -- the next row is written after the row for `j` runs
-pub rows_more : (t : Bool) (l : List Cell) (clue : List ℕ) (j : ℕ) (table new : List SupportMasks) → length l ≤ 128 → 128 * j ≤ length table
-    → AreRowsTo t l clue j table → IsRow t l clue (j + 1) 128 new
-    → ((k : ℕ) → k < 128 → get_or new k no_support ≡ get_or (take (length table - 128 * j) (drop (128 * j) table)) k no_support)
-    → AreRowsTo t l clue (j + 1) (take (128 * j) table ++ (new ++ drop (length table - 128 * j) (drop (128 * j) table)))
-rows_more t l clue j table new short fits given next same q le i whole =
-    let front = take (128 * j) table in
-    let size : length front ≡ 128 * j = length-take-le (128 * j) table fits in
-    let within : i < 128 = omega (arith, whole.0.0.0) in
-    let back : (k : ℕ) → get_or (front ++ new) (128 * j + k) no_support ≡ get_or new k no_support =
-    λ k. rw size at (get_or-append-add front new k no_support) in
-    rw put_back (elim (cases_lt q j) [
-      | inl low ↦
-          (let inside : 128 * q + i < 128 * j = omega arith in search (rules, get_or_append_left, get_or-take, given q))
-      | inr high ↦ elim (cases_eq q j) [
-        | inl e ↦ rw (e, back i, same i within, part_is, get_or-drop (128 * j) table i no_support) (given j (omega arith) i (rw e at whole))
-        | inr ne ↦
-            (let e : q ≡ j + 1 = omega arith in
-            let at : 128 * (j + 1) + i ≡ 128 * j + (128 + i) = omega arith in rw (e, at, back (128 + i)) (next i (rw e at whole)))
-      ]
-    ])
+pub rows_more : (t : Bool) (l : List Cell) (clue : List ℕ) (j : ℕ) (old new : List SupportMasks) → length l ≤ 128
+    → AreRowsTo t l clue j old → IsRow t l clue (j + 1) (128 * (j + 1)) new
+    → ((k : ℕ) → k < 128 * (j + 1) → get_or new k no_support ≡ get_or old k no_support) → AreRowsTo t l clue (j + 1) new
+rows_more t l clue j old new short given next same q le i whole = elim (cases_lt q (j + 1)) [
+  | inl low ↦ rw (same (128 * q + i) (omega (arith, whole.0.0.0))) (given q (omega arith) i whole)
+  | inr high ↦ (let e : q ≡ j + 1 = omega arith in rw e (next i (rw e at whole)))
+]

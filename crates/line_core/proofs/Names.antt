@@ -36,6 +36,6 @@ pub use Rattle.line_core.specs.Lookahead.{SupportMasks, LookaheadMasks, coloured
 pub use Rattle.line_core.specs.steps.Lookahead.{IsSupportOf, IsPrefixSupport, AreMasks, AreFeasibleEnds, CanBeBefore, CanBeMirrored, IsFeasibleGap, mirror_index}
 pub use Rattle.line_core.specs.steps.Combining.{IsLineWithin, AreMore, AreLookaheadsMore, AreEndSupports, CanBeAfter, CanBeBesideGap, CanBeBesideRun, CanBeUpTo, CanBeWithBlank, CanBeWithFilled, HasColour, IsEndOver}
 pub use Rattle.bit_sets.proofs.LevelSteps.{levels_none, none_at, bits_at}
-pub use Rattle.line_core.specs.steps.PrefixSupports.{IsRow, IsMirroredIn}
+pub use Rattle.line_core.specs.steps.PrefixSupports.{AreRowsTo, IsRow, IsMirroredIn}
 pub use Rattle.std.proofs.lemmas.List.Sums.{list_all-from_AllPass, sum_by-take-le, sum_by_more}
 pub use Rattle.std.specs.Int.{bit_at}

@@ -8,7 +8,7 @@ ghost use Rattle.line_core.specs.steps.Feasibility.{AreLengths, IsGapAfter};
 ghost use Rattle.line_core.specs.Lookahead.{no_support};
 ghost use Rattle.line_core.specs.declared.lookahead.TheConstants.{MAX_LOOKAHEAD_LEN};
 ghost use Rattle.line_core.specs.steps.Lookahead.{IsPrefixSupport, AreMasks, AreFeasible};
-ghost use Rattle.line_core.specs.steps.PrefixSupports.{AreFeasibleAt, HasRow, HasRowsFor, IsCellOf, IsMirroredIn, WritesPrefixSupports, WritesRow};
+ghost use Rattle.line_core.specs.steps.PrefixSupports.{AreFeasibleAt, HasRows, HasRowsFor, IsCellOf, IsMirroredIn, WritesPrefixSupports, WritesRow};
 ghost use Rattle.line_core.specs.steps.Combining.{AreMore, HasColour};
 
 use crate::domains::LineDomain;
@@ -185,15 +185,15 @@ struct FeasibleAt<W: BitSet> {
     ends: W,
 }
 
-/// Writes the prefix support of each feasible gap after run `j` to the second row of `rows`. The
-/// first row has those of the gaps before the run.
+/// Writes the prefix support of each feasible gap after run `j` to the next row of `table`, which
+/// has those of the gaps before the run.
 #[tactic(auto, using(crate::proofs::GapRows::walks))]
 fn write_row<W: BitSet, const MIRRORED: bool>(
     len: u16,
     clue: &[u16],
     j: usize,
     feasible: &FeasibleAt<W>,
-    rows: &mut [Support<W>],
+    table: &mut [Support<W>],
 )
     ghost line: { List Cell }
     requires len { (len ≡ length line) × (len ≤ W.WIDTH) }
@@ -201,8 +201,8 @@ fn write_row<W: BitSet, const MIRRORED: bool>(
     requires j { j < length clue.now }
     requires feasible { AreFeasibleAt line clue.now j
         (W.bits feasible.now.gaps) (W.bits feasible.now.ends) }
-    requires rows { HasRow MIRRORED line clue.now j rows.old }
-    ensures { WritesRow MIRRORED line clue.now j rows.old rows.new }
+    requires table { HasRows MIRRORED line clue.now j table.old }
+    ensures { WritesRow MIRRORED line clue.now j table.old table.new }
 {
     let number = clue[j];
     let longer = feasible.gaps.shifted_up(1);
@@ -213,7 +213,8 @@ fn write_row<W: BitSet, const MIRRORED: bool>(
         indices,
         ended,
     };
-    let (before, row) = rows.split_at_mut(ROW_STRIDE);
+    let (done, row) = table.split_at_mut(ROW_STRIDE * (j + 1));
+    let (_, before) = done.split_at_mut(ROW_STRIDE * j);
     // From left to right: a gap right after another one takes over the prefix support of that one,
     // which is `last` then.
     let mut last = Support::none();
@@ -254,6 +255,6 @@ pub fn write_prefix_supports<W: BitSet, const MIRRORED: bool>(
             gaps: next,
             ends: run_ends,
         };
-        write_row::<W, MIRRORED>(len, clue, j, &feasible, &mut table[ROW_STRIDE * j..]);
+        write_row::<W, MIRRORED>(len, clue, j, &feasible, table);
     }
 }

@@ -108,8 +108,8 @@ fn find_starts<W: BitSet>(
     write_starts(direction, &domain, clue, suffixes, list)
 }
 
-/// The starts of the runs of a placing, in order, with the buffer for finding them. Contracts see it
-/// as the list of the starts.
+/// The starts of the runs of a placing, in order, with the buffer for finding them. Contracts see
+/// it as the list of the starts.
 #[derive(Drop)]
 pub struct Starts {
     count: usize,

@@ -32,22 +32,25 @@ pub record AreFeasibleAt (line : List Cell) (clue : List ℕ) (j gaps ends : ℕ
   pub gaps_are : IsMaskOf (IsFeasibleGap line clue (j + 1)) gaps
   pub ends_are : IsMaskOf (IsFeasibleEnd line clue j) ends
 
--- `rows` begin with the prefix supports of the gaps after the first `j` runs, and the next row can
--- be written for `line`
-pub record HasRow
-    (mirrored : Bool) (line : List Cell) (clue : List ℕ) (j : ℕ) (rows : List SupportMasks)
+-- `table` has the prefix supports of the gaps after up to `j` runs
+abbrev pub AreRowsTo : Bool → List Cell → List ℕ → ℕ → List SupportMasks → Type 0
+AreRowsTo mirrored line clue j table =
+    (q : ℕ) → q ≤ j → IsRow mirrored line clue q (ROW_STRIDE * q) table
+
+-- `table` has the prefix supports of the gaps after up to `j` runs, and the next row can be written
+-- for `line`
+pub record HasRows
+    (mirrored : Bool) (line : List Cell) (clue : List ℕ) (j : ℕ) (table : List SupportMasks)
     : Type 0 where
   pub short : length line ≤ MAX_LOOKAHEAD_LEN
-  pub row : IsRow mirrored line clue j 0 rows
-  pub size : 2 * ROW_STRIDE ≤ length rows
+  pub rows : AreRowsTo mirrored line clue j table
+  pub size : ROW_STRIDE * (j + 2) ≤ length table
 
--- `new` is `old` with the prefix supports of the gaps after run `j` in the second row
+-- `new` is as long as `old`, and has the prefix supports of the gaps after run `j` too
 pub record WritesRow
     (mirrored : Bool) (line : List Cell) (clue : List ℕ) (j : ℕ) (old new : List SupportMasks)
     : Type 0 where
-  pub row : IsRow mirrored line clue (j + 1) ROW_STRIDE new
-  pub before : (k : ℕ) → k < ROW_STRIDE
-      → slice_index_or new k no_support ≡ slice_index_or old k no_support
+  pub rows : AreRowsTo mirrored line clue (j + 1) new
   pub count : length new ≡ length old
 
 -- `table` has a row for each gap of `clue`, long enough for `line`

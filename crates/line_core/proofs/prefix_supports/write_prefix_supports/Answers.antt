@@ -1,6 +1,6 @@
 -- `write_prefix_supports`: each turn of the loop writes the row for one more run.
-use Rattle.line_core.proofs.Names.{rules, ℕ, Has, ◌+◌, length-append, length-take-le, arith, ◌*◌}
-use Rattle.line_core.proofs.GapRows.{stored_is, part_long, put_back, row_at, rows_more, rows_none}
+use Rattle.line_core.proofs.Names.{rules, ℕ, Has, ◌+◌, arith}
+use Rattle.line_core.proofs.GapRows.{stored_is, rows_none}
 use Rattle.line_core.proofs.prefix_supports.write_prefix_supports.Goals as goal
 
 pub write_first-requires : goal.write_first-requires
@@ -21,14 +21,4 @@ write_row-requires g c = λ κs within.
     let j = c.loop-j.j in
     let gap = stored_is _ _ c.args.gaps.now (j + 1) _ _ (omega arith) c.from_stored-next.ensures (feasible.gaps_are _ (omega arith)) in
     let end = stored_is _ _ c.args.ends.now j _ _ (omega arith) c.from_stored-run_ends.ensures (feasible.ends_are _ c.loop-j-test.true) in
-    let row = row_at _ g.line _ j _ c.loop-j.invariant.rows in search (rules, part_long)
-
-pub loop-j-preserved : goal.loop-j-preserved
-loop-j-preserved g c =
-    let short = c.requires.1.1.1.1.1.1.1.1.short in
-    let at = 128 * c.loop-j.j in
-    let table = c.loop-j.table in
-    let row = c.write_row.ensures in record {
-      size = rw (put_back at table, length-append) (omega (arith, row.count, part_long at table, length-take-le at table (omega arith)));
-      rows = rows_more _ g.line _ _ _ _ short (omega arith) c.loop-j.invariant.rows row.row row.before;
-    }
+    search rules

@@ -1,6 +1,5 @@
 -- The invariant of the loop of `write_prefix_supports`: the rows for up to `j` runs hold their prefix supports.
-use Rattle.line_core.proofs.Names.{◌≡◌, nat_eq, not, length}
-use Rattle.line_core.proofs.GapRows.{AreRowsTo}
+use Rattle.line_core.proofs.Names.{AreRowsTo, ◌≡◌, nat_eq, not, length}
 use Rattle.line_core.proofs.prefix_supports.write_prefix_supports.Given as goal
 
 abbrev pub ghost-write_first : goal.ghost-write_first
