@@ -1,6 +1,6 @@
 -- The support of a line with one cell given a colour, combined from prefix supports, suffix supports and the run that
 -- covers the cell.
-use Rattle.line_core.proofs.Names.{AreMore, allows, rules, ap, sym, cases_eq, get_or-set_same, true≢false, not, mask_same, get_or-drop, IsShifted, nat_eq, ◌≡◌, ℕ, zero, suc, ◌+◌, ◌-◌, ◌*◌, ◌<◌, ◌≤◌, Bool, true, false, List, ◌∷◌, length, length_at, get_or, set, take, drop, reverse, refl, ◌∙◌, arith, add-one, ◌⊎◌, inl, inr, ◌↔◌, cases_lt, and_from, and_parts, length-set, ext_get_or, get_or-reverse, Has, IsWithBit, IsMaskOf, Cell, Unknown, agrees, runs, reversed_prefix, MayBe, IsSuffixGap, IsFeasibleEnd, ArePositive, get_or-set_other, get_or-set_at, get_or_default, length-reverse, reverse-reverse, drop-set-lt, colour, SupportMasks, LookaheadMasks, no_support, no_lookahead, masks_if, coloured, IsSupportOf, AreLengths, CanBeBefore, IsFeasibleGap, AreMasks, AreLookaheadsMore, AreEndSupports, IsLineWithin, CanBeAfter, CanBeBesideGap, CanBeBesideRun, CanBeUpTo, CanBeWithBlank, CanBeWithFilled, HasColour, IsEndOver}
+use Rattle.line_core.proofs.Names.{AreMore, allows, rules, ap, sym, cases_eq, get_or-set_same, true≢false, not, mask_same, get_or-drop, IsShifted, nat_eq, ◌≡◌, ℕ, zero, suc, ◌+◌, ◌-◌, ◌*◌, ◌<◌, ◌≤◌, Bool, true, false, List, ◌∷◌, length, length_at, get_or, set, take, drop, reverse, refl, ◌∙◌, arith, add-one, ◌⊎◌, inl, inr, ◌↔◌, cases_lt, and_from, and_parts, length-set, ext_get_or, get_or-reverse, Has, IsWithBit, IsMaskOf, Cell, Unknown, agrees, runs, reversed_prefix, MayBe, IsSuffixGap, IsFeasibleEnd, ArePositive, get_or-set_other, get_or-set_at, get_or_default, length-reverse, reverse-reverse, drop-set-lt, colour, SupportMasks, LookaheadMasks, no_support, no_lookahead, masks_if, coloured, IsSupportOf, AreLengths, CanBeBefore, IsFeasibleGap, AreMasks, AreLookaheadsMore, AreEndSupports, CanBeAfter, CanBeBesideGap, CanBeBesideRun, CanBeUpTo, CanBeWithBlank, CanBeWithFilled, HasColour, IsEndOver}
 use Rattle.line_core.specs.steps.Lookahead.{AreLookaheads}
 use Rattle.line_core.proofs.SupportMasks.{Below, masks_are, masks_same, more_more, read_at, more_same, one_below}
 use Rattle.line_core.proofs.ColouredGaps.{colour_is, coloured_less, coloured_other, reversed_prefix_coloured, gap_less, end_less, end_step_to, end_step_from, feasible_before_end}
@@ -135,8 +135,8 @@ end_inside l clue j e some whole = omega (arith, (whole.0.1.1 (get_or clue j 0 -
 
 pub ruleset ends = (end_inside, length_at, part_long)
 
-module _ (l : List Cell) (clue : List ℕ) (before after : List SupportMasks) (w len : ℕ) (line : IsLineWithin w l len)
-    (supports : AreEndSupports w l clue before after) where
+module _ (l : List Cell) (clue : List ℕ) (before after : List SupportMasks) (w len : ℕ)
+    (supports : AreEndSupports w l clue len before after) where
   -- the prefix support at a feasible gap, in the table
   near_at : (j i : ℕ) → j ≤ length clue → IsFeasibleGap l clue j i → (d : Bool) (k : ℕ)
       → HasColour (get_or before (128 * j + i) no_support) d k ↔ CanBeBefore l (reversed_prefix 0 clue j) i d k

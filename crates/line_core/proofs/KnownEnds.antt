@@ -211,11 +211,11 @@ module _ (l : List Cell) (n m : ℕ) (front : IsKnownEnd l n) (back : IsKnownEnd
 
 -- a part of a clue is a clue
 pub clue_part : (limit n m : ℕ) (clue : List ℕ) → is_clue limit clue ≡ true → is_clue limit (take n (drop m clue)) ≡ true
-clue_part limit n m clue is =
-    let are = lengths_of limit clue is in
-    let few : length clue ≤ 128 = search rules in
-    clue_of limit (take n (drop m clue)) (grind (arith, common_steps))
-    (record { positive = search (rules, All-take, All-drop, are.positive); short = search (rules, All-take, All-drop, are.short) })
+clue_part limit n m clue is = let are = lengths_of limit clue is in clue_of limit (take n (drop m clue)) (record {
+  few = grind (arith, common_steps);
+  positive = search (rules, All-take, All-drop, are.positive);
+  short = search (rules, All-take, All-drop, are.short);
+})
 
 -- ---- the deduced line
 

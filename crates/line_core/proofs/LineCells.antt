@@ -47,11 +47,11 @@ written_more P xs j v l here below k h = search rules
 -- the numbers of a clue are lengths of runs
 pub lengths_of : (limit : ℕ) (clue : List ℕ) → is_clue limit clue ≡ true → AreLengths limit clue
 lengths_of limit clue is =
-    record { positive = search (rules, AllPass-from_list_all); short = search (rules, AllPass-from_list_all) }
+    record { few = search rules; positive = search (rules, AllPass-from_list_all); short = search (rules, AllPass-from_list_all) }
 
--- at most 128 lengths of runs are a clue
-pub clue_of : (limit : ℕ) (clue : List ℕ) → length clue ≤ 128 → AreLengths limit clue → is_clue limit clue ≡ true
-clue_of limit clue few are = search (rules, and_from, list_all-from_AllPass, are.positive, are.short)
+-- lengths of runs are a clue
+pub clue_of : (limit : ℕ) (clue : List ℕ) → AreLengths limit clue → is_clue limit clue ≡ true
+clue_of limit clue are = search (rules, and_from, list_all-from_AllPass, are.positive, are.short)
 
 -- each number of a clue is positive
 pub clue_positive : (limit : ℕ) (clue : List ℕ) → is_clue limit clue ≡ true → ArePositive clue
@@ -60,7 +60,7 @@ clue_positive limit clue is = recursion_from_All _ clue (lengths_of limit clue i
 -- a clue is one for each limit that its numbers don't exceed
 pub clue_within : (limit width : ℕ) (clue : List ℕ) → is_clue limit clue ≡ true → All (λ n. n ≤ width) clue → is_clue width clue ≡ true
 clue_within limit width clue is within =
-    clue_of width clue (search rules) (record { positive = (lengths_of limit clue is).positive; short = within })
+    let are = lengths_of limit clue is in clue_of width clue (record { few = are.few; positive = are.positive; short = within })
 
 -- each number of a clue is positive and at most `width`
 pub length_at : (width : ℕ) (clue : List ℕ) (j : ℕ) → AreLengths width clue → j < length clue
@@ -70,6 +70,7 @@ length_at width clue j are l = (search rules, search rules)
 -- the numbers of a reversed clue are in the same range
 pub lengths_mirrored : (width : ℕ) (clue : List ℕ) → AreLengths width clue → AreLengths width (reverse clue)
 lengths_mirrored width clue are = record {
+  few = omega (arith, are.few, length-reverse clue);
   positive = λ k d h. search (rules, get_or-reverse, length-reverse, are.positive);
   short = λ k d h. search (rules, get_or-reverse, length-reverse, are.short);
 }

@@ -34,7 +34,7 @@ pub use Rattle.line_core.specs.Support.{deduced_cell, deduced_from}
 pub use Rattle.std.proofs.lemmas.Grind.{common_steps, get_or-set_at}
 pub use Rattle.line_core.specs.Lookahead.{SupportMasks, LookaheadMasks, coloured, masks_if, no_support, no_lookahead}
 pub use Rattle.line_core.specs.steps.Lookahead.{IsSupportOf, IsPrefixSupport, AreMasks, AreFeasibleEnds, CanBeBefore, CanBeMirrored, IsFeasibleGap, mirror_index}
-pub use Rattle.line_core.specs.steps.Combining.{IsLineWithin, AreMore, AreLookaheadsMore, AreEndSupports, CanBeAfter, CanBeBesideGap, CanBeBesideRun, CanBeUpTo, CanBeWithBlank, CanBeWithFilled, HasColour, IsEndOver}
+pub use Rattle.line_core.specs.steps.Combining.{AreMore, AreLookaheadsMore, AreEndSupports, CanBeAfter, CanBeBesideGap, CanBeBesideRun, CanBeUpTo, CanBeWithBlank, CanBeWithFilled, HasColour, IsEndOver}
 pub use Rattle.bit_sets.proofs.LevelSteps.{levels_none, none_at, bits_at}
 pub use Rattle.line_core.specs.steps.PrefixSupports.{AreRowsTo, IsRow, IsMirroredIn}
 pub use Rattle.std.proofs.lemmas.List.Sums.{list_all-from_AllPass, sum_by-take-le, sum_by_more}

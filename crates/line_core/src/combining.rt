@@ -6,7 +6,7 @@ ghost use Rattle.grid_core.specs.declared.cells.Cell.{Cell};
 ghost use Rattle.bit_sets.specs.Masks.{IsMaskOf};
 ghost use Rattle.line_core.specs.Lookahead.{no_lookahead};
 ghost use Rattle.line_core.specs.steps.Lookahead.{AreMasks, AreLookaheads, AreFeasible, IsFeasibleGap};
-ghost use Rattle.line_core.specs.steps.Combining.{AreLookaheadsMore, AreEndSupports, CanBeBesideGap, CanBeBesideRun, CanBeWithBlank, CanBeWithFilled, HasColour, IsLineWithin};
+ghost use Rattle.line_core.specs.steps.Combining.{AreLookaheadsMore, AreEndSupports, CanBeBesideGap, CanBeBesideRun, CanBeWithBlank, CanBeWithFilled, HasColour};
 ghost use Rattle.line_core.specs.steps.Feasibility.{IsFeasibleEnd};
 
 use crate::lookahead::{Lookahead, Support};
@@ -53,11 +53,10 @@ fn support_with_gap<W: BitSet>(
     supports: &EndSupports<'_, W>,
 ) -> Support<W>
     ghost line: { List Cell }
-    requires line { IsLineWithin W.WIDTH line supports.now.len }
     requires j { j ≤ length clue.now }
     requires index { IsFeasibleGap line clue.now j index }
     requires supports { AreEndSupports W.WIDTH line clue.now
-        supports.now.before.now supports.now.after.now }
+        supports.now.len supports.now.before.now supports.now.after.now }
     ensures { AreMasks (CanBeBesideGap line clue.now j index) result }
 {
     let mirrored = usize::from(supports.len - 1 - index);
@@ -75,11 +74,10 @@ fn support_with_run<W: BitSet>(
     supports: &EndSupports<'_, W>,
 ) -> Support<W>
     ghost line: { List Cell }
-    requires line { IsLineWithin W.WIDTH line supports.now.len }
     requires j { j < length clue.now }
     requires end { IsFeasibleEnd line clue.now j end }
     requires supports { AreEndSupports W.WIDTH line clue.now
-        supports.now.before.now supports.now.after.now }
+        supports.now.len supports.now.before.now supports.now.after.now }
     ensures { AreMasks (CanBeBesideRun line clue.now j end) result }
 {
     let next = end + 1;
@@ -105,11 +103,10 @@ fn add_gaps<W: BitSet>(
     lookaheads: &mut [Lookahead<W>],
 )
     ghost line: { List Cell }
-    requires line { IsLineWithin W.WIDTH line supports.now.len }
     requires j { j ≤ length clue.now }
     requires gaps { IsMaskOf (IsFeasibleGap line clue.now j) (W.bits gaps) }
     requires supports { AreEndSupports W.WIDTH line clue.now
-        supports.now.before.now supports.now.after.now }
+        supports.now.len supports.now.before.now supports.now.after.now }
     requires lookaheads { length line ≤ length lookaheads.old }
     ensures { AreLookaheadsMore false (λ x. CanBeWithBlank line clue.now x j)
         lookaheads.old lookaheads.new }
@@ -134,11 +131,10 @@ fn add_run<W: BitSet>(
     lookaheads: &mut [Lookahead<W>],
 )
     ghost line: { List Cell }
-    requires line { IsLineWithin W.WIDTH line supports.now.len }
     requires j { j < length clue.now }
     requires ends { IsMaskOf (IsFeasibleEnd line clue.now j) (W.bits ends) }
     requires supports { AreEndSupports W.WIDTH line clue.now
-        supports.now.before.now supports.now.after.now }
+        supports.now.len supports.now.before.now supports.now.after.now }
     requires lookaheads { length line ≤ length lookaheads.old }
     ensures { AreLookaheadsMore true (λ x. CanBeWithFilled line clue.now x j)
         lookaheads.old lookaheads.new }
@@ -174,11 +170,10 @@ pub fn combine_supports<W: BitSet>(
     lookaheads: &mut [Lookahead<W>],
 )
     ghost line: { List Cell }
-    requires line { IsLineWithin W.WIDTH line supports.now.len }
     requires feasible { AreFeasible line clue.now
         (map W.stored_bits gaps.now) (map W.stored_bits ends.now) }
     requires supports { AreEndSupports W.WIDTH line clue.now
-        supports.now.before.now supports.now.after.now }
+        supports.now.len supports.now.before.now supports.now.after.now }
     requires lookaheads { length line ≤ length lookaheads.old }
     ensures lookaheads { AreLookaheads line clue.now lookaheads.new }
     ensures count { length lookaheads.new ≡ length lookaheads.old }

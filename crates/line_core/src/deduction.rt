@@ -22,7 +22,7 @@ use crate::single_run::single_run_support;
 use crate::suffixes::{MAX_GAPS, first_suffix_gap, suffix_ends, write_suffixes};
 use crate::widths::bits_needed;
 use bit_sets::{BitSet, Bits256, LEVELS, add_spread, fit_table, prefix, spread_levels};
-use grid_core::{BitLine, Clue, MAX_RUNS, MAX_SIDE, NoMemory};
+use grid_core::{BitLine, Clue, MAX_SIDE, NoMemory};
 use std::alloc::Global;
 use std::marker::Model;
 
@@ -37,7 +37,6 @@ fn scanned_support<W: BitSet>(
     requires domain { IsDomainOf W.WIDTH line domain.now.len
         (W.bits domain.now.not_filled) (W.bits domain.now.not_blank) }
     requires clue { AreLengths W.WIDTH clue.now }
-    requires count { length clue.now ≤ MAX_RUNS }
     requires suffixes { AreSuffixes line clue.now (map W.stored_bits suffixes.now) }
     ensures filled { IsMaskOf (IsFillable line clue.now) (W.bits result.0) }
     ensures blank { IsMaskOf (IsBlankable line clue.now) (W.bits result.1) }
@@ -69,7 +68,6 @@ fn general_support<W: BitSet>(
     requires domain { IsDomainOf W.WIDTH line domain.now.len
         (W.bits domain.now.not_filled) (W.bits domain.now.not_blank) }
     requires clue { AreLengths W.WIDTH clue.now }
-    requires count { length clue.now ≤ MAX_RUNS }
     ensures filled { IsMaskOf (IsFillable line clue.now) (W.bits result.0) }
     ensures blank { IsMaskOf (IsBlankable line clue.now) (W.bits result.1) }
 {

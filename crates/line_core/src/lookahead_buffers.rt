@@ -45,7 +45,6 @@ fn write_mirrored_feasible<W: BitSet>(
     requires domain { IsDomainOf W.WIDTH line domain.now.len
         (W.bits domain.now.not_filled) (W.bits domain.now.not_blank) }
     requires clue { AreLengths W.WIDTH mirrored.now }
-    requires count { length mirrored.now ≤ MAX_RUNS }
     ensures { AreFeasible (reverse line) mirrored.now
         (map W.stored_bits gaps.new) (map W.stored_bits ends.new) }
 {

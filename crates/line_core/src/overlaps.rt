@@ -11,7 +11,7 @@ ghost use Rattle.line_core.specs.steps.Feasibility.{AreLengths, IsFillable, IsBl
 
 use crate::domains::LineDomain;
 use bit_sets::{BitSet, prefix};
-use grid_core::{MAX_RUNS, MAX_SIDE};
+use grid_core::MAX_SIDE;
 
 /// Reports whether all cells of a line are unknown: those that can be blank are those that can be
 /// filled.
@@ -30,8 +30,7 @@ pub fn is_unknown<W: BitSet>(domain: &LineDomain<W>) -> bool
 /// Returns the number of cells that the runs of a clue take if each has a blank cell after it.
 #[tactic(auto, using(crate::proofs::Packing::start_few))]
 fn cells_needed(clue: &[u16]) -> u16
-    requires clue { AreLengths MAX_SIDE clue.now }
-    requires count { length clue.now ≤ MAX_RUNS }
+    requires { AreLengths MAX_SIDE clue.now }
     ensures { result ≡ needed clue.now }
 {
     let mut needed = 0;
@@ -64,7 +63,6 @@ fn overlaps<W: BitSet>(clue: &[u16], slack: u16) -> W
 pub fn unknown_line_support<W: BitSet>(len: u16, clue: &[u16]) -> (W, W)
     requires len { (1 ≤ len) × (len ≤ W.WIDTH) }
     requires clue { AreLengths W.WIDTH clue.now }
-    requires count { length clue.now ≤ MAX_RUNS }
     ensures filled { IsMaskOf (IsFillable (replicate len Unknown) clue.now) (W.bits result.0) }
     ensures blank { IsMaskOf (IsBlankable (replicate len Unknown) clue.now) (W.bits result.1) }
 {

@@ -16,7 +16,6 @@ use crate::lookahead::Support;
 use crate::prefix_scan::PrefixScan;
 use crate::suffixes::{MAX_GAPS, first_suffix_gap, suffix_ends, write_suffixes};
 use bit_sets::{BitSet, fit_table, prefix};
-use grid_core::MAX_RUNS;
 
 /// The number of entries in a row of a table of prefix supports: one for each index of a gap on a
 /// line of at most `MAX_LOOKAHEAD_LEN` cells. The table has one row for each number of runs before
@@ -36,7 +35,6 @@ pub fn write_feasible<W: BitSet>(
     requires domain { IsDomainOf W.WIDTH line domain.now.len
         (W.bits domain.now.not_filled) (W.bits domain.now.not_blank) }
     requires clue { AreLengths W.WIDTH clue.now }
-    requires count { length clue.now ≤ MAX_RUNS }
     ensures { AreFeasible line clue.now
         (map W.stored_bits gaps.new) (map W.stored_bits ends.new) }
 {
@@ -241,7 +239,6 @@ pub fn write_prefix_supports<W: BitSet, const MIRRORED: bool>(
     ghost line: { List Cell }
     requires len { (len ≡ length line) × (len ≤ W.WIDTH) }
     requires clue { AreLengths W.WIDTH clue.now }
-    requires count { length clue.now ≤ MAX_RUNS }
     requires feasible { AreFeasible line clue.now
         (map W.stored_bits gaps.now) (map W.stored_bits ends.now) }
     requires table { HasRowsFor line clue.now table.old }

@@ -59,7 +59,7 @@ fn write_starts<W: BitSet>(
     requires domain { IsDomainOf W.WIDTH line domain.now.len
         (W.bits domain.now.not_filled) (W.bits domain.now.not_blank) }
     requires clue { AreLengths W.WIDTH clue.now }
-    requires count { (0 < length clue.now) × (length clue.now ≤ MAX_RUNS) }
+    requires some { 0 < length clue.now }
     requires suffix { AreSuffixes line clue.now (map W.stored_bits suffixes.now) }
     ensures starts { MatchBool result
         ((j : ℕ) → j < length clue.now
@@ -95,7 +95,6 @@ fn find_starts<W: BitSet>(
     ghost cells: { List Cell }
     requires cells { line.now ≡ cells }
     requires clue { AreLengths W.WIDTH clue.now }
-    requires count { length clue.now ≤ MAX_RUNS }
     ensures { MatchBool result
         (outermost direction cells clue.now ≡ Some (take (length clue.now) list.new.starts))
         (outermost direction cells clue.now ≡ None) }
@@ -157,8 +156,7 @@ impl Starts {
     /// Stores the starts of the placing that is outermost in a direction. Returns whether there is
     /// a placing; if not, the list of starts is empty.
     fn find(&mut self, direction: Direction, line: &Line, clue: &[u16]) -> bool
-        requires clue { AreLengths MAX_SIDE clue.now }
-        requires count { length clue.now ≤ MAX_RUNS }
+        requires { AreLengths MAX_SIDE clue.now }
         ensures { MatchBool result
             (outermost direction line.now clue.now ≡ Some self.new)
             ((outermost direction line.now clue.now ≡ None) × (self.new ≡ [])) }

@@ -29,7 +29,6 @@ fn write_reversed_suffixes<W: BitSet>(
     requires domain { IsDomainOf W.WIDTH line domain.now.len
         (W.bits domain.now.not_filled) (W.bits domain.now.not_blank) }
     requires clue { AreLengths W.WIDTH clue.now }
-    requires count { length clue.now ≤ MAX_RUNS }
     ensures suffixes { AreReversedSuffixes W.WIDTH line clue.now
         (map W.stored_bits suffixes.new) }
     ensures count { length suffixes.new ≡ MAX_GAPS }
@@ -67,7 +66,6 @@ pub fn write_suffixes<W: BitSet>(
     requires domain { IsDomainOf W.WIDTH line domain.now.len
         (W.bits domain.now.not_filled) (W.bits domain.now.not_blank) }
     requires clue { AreLengths W.WIDTH clue.now }
-    requires count { length clue.now ≤ MAX_RUNS }
     ensures { AreSuffixes line clue.now (map W.stored_bits suffixes.new) }
 {
     // A run ends on the line where it starts on the mirrored line, so that the prefix scan serves

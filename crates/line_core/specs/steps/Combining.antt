@@ -3,7 +3,6 @@
 use Rattle.std.specs.Prelude.{◌≡◌, ℕ, ◌+◌, ◌-◌, ◌*◌, ◌<◌, ◌≤◌, ◌⊎◌, Bool, true, false, not, List, length, slice_index_or, reverse}
 use Rattle.grid_core.specs.declared.cells.Cell.{Cell}
 use Rattle.bit_sets.specs.Masks.{Has}
-use Rattle.grid_core.specs.declared.limits.TheConstants.{MAX_RUNS}
 use Rattle.line_core.specs.declared.lookahead.TheConstants.{MAX_LOOKAHEAD_LEN}
 use Rattle.line_core.specs.declared.prefix_supports.TheConstants.{ROW_STRIDE}
 use Rattle.line_core.specs.Lookahead.{SupportMasks, LookaheadMasks, coloured, masks_if, no_lookahead}
@@ -20,18 +19,16 @@ HasColour masks false k = Has masks.blankable k
 abbrev pub AreMore : (Bool → ℕ → Type 0) → SupportMasks → SupportMasks → Type 0
 AreMore P old new = AreMasks (λ filled k. HasColour old filled k ⊎ P filled k) new
 
--- `len` is the length of `line`, at most `width`, and short enough for lookahead
-pub record IsLineWithin (width : ℕ) (line : List Cell) (len : ℕ) : Type 0 where
+-- `len` is the length of the line, at most `width`, and short enough for lookahead; `before` has
+-- the prefix supports of the line, and `after` those of the mirrored line, whose cells keep the
+-- indices of the line itself; the numbers of `clue` are at most `width`
+pub record AreEndSupports
+    (width : ℕ) (line : List Cell) (clue : List ℕ)
+    (len : ℕ) (before after : List SupportMasks) : Type 0 where
   pub len_is : len ≡ length line
   pub within : len ≤ width
   pub short : len ≤ MAX_LOOKAHEAD_LEN
-
--- `before` has the prefix supports of the line, and `after` those of the mirrored line, whose cells
--- keep the indices of the line itself; the numbers of `clue` are at most `width`
-pub record AreEndSupports
-    (width : ℕ) (line : List Cell) (clue : List ℕ) (before after : List SupportMasks) : Type 0 where
   pub lengths : AreLengths width clue
-  pub few : length clue ≤ MAX_RUNS
   pub before_is : ArePrefixSupports false line clue before
   pub after_is : ArePrefixSupports true (reverse line) (reverse clue) after
   pub before_fits : ROW_STRIDE * (length clue + 1) ≤ length before

@@ -4,10 +4,12 @@ use Rattle.grid_core.specs.declared.cells.Cell.{Cell}
 use Rattle.grid_core.specs.declared.cells.Cell.TheVariants.{Unknown}
 use Rattle.grid_core.specs.Cells.{allows, agrees}
 use Rattle.grid_core.specs.Runs.{runs}
+use Rattle.grid_core.specs.declared.limits.TheConstants.{MAX_RUNS}
 use Rattle.bit_sets.specs.Masks.{Has, IsMaskOf, AllFrom, SomeFrom}
 
--- each number is the length of a run: at least 1, and at most `width`
+-- there are at most `MAX_RUNS` numbers, each the length of a run: at least 1, and at most `width`
 pub record AreLengths (width : ℕ) (clue : List ℕ) : Type 0 where
+  pub few : length clue ≤ MAX_RUNS
   pub positive : All (λ n. 0 < n) clue
   pub short : All (λ n. n ≤ width) clue
 

@@ -14,7 +14,7 @@ loop-left-preserved g c =
 
 pub returns : goal.returns
 returns g c =
-    let gaps = c.requires.1.1.1.1.0 in
+    let gaps = c.requires.1.1.1.0 in
     let none = eqb-true _ 0 (sym c.is_empty.ensures ∙ c.loop-left-test.false) in
     lookaheads_same _ _ _ _ _ c.loop-left.invariant.more (λ x d k. (
       λ (i, here, _, (low, high, can)). let e : x ≡ i = omega arith in rw e (gaps.to i here, can),

@@ -6,19 +6,19 @@ use Rattle.line_core.proofs.combining.add_run.Goals as goal
 
 pub support_with_run-support-requires : goal.support_with_run-support-requires
 support_with_run-support-requires g c = λ κs within.
-    let (line, (inside, (ends, (supports, rest)))) = c.requires.1.1 in
+    let (inside, (ends, (supports, rest))) = c.requires.1.1 in
     let end = end_left g.line _ _ _ _ _ _ _ _ _ _ c.loop-left.invariant c.first_index-end.ensures.in_mask ends supports.lengths inside in
     search rules
 
 pub overflow_add-next : goal.overflow_add-next
 overflow_add-next g c =
-    let (line, (inside, (ends, (supports, rest)))) = c.requires.1.1 in
+    let (inside, (ends, (supports, rest))) = c.requires.1.1 in
     let end = end_left g.line _ _ _ _ _ _ _ _ _ _ c.loop-left.invariant c.first_index-end.ensures.in_mask ends supports.lengths inside in
     omega arith
 
 pub add_to_each-requires : goal.add_to_each-requires
 add_to_each-requires g c =
-    let (line, (inside, (ends, (supports, rest)))) = c.requires.1.1 in
+    let (inside, (ends, (supports, rest))) = c.requires.1.1 in
     let end = end_left g.line _ _ _ _ _ _ _ _ _ _ c.loop-left.invariant c.first_index-end.ensures.in_mask ends supports.lengths inside in
     (let enough = end.0.0.0 in omega arith, omega arith)
 
@@ -31,7 +31,7 @@ loop-left-preserved g c =
 
 pub returns : goal.returns
 returns g c =
-    let ends = c.requires.1.1.1.1.0 in
+    let ends = c.requires.1.1.1.0 in
     let none = eqb-true _ 0 (sym c.is_empty.ensures ∙ c.loop-left-test.false) in
     lookaheads_same _ _ _ _ _ c.loop-left.invariant.more (λ x d k. (
       λ (e, here, _, (low, high, can)). (e, (omega arith, omega (arith, (ends.to e here).0.0), ends.to e here), can),

@@ -10,7 +10,7 @@ loop-j-init g c =
     let gap : IsMaskOf (IsPrefixGap g.line clue 0) (g.W.BitSet.bits c.gap.result) = rw c.gap.ensures scan.gap_is in record {
       scan = scan;
       blank =
-          blank_first g.line clue _ _ _ gap (c.first_suffix_gap.ensures g.line c.requires.1.1.1.1.1.1) c.intersection-blankable.ensures;
+          blank_first g.line clue _ _ _ gap (c.first_suffix_gap.ensures g.line c.requires.1.1.1.1.1) c.intersection-blankable.ensures;
       filled = levels_none _ g.W.BitSet.LOG2_WIDTH _ (none_at g.W.BitSet.bits c.empty-spread.result c.empty-spread.ensures 9)
           (λ i h. let b : h.0 < 0 = h.1 in absurd (omega arith));
     }
@@ -22,7 +22,7 @@ loop-j-preserved g c =
     let before = c.loop-j.invariant in
     let runs = reversed_prefix 0 clue j in
     let some = (length_at _ clue j c.requires.1.1.1.1.0 c.loop-j-test.true).0 in
-    let suffix = c.suffix_ends-suffix.ensures g.line c.requires.1.1.1.1.1.1 in
+    let suffix = c.suffix_ends-suffix.ensures g.line c.requires.1.1.1.1.1 in
     let end = feasible_is g.line clue j _ _ _ some (c.next_run-ends.ensures.ends g.line runs before.scan) suffix
     c.intersection-feasible.ensures in
     let scanned = c.next_run-ends.ensures.scanned g.line runs before.scan in

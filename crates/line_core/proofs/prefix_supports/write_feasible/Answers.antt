@@ -36,7 +36,7 @@ loop-j-preserved g c =
     let suffix = c.suffix_ends-suffix.ensures g.line c.write_suffixes.ensures in
     let whole = rw (← c.to_stored-in-loop-j-2.ensures) at (feasible_gap_is g.line clue _ j _ _ _ _ c.loop-j-test.true
     c.requires.1.1.1.0.short gap suffix c.shifted_up.ensures c.intersection-gap.ensures) in
-    let some = (length_at _ clue j c.requires.1.1.1.1.0 c.loop-j-test.true).0 in
+    let some = (length_at _ clue j c.requires.1.1.1.1 c.loop-j-test.true).0 in
     let end = rw (← c.to_stored-in-loop-j.ensures) at (feasible_is g.line clue j _ _ _ some
     (c.next_run-run_ends.ensures.ends g.line (reversed_prefix 0 clue j) before.scan) suffix c.intersection.ensures) in
     record {
@@ -44,9 +44,9 @@ loop-j-preserved g c =
       gap_count = length-set gaps _ _ ∙ before.gap_count;
       end_count = length-set ends _ _ ∙ before.end_count;
       gaps = λ k h. rw map-set (written_more (λ k m. IsMaskOf (IsFeasibleGap g.line clue k) m) (map bits gaps) (j + 1) _
-          (omega (arith, length-map gaps bits, before.gap_count, c.requires.1.1.1.1.1)) whole (λ k h. before.gaps k (omega arith)) k
+          (omega (arith, length-map gaps bits, before.gap_count, c.requires.1.1.1.1.few)) whole (λ k h. before.gaps k (omega arith)) k
           (omega arith));
       ends = λ k h. rw map-set (written_more (λ k m. IsMaskOf (IsFeasibleEnd g.line clue k) m) (map bits ends) j _
-          (omega (arith, length-map ends bits, before.end_count, c.requires.1.1.1.1.1)) end (λ k h. before.ends k (omega arith)) k
+          (omega (arith, length-map ends bits, before.end_count, c.requires.1.1.1.1.few)) end (λ k h. before.ends k (omega arith)) k
           (omega arith));
     }

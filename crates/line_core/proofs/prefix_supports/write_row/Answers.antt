@@ -1,6 +1,6 @@
 -- `write_row`: each turn of the loop writes the prefix support of one more gap, which is then the last one.
 use Rattle.line_core.proofs.Names.{common_steps, IsPrefixSupport, SupportMasks, ◌+◌, ◌≡◌, ◌*◌, ◌++◌, ℕ, get_or, rules, ◌∙◌, ◌<◌, length, sym, arith, one_within, reversed_prefix, get_or-append-add, no_support}
-use Rattle.line_core.proofs.GapRows.{last_more, left_inside, next_prefix_support, part_is, rows_more, walk_last, walk_more}
+use Rattle.line_core.proofs.GapRows.{last_more, left_inside, next_prefix_support, rows_more, walk_last, walk_more}
 use Rattle.line_core.proofs.prefix_supports.write_row.Goals as goal
 
 pub shifted_up-longer-requires : goal.shifted_up-longer-requires
@@ -26,8 +26,9 @@ loop-longer-preserved g c =
     let first = c.first_index-index.ensures in
     let split = c.split_at_mut-done.ensures in
     let here = old.walk.within _ first.in_mask in
-    let front : (k : ℕ) → k < 128 → get_or c.split_at_mut-before.result.1.now k no_support ≡ get_or c.args.table.now (128 * j + k) no_support =
-    λ k h. grind (arith, common_steps, part_is) in
+    let before = c.split_at_mut-before.result.1.now in
+    let front : (k : ℕ) → k < 128 → get_or before k no_support ≡ get_or c.args.table.now (128 * j + k) no_support =
+    λ k h. grind (arith, common_steps) in
     let given =
     next_prefix_support _ g.line c.args.clue.now c.args.j _ _ _ _ _ _ _ _ _ _ _ _ are jl table.short gaps ends c.shifted_up-longer.ensures
     c.shifted_up-ended.ensures first.within here first.in_mask first.least front (table.rows j (omega arith)) old.last

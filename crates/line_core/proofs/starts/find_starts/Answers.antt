@@ -13,9 +13,9 @@ returns-then-is_empty g c =
 pub returns : goal.returns
 returns g c =
     let clue = c.args.clue.now in
-    let pos : ArePositive clue = recursion_from_All _ clue c.requires.1.1.1.1.0.positive in
+    let pos : ArePositive clue = recursion_from_All _ clue c.requires.1.1.1.1.positive in
     let some : 0 < length clue = (let ne = eqb-false (length clue) 0 (sym c.is_empty.ensures ∙ c.if-is_empty.false) in omega arith) in
-    answered c.args.direction g.cells clue _ _ pos (omega (arith, c.write_starts.ensures.len, c.requires.1.1.1.1.1))
+    answered c.args.direction g.cells clue _ _ pos (omega (arith, c.write_starts.ensures.len, c.requires.1.1.1.1.few))
     (match_more _ ((j : ℕ) → j < length clue → IsOuterStart c.args.direction g.cells clue j (get_or c.write_starts.new.list.starts j 0))
     (HasPlacing g.cells clue → ⊥) _ _ (λ each. let o = each 0 some in
     let x = placing_with g.cells clue 0 o.end pos some o.feasible in ((x.0, x.1, x.2), each))

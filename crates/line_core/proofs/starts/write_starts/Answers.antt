@@ -16,7 +16,7 @@ loop-j-preserved g c =
     let index = c.outermost_index in
     let before = c.loop-j.invariant in
     let runs = reversed_prefix 0 clue j in
-    let count = c.requires.1.1.1.1.1.0.1 in
+    let count = c.requires.1.1.1.1.0.few in
     let some = (length_at _ clue j c.requires.1.1.1.1.0 c.loop-j-test.true).0 in
     let end = feasible_is g.line clue j _ _ _ some (c.next_run-ends.ensures.ends g.line runs before.scan)
     (c.suffix_ends.ensures g.line c.requires.1.1.1.1.1.1) c.intersection-feasible.ensures in

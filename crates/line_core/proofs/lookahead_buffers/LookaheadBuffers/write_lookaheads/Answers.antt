@@ -1,5 +1,5 @@
 -- `LookaheadBuffers::write_lookaheads`: the lookaheads determine what is deduced of the line with one more known cell.
-use Rattle.line_core.proofs.Names.{AreEndSupports, IsLineWithin, arith, length, rules, ◌∙◌, ◌≡◌, ◌≤◌, ap, sym, reverse, length-reverse, lengths_mirrored, recursion_from_All}
+use Rattle.line_core.proofs.Names.{AreEndSupports, arith, length, rules, ◌∙◌, ◌≡◌, ap, sym, reverse, length-reverse, lengths_mirrored, recursion_from_All}
 use Rattle.line_core.specs.steps.PrefixSupports.{HasRowsFor}
 use Rattle.std.proofs.lemmas.List.{with_items_is}
 use Rattle.line_core.proofs.LookaheadLemmas.{lookaheads_are}
@@ -26,12 +26,6 @@ write_prefix_supports-requires g c = λ κs within.
 pub combine_supports-requires : goal.combine_supports-requires
 combine_supports-requires g c = λ κs within.
     let same : c.reverse.new.self ≡ reverse c.args.clue.now = c.reverse.ensures.after ∙ ap reverse c.copy_from_slice.ensures.after in
-    let few : length c.args.clue.now ≤ 128 = omega (arith, c.requires.1.1.1.1.1.0, c.args.self.now.few) in
-    let line : IsLineWithin g.W.BitSet.WIDTH g.cells c.of-domain.result.len = record {
-      len_is = c.of-domain.ensures.len_is ∙ ap length c.requires.1.1.1.0;
-      within = omega (arith, c.of-domain.ensures.len_is, c.of-domain.ensures.short);
-      short = omega (arith, c.of-domain.ensures.len_is, ap length c.requires.1.1.1.0, c.requires.1.1.1.1.1.1.short);
-    } in
     let first = c.write_prefix_supports.ensures in
     let second = c.write_prefix_supports-2.ensures in
     let before : c.deref.result.now ≡ c.write_prefix_supports-2.new.table =
@@ -40,15 +34,18 @@ combine_supports-requires g c = λ κs within.
     let after : c.deref-2.result.now ≡ c.write_prefix_supports.new.table =
     c.deref-2.ensures.value
     ∙ with_items_is c.make_rows-2.new.table c.write_prefix_supports.new.table (first.count ∙ c.deref_mut.ensures.len) in
-    let supports : AreEndSupports g.W.BitSet.WIDTH g.cells c.args.clue.now c.deref.result.now c.deref-2.result.now = record {
+    let supports : AreEndSupports g.W.BitSet.WIDTH g.cells c.args.clue.now c.of-domain.result.len c.deref.result.now
+    c.deref-2.result.now = record {
+      len_is = c.of-domain.ensures.len_is ∙ ap length c.requires.1.1.1.0;
+      within = omega (arith, c.of-domain.ensures.len_is, c.of-domain.ensures.short);
+      short = omega (arith, c.of-domain.ensures.len_is, ap length c.requires.1.1.1.0, c.requires.1.1.1.1.1.1.short);
       lengths = c.requires.1.1.1.1.0;
-      few = few;
       before_is = rw before second.supports;
       after_is = rw (after, sym same) first.supports;
       before_fits = omega (arith, ap length before, second.count, c.deref_mut-2.ensures.len, c.make_rows.ensures.rows);
       after_fits = omega (arith, ap length after, first.count, c.deref_mut.ensures.len, c.make_rows-2.ensures.rows);
     } in
-    (within.0, (within.1, (c.requires.1.1.0, (line, (c.write_feasible.ensures, (supports, c.requires.1.1.1.1.1.1.entries))))))
+    (within.0, (within.1, (c.requires.1.1.0, (c.write_feasible.ensures, (supports, c.requires.1.1.1.1.1.1.entries)))))
 
 pub returns-clause-lookaheads : goal.returns-clause-lookaheads
 returns-clause-lookaheads g c = record {
