@@ -8,13 +8,12 @@ ghost use Rattle.line_core.specs.Deduction.{deduced};
 ghost use Rattle.line_core.specs.Lookahead.{HasEntries, WritesLookaheads};
 ghost use Rattle.line_core.specs.steps.PrefixScan.{IsDomainOf, padded};
 ghost use Rattle.line_core.specs.steps.Feasibility.{AreLengths, AreSuffixes, IsFillable, IsBlankable};
-ghost use Rattle.line_core.specs.Support.{deduced_from};
 
 use crate::Line;
 use crate::buffers::{SuffixBuffers, ensure_initialized};
 use crate::domains::{LineDomain, padded};
 use crate::known_ends::{inner_clue_range, known_ends};
-use crate::lookahead::Lookahead;
+use crate::lookahead::{Lookahead, Support};
 use crate::lookahead_buffers::LookaheadBuffers;
 use crate::overlaps::{is_unknown, unknown_line_support};
 use crate::prefix_scan::PrefixScan;
@@ -102,23 +101,6 @@ fn line_support<W: BitSet>(
     (fillable, blankable.intersection(prefix(domain.len)))
 }
 
-/// Returns the line of `len` cells in which each cell that is in just one of the sets has its
-/// colour, and any other cell is unknown: the deduced line, if the sets are the cells that are
-/// filled, and blank, in some placing. Returns `None` if the first cell is in neither set.
-pub fn deduced_from<W: BitSet>(len: u16, fillable: W, blankable: W) -> Option<BitLine<W>>
-    requires { (1 ≤ len) × (len ≤ W.WIDTH) }
-    ensures { result ≡ deduced_from len (W.bits fillable) (W.bits blankable) }
-{
-    // In a placing the first cell has a colour, so if it can take none there is no placing.
-    if !fillable.union(blankable).contains(0) {
-        return None;
-    }
-    let within = prefix(len);
-    let filled = fillable.difference(blankable).intersection(within);
-    let blank = blankable.difference(fillable).intersection(within);
-    Some(BitLine::from_sets(len, filled, blank))
-}
-
 /// Returns the deduced line, or `None` if there is no placing. `suffixes` is a buffer for the
 /// suffix sets.
 fn deduce_numbers<W: BitSet>(
@@ -130,7 +112,11 @@ fn deduce_numbers<W: BitSet>(
     ensures { result ≡ deduced line.now clue.now }
 {
     let (fillable, blankable) = line_support(line, clue, suffixes);
-    deduced_from(line.len(), fillable, blankable)
+    Support {
+        fillable,
+        blankable,
+    }
+    .deduced_from(line.len())
 }
 
 /// Returns the deduced line, or `None` if there is no placing. Uses sets of 64 indices, on which

@@ -6,8 +6,7 @@ ghost use Rattle.line_core.specs.Lookahead.{no_support, no_lookahead, masks_if};
 ghost use Rattle.line_core.specs.steps.Combining.{AreMore, HasColour};
 ghost use Rattle.line_core.specs.Support.{deduced_from};
 
-use crate::deduction::deduced_from;
-use bit_sets::BitSet;
+use bit_sets::{BitSet, prefix};
 use grid_core::BitLine;
 use std::marker::Model;
 
@@ -62,13 +61,27 @@ impl<W: BitSet> Support<W> {
         }
     }
 
-    /// Returns the deduced line of `len` cells with this support, or `None`, for a dead line, if
-    /// the first cell is in it in neither colour.
+    /// Returns the deduced line of `len` cells with this support, in which each cell has the colour
+    /// that it can only have; `None`, for a dead line, if the first cell is in the support in
+    /// neither colour.
     pub fn deduced_from(&self, len: u16) -> Option<BitLine<W>>
         requires { (1 ≤ len) × (len ≤ W.WIDTH) }
         ensures { result ≡ deduced_from len self.now.fillable self.now.blankable }
     {
-        deduced_from(len, self.fillable, self.blankable)
+        // In a placing the first cell has a colour, so if it can take none there is no placing.
+        if !self.fillable.union(self.blankable).contains(0) {
+            return None;
+        }
+        let within = prefix(len);
+        let filled = self
+            .fillable
+            .difference(self.blankable)
+            .intersection(within);
+        let blank = self
+            .blankable
+            .difference(self.fillable)
+            .intersection(within);
+        Some(BitLine::from_sets(len, filled, blank))
     }
 
     /// Reports whether the first cell is in the support in some colour, so that the line is alive,
