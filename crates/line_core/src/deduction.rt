@@ -10,7 +10,7 @@ ghost use Rattle.line_core.specs.steps.PrefixScan.{IsDomainOf, padded};
 ghost use Rattle.line_core.specs.steps.Feasibility.{AreLengths, AreSuffixes, IsFillable, IsBlankable};
 
 use crate::Line;
-use crate::buffers::{SuffixBuffers, ensure_initialized};
+use crate::buffers::SuffixBuffers;
 use crate::domains::{LineDomain, padded};
 use crate::known_ends::{inner_clue_range, known_ends};
 use crate::lookahead::{Lookahead, Support};
@@ -243,9 +243,7 @@ pub trait LineBits: BitSet {
 
 impl LineBits for u64 {
     fn deduce(tables: &mut Tables, line: &BitLine<u64>, clue: &[u16]) -> Option<BitLine<u64>> {
-        let narrow = &mut tables.buffers.narrow;
-        ensure_initialized::<u64>(narrow);
-        deduce_numbers(&mut narrow[0], line, clue)
+        deduce_numbers(&mut tables.buffers.narrow[0], line, clue)
     }
 
     fn write_lookaheads(
@@ -255,17 +253,14 @@ impl LineBits for u64 {
         clue: &[u16],
         lookaheads: &mut [Lookahead<u64>],
     ) {
-        let narrow = &mut tables.buffers.narrow;
-        ensure_initialized::<u64>(narrow);
-        write_lookaheads_within(&mut narrow[0], buffers, line, clue, lookaheads);
+        let suffixes = &mut tables.buffers.narrow[0];
+        write_lookaheads_within(suffixes, buffers, line, clue, lookaheads);
     }
 }
 
 impl LineBits for u128 {
     fn deduce(tables: &mut Tables, line: &BitLine<u128>, clue: &[u16]) -> Option<BitLine<u128>> {
         let buffers = &mut tables.buffers;
-        ensure_initialized::<u64>(&mut buffers.narrow);
-        ensure_initialized::<u128>(&mut buffers.middle);
         deduce_trimmed(&mut buffers.narrow[0], &mut buffers.middle[0], line, clue)
     }
 
@@ -276,9 +271,8 @@ impl LineBits for u128 {
         clue: &[u16],
         lookaheads: &mut [Lookahead<u128>],
     ) {
-        let middle = &mut tables.buffers.middle;
-        ensure_initialized::<u128>(middle);
-        write_lookaheads_within(&mut middle[0], buffers, line, clue, lookaheads);
+        let suffixes = &mut tables.buffers.middle[0];
+        write_lookaheads_within(suffixes, buffers, line, clue, lookaheads);
     }
 }
 
@@ -289,8 +283,6 @@ impl LineBits for Bits256 {
         clue: &[u16],
     ) -> Option<BitLine<Bits256>> {
         let buffers = &mut tables.buffers;
-        ensure_initialized::<u64>(&mut buffers.narrow);
-        ensure_initialized::<Bits256>(&mut buffers.wide);
         deduce_trimmed(&mut buffers.narrow[0], &mut buffers.wide[0], line, clue)
     }
 
@@ -301,9 +293,8 @@ impl LineBits for Bits256 {
         clue: &[u16],
         lookaheads: &mut [Lookahead<Bits256>],
     ) {
-        let wide = &mut tables.buffers.wide;
-        ensure_initialized::<Bits256>(wide);
-        write_lookaheads_within(&mut wide[0], buffers, line, clue, lookaheads);
+        let suffixes = &mut tables.buffers.wide[0];
+        write_lookaheads_within(suffixes, buffers, line, clue, lookaheads);
     }
 }
 

@@ -9,7 +9,6 @@ ghost use Rattle.line_core.specs.steps.PrefixScan.{IsDomainOf};
 ghost use Rattle.line_core.specs.steps.Lookahead.{AreFeasible};
 ghost use Rattle.line_core.specs.steps.Feasibility.{AreLengths};
 
-use crate::buffers::ensure_initialized;
 use crate::combining::{EndSupports, combine_supports};
 use crate::domains::{LineDomain, reversed};
 use crate::lookahead::{Lookahead, Support};
@@ -18,6 +17,18 @@ use crate::suffixes::MAX_GAPS;
 use bit_sets::BitSet;
 use grid_core::{BitLine, MAX_RUNS, NoMemory};
 use std::alloc::Global;
+
+/// Initializes a buffer with empty sets on its first use. Allocates nothing.
+fn ensure_initialized<W: BitSet>(buffer: &mut Vec<[W::Stored; MAX_GAPS]>)
+    requires { 0 < vec_capacity buffer.old }
+    ensures ready { 0 < vec_len buffer.new }
+    ensures fits { 0 < vec_capacity buffer.new }
+{
+    // Not done where it is allocated: many puzzles are solved without a lookahead table.
+    if buffer.is_empty() {
+        buffer.push_reserved([W::empty().to_stored(); MAX_GAPS]);
+    }
+}
 
 /// Extends `table` to the rows that a clue of `runs` runs needs, one of `ROW_STRIDE` entries for
 /// each gap. Allocates nothing: the capacity has to suffice.

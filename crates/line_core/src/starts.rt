@@ -9,7 +9,6 @@ ghost use Rattle.line_core.specs.steps.PrefixScan.{IsDomainOf};
 ghost use Rattle.line_core.specs.steps.Feasibility.{AreLengths, AreSuffixes, HasPlacing};
 
 use crate::Line;
-use crate::buffers::ensure_initialized;
 use crate::domains::LineDomain;
 use crate::prefix_scan::PrefixScan;
 use crate::suffixes::{MAX_GAPS, suffix_ends, write_suffixes};
@@ -118,7 +117,7 @@ pub struct Starts {
 }
 
 impl Model for Starts {
-    ghost use Rattle.std.specs.Prelude.{◌<◌, ◌≤◌, ℕ, List, take, vec_capacity};
+    ghost use Rattle.std.specs.Prelude.{◌<◌, ◌≤◌, ℕ, List, take, vec_len};
     ghost use Rattle.grid_core.specs.declared.limits.TheConstants.{MAX_RUNS};
 
     ghost Value = { List ℕ };
@@ -126,7 +125,7 @@ impl Model for Starts {
     ghost view = { λ starts. take starts.count starts.list.starts };
 
     ghost invariant = { λ starts.
-        (starts.count ≤ MAX_RUNS) × (0 < vec_capacity starts.suffixes) };
+        (starts.count ≤ MAX_RUNS) × (0 < vec_len starts.suffixes) };
 }
 
 impl Starts {
@@ -140,7 +139,7 @@ impl Starts {
             list: StartList {
                 starts: [0; MAX_RUNS],
             },
-            suffixes: Vec::with_capacity(alloc, 1)?,
+            suffixes: vec![in alloc; [Bits256::empty(); MAX_GAPS]]?,
         })
     }
 
@@ -161,7 +160,6 @@ impl Starts {
             (outermost direction line.now clue.now ≡ Some self.new)
             ((outermost direction line.now clue.now ≡ None) × (self.new ≡ [])) }
     {
-        ensure_initialized::<Bits256>(&mut self.suffixes);
         let found = find_starts(direction, line, clue, &mut self.suffixes[0], &mut self.list);
         self.count = if found { clue.len() } else { 0 };
         found
