@@ -1,43 +1,63 @@
--- Counts of an index in two sets, and the known neighbours in a row that they count.
-use Rattle.solve_core.proofs.Names.{◌≡◌, ℕ, ◌+◌, ◌-◌, ◌<◌, ◌≤◌, ◌⊎◌, inl, inr, Bool, true, nat_eq, List, length, get_or, Option, IfSome, IfNone, arith, true≢false, cases_eq, cases_lt, eqb-true, eq-eqb, or_cases, Cell, Unknown, is_known, Has, has, IsMaskOf, IsShifted, IsUnknownCell, AreCounts, IsKnownCell, IsMostInRow, row_score, two_of, is_known_or_outside, rules}
-use Rattle.bit_sets.proofs.HasLemmas.{true_has, has_true}
+-- The known neighbours of a row's cells, by the sets of unknown cells.
+use Rattle.solve_core.proofs.Names.{◌≡◌, ℕ, ◌+◌, ◌-◌, ◌*◌, ◌<◌, ◌≤◌, nat_eq, nat_lt, length, get_or, inl, inr, arith, cases_eq, eq-eqb, eqb-false, ne_eqb, le-leb, lt-leb, le-ltb, lt-ltb, mod-mul-add, true≢false, false, Unknown, is_known, has, Has, IsMaskOf, IsUnknownIn, IsShifted, PartialGrid, rules, ◌∙◌, is_known_or_outside, is_above_known, is_below_known, count_beside, count_across, known_neighbours, is_left_known, is_right_known, two_of, Option, Some, None, IsFirstHighest}
+use Rattle.std.specs.Prelude.{not, ◌||◌}
 use Rattle.grid_core.proofs.LineCells.{has_by}
+use Rattle.grid_core.proofs.LineLaws.{index-within}
 
--- if `e` and `b` are the sets of the counts `f`, the number of them that contain `i` is `f i`
-pub counts_by : (f : ℕ → ℕ) (e b : ℕ) → AreCounts f e b → (i : ℕ) → two_of (has e i) (has b i) ≡ f i
-counts_by f e b c i = search (rules, true_has, cases_lt, true≢false, has_true)
+-- a cell is known unless it is in the set of the unknown cells of its row
+pub known_is : (g : PartialGrid) (y unknown x : ℕ) → IsMaskOf (IsUnknownIn g y) unknown → length g.cells ≡ g.width * g.height →
+    y < g.height → x < g.width → not (has unknown x) ≡ is_known (get_or g.cells (y * g.width + x) Unknown)
+known_is g y unknown x u count ly lx = grind (arith, has_by, index-within, true≢false)
 
--- `left` has the cells whose left neighbour is known, and the first cell
-pub left_is : (row : List Cell) (w known up first left : ℕ) → length row ≤ w → IsMaskOf (IsKnownCell row) known →
-    IsMaskOf (IsShifted w (Has known) 1) up → IsMaskOf (λ i. i ≡ 0) first → IsMaskOf (λ i. Has up i ⊎ Has first i) left → (x : ℕ) →
-    x < length row → has left x ≡ is_known_or_outside (nat_eq x 0) (get_or row (x - 1) Unknown)
-left_is row w known up first left fits k u f l x h = grind (arith, has_by, true≢false, eq-eqb, or_cases, eqb-true, cases_eq)
+-- a cell outside `m` is in the complement of `m`
+pub complement_is : (len m c x : ℕ) → IsMaskOf (λ i. (i < len) × (has m i ≡ false)) c → x < len → has c x ≡ not (has m x)
+complement_is len m c x h l = grind (arith, has_by, true≢false)
 
--- `right` has the cells whose right neighbour is known, and the last cell
-pub right_is : (row : List Cell) (w known down first last right : ℕ) → length row ≤ w → 1 ≤ length row →
-    IsMaskOf (IsKnownCell row) known → IsMaskOf (λ i. Has known (i + 1)) down
-    → IsMaskOf (λ i. i ≡ 0) first → IsMaskOf (IsShifted w (Has first) (length row - 1)) last → IsMaskOf (λ i. Has down i ⊎ Has last i) right
-    → (x : ℕ) → x < length row → has right x ≡ is_known_or_outside (nat_eq (x + 1) (length row)) (get_or row (x + 1) Unknown)
-right_is row w known down first last right fits some k d f m r x h =
-    has_by right x (is_known_or_outside (nat_eq (x + 1) (length row)) (get_or row (x + 1) Unknown)) to from
+-- the cells whose left neighbour isn't in `unknown`
+left_is : (w unknown up x : ℕ) → IsMaskOf (IsShifted w (Has unknown) 1) up → x < w →
+    not (has up x) ≡ (nat_eq x 0 || not (has unknown (x - 1)))
+left_is w unknown up x u h = grind (arith, has_by, true≢false, eq-eqb, eqb-false)
+
+-- the cells whose right neighbour isn't in `unknown`
+right_is : (unknown down x : ℕ) → IsMaskOf (λ i. Has unknown (i + 1)) down → not (has down x) ≡ not (has unknown (x + 1))
+right_is unknown down x d = grind (arith, has_by, true≢false)
+
+-- the set of the cells whose left neighbour isn't in `unknown`, and that of those whose right one isn't, count them
+pub beside_is : (w len unknown up down left right x : ℕ) → len ≤ w → IsMaskOf (IsShifted w (Has unknown) 1) up →
+    IsMaskOf (λ i. Has unknown (i + 1)) down → IsMaskOf (λ i. (i < len) × (has up i ≡ false)) left →
+    IsMaskOf (λ i. (i < len) × (has down i ≡ false)) right → x < len → two_of (has left x) (has right x) ≡ count_beside unknown x
+beside_is w len unknown up down left right x fits u d l r h = λ i.
+    two_of ((complement_is len up left x l h ∙ left_is w unknown up x u (omega arith)) i)
+    ((complement_is len down right x r h ∙ right_is unknown down x d) i)
+
+-- the cell in the row above is the neighbour above
+pub above_is : (g : PartialGrid) (y x : ℕ) → x < g.width →
+    is_known_or_outside (nat_eq y 0) (get_or g.cells ((y - 1) * g.width + x) Unknown)
+    ≡ is_above_known g.width g.cells (y * g.width + x)
+above_is g y x l = search (rules, nat_eq, nat_lt, lt-ltb, ne_eqb, le-ltb, eqb-false)
+
+-- the cell in the row below is the neighbour below
+pub below_is : (g : PartialGrid) (y x : ℕ) → y < g.height → x < g.width → length g.cells ≡ g.width * g.height →
+    is_known_or_outside (nat_eq (y + 1) g.height) (get_or g.cells ((y + 1) * g.width + x) Unknown)
+    ≡ is_below_known g.width g.cells (y * g.width + x)
+below_is g y x ly lx count = elim (cases_eq (y + 1) g.height) [
+  | inl last ↦ search (rules, eq-eqb, le-leb)
+  | inr other ↦ search (rules, ne_eqb, lt-leb, (index-within g.width g.height x (y + 1) lx (omega (arith, ly, other))))
+]
+
+-- the neighbours beside a cell, and those above and below it, are its four neighbours
+pub neighbours_are : (g : PartialGrid) (y unknown x : ℕ) → IsMaskOf (IsUnknownIn g y) unknown → length g.cells ≡ g.width * g.height →
+    y < g.height → x < g.width → count_beside unknown x + count_across g y x ≡ known_neighbours g.width g.cells (y * g.width + x)
+neighbours_are g y unknown x u count ly lx = (λ i. two_of (left i) (right i) + count_across g y x) ∙ omega arith
   where
-    to : Has right x → is_known_or_outside (nat_eq (x + 1) (length row)) (get_or row (x + 1) Unknown) ≡ true
-    to y = search (rules, true≢false, nat_eq, eq-eqb)
+    left : (nat_eq x 0 || not (has unknown (x - 1))) ≡ is_left_known g.width g.cells (y * g.width + x)
+    left = search (rules, nat_eq, mod-mul-add, eqb-false, known_is)
 
-    from : is_known_or_outside (nat_eq (x + 1) (length row)) (get_or row (x + 1) Unknown) ≡ true → Has right x
-    from e = elim (or_cases (nat_eq (x + 1) (length row)) (is_known (get_or row (x + 1) Unknown)) e) [
-      | inl end ↦ grind (arith, eqb-true)
-      | inr sure ↦ elim (cases_eq (x + 1) (length row)) [
-        | inl at ↦ r.from x (inr (m.from x (omega (arith, h, fits), omega (arith, at), f.from (x - (length row - 1)) (omega (arith, at)))))
-        | inr more ↦ r.from x (inl (d.from x (k.from (x + 1) (omega (arith, h, more), sure))))
-      ]
-    ]
+    right : not (has unknown (x + 1)) ≡ is_right_known g.width g.cells (y * g.width + x)
+    right = search (rules, nat_eq, mod-mul-add, eqb-false, known_is)
 
--- if two counts add up to each cell's score, the index with the highest sum is that of the highest score in the row
-pub most_by : (row : List Cell) (above below : ℕ → Bool) (least cells : ℕ) (f g : ℕ → ℕ) (result : Option (ℕ × ℕ)) →
-    IsMaskOf (IsUnknownCell row) cells → ((x : ℕ) → x < length row → f x + g x ≡ row_score row above below x) →
-    IfNone result ((i : ℕ) → Has cells i → f i + g i < least) →
-    IfSome result (λ found. Has cells found.1 × (found.0 ≡ f found.1 + g found.1) × (least ≤ found.0)) →
-    IfSome result (λ found. (i : ℕ) → Has cells i → f i + g i ≤ found.0) →
-    IfSome result (λ found. (i : ℕ) → Has cells i → i < found.1 → f i + g i < found.0) → IsMostInRow row above below least result
-most_by row above below least cells f g result h k l m n o = grind arith
+-- the highest score of the indices in a mask is that of the indices which the mask stands for
+pub highest_by : (f g : ℕ → ℕ) (P : ℕ → Type 0) (mask least : ℕ) (found : Option (ℕ × ℕ)) → IsMaskOf P mask →
+    ((x : ℕ) → P x → f x ≡ g x) → IsFirstHighest f (Has mask) least found → IsFirstHighest g P least found
+highest_by f g P mask least None m same h = grind arith
+highest_by f g P mask least (Some found) m same h = grind arith

@@ -24,7 +24,6 @@ pub mod Changes
 pub mod Counting
 pub mod PickLaws
 pub mod CountLaws
-pub mod PickRows
 pub mod StatedLaws
 pub mod WordLemmas
 pub mod TableSteps

@@ -45,7 +45,7 @@ pub use Rattle.solve_core.specs.steps.Boards.{BufferCapacities, IsBoard, IsBoard
 pub use Rattle.solve_core.specs.steps.Branches.{AreBefore, AreInOrder, AreKnownBefore, AreOlder, IsBranch, IsClosed, IsNext, IsNextCell, AreBranchesOf, cells_before, events_from_cell, pending, events_from_guess}
 pub use Rattle.solve_core.specs.steps.Propagation.{PropagatorState, HasNoDirtyLine, HasCorrectCache}
 pub use Rattle.solve_core.specs.steps.ColourMasks.{ColourMasks, mask_of, no_colours}
-pub use Rattle.solve_core.specs.steps.Counts.{AreCounts, IsKnownCell, IsMostInRow, row_score, set_count, two_of}
+pub use Rattle.solve_core.specs.steps.Counts.{IsFirstHighest, IsUnknownIn, count_across, count_beside, set_count, two_of}
 pub use Rattle.solve_core.specs.steps.Endings.{Ending, ending}
 pub use Rattle.solve_core.specs.steps.GridLines.{AreLinesOf}
 pub use Rattle.solve_core.specs.steps.Guesses.{IsUnderWay, owed, owed_by}

@@ -1,25 +1,23 @@
 //! A grid as rows and columns.
-ghost use Rattle.std.specs.Prelude.{◌≡◌, ◌+◌, ◌-◌, ◌*◌, ◌<◌, ◌≤◌, ℕ, nat_eq, [], count_by, false, length, replicate, slice_index_or, slice_set, true, vec_capacity, IfOk, IfSome};
+ghost use Rattle.std.specs.Prelude.{◌≡◌, ◌+◌, ◌-◌, ◌*◌, ◌<◌, ◌≤◌, ℕ, [], count_by, length, replicate, slice_index_or, slice_set, vec_capacity};
 ghost use Rattle.grid_core.specs.Cells.{Extends, is_known};
-ghost use Rattle.grid_core.specs.Nonogram.{cells_at, crossing, line_indices};
+ghost use Rattle.grid_core.specs.Nonogram.{crossing, line_indices};
 ghost use Rattle.grid_core.specs.steps.Axes.{line_count};
 ghost use Rattle.grid_core.specs.PartialGrid.{IsSize};
 ghost use Rattle.grid_core.specs.Rows.{cells_of_rows, row_of};
 ghost use Rattle.grid_core.specs.declared.cells.Cell.TheVariants.{Unknown};
 ghost use Rattle.grid_core.specs.declared.axes.Axis.TheVariants.{Rows, Columns};
 ghost use Rattle.grid_core.specs.Lines.{IsChanged, IsUnknownCell, IsUnknownFrom};
-ghost use Rattle.grid_core.specs.declared.limits.TheConstants.{MAX_SIDE};
 ghost use Rattle.solve_core.specs.steps.GridLines.{AreLinesOf};
-ghost use Rattle.bit_sets.specs.Masks.{Has, has, IsMaskOf};
+ghost use Rattle.bit_sets.specs.Masks.{Has, IsMaskOf};
 ghost use Rattle.solve_core.specs.Closure.{with_cells};
 ghost use Rattle.solve_core.specs.steps.Boards.{board_without_trail, cells_along, IsWhole};
-ghost use Rattle.solve_core.specs.steps.Trails.{IsTrailed, TrailedGrid, entry_on, undo_entry};
-ghost use Rattle.solve_core.specs.Picks.{is_known_or_outside};
+ghost use Rattle.solve_core.specs.steps.Trails.{entry_on, undo_entry};
 ghost use Rattle.solve_core.specs.Picks.{most_known};
 
 use crate::crossing_writes::{assign_across, write_each};
-use crate::picks::{known_cells, most_in_row, near_known};
-use bit_sets::{BitSet, next_index, prefix};
+use crate::picks::{RowSets, in_at_least, known_across, known_beside, most_known};
+use bit_sets::next_index;
 use grid_core::{Axis, Cell, Grid};
 use line_core::{BitLine, LineBits};
 use std::marker::Model;
@@ -137,35 +135,21 @@ fn load_lines<W: LineBits>(rows: &mut [BitLine<W>], columns: &mut [BitLine<W>], 
     load_columns(columns, rows);
 }
 
-/// Returns the columns in which the cell above row `y` is known; all columns if there is no row
-/// above.
-fn known_above<W: LineBits>(rows: &[BitLine<W>], y: usize) -> W
-    requires { y < length rows.now }
-    ensures { (x : ℕ) → x < length (slice_index_or rows.now y []) →
-        has (W.bits result) x
-        ≡ is_known_or_outside (nat_eq y 0)
-        (slice_index_or (slice_index_or rows.now (y - 1) []) x Unknown) }
-{
-    if y == 0 {
-        prefix(rows[y].len())
-    } else {
-        known_cells(&rows[y - 1])
-    }
-}
+impl<W: LineBits> RowSets for GridLines<W> {
+    type Set = W;
 
-/// Returns the columns in which the cell below row `y` is known; all columns if there is no row
-/// below.
-fn known_below<W: LineBits>(rows: &[BitLine<W>], y: usize) -> W
-    requires { y < length rows.now }
-    ensures { (x : ℕ) → x < length (slice_index_or rows.now y []) →
-        has (W.bits result) x
-        ≡ is_known_or_outside (nat_eq (y + 1) (length rows.now))
-        (slice_index_or (slice_index_or rows.now (y + 1) []) x Unknown) }
-{
-    if y + 1 == rows.len() {
-        prefix(rows[y].len())
-    } else {
-        known_cells(&rows[y + 1])
+    ghost grid = { λ g. g };
+
+    fn row_len(&self) -> u16 {
+        self.rows[0].len()
+    }
+
+    fn row_count(&self) -> usize {
+        self.rows.len()
+    }
+
+    fn unknown_in_row(&self, y: usize) -> W {
+        self.rows[y].unknown_cells()
     }
 }
 
@@ -258,16 +242,13 @@ impl<W: LineBits> GridLines<W> {
             IsUnknownCell self.now.cells (y * self.now.width + x) → Has (W.bits result) x }
         ensures fits { self.now.width ≤ W.WIDTH }
     {
-        let row = &self.rows[y];
+        let len = self.row_len();
+        let unknown = self.unknown_in_row(y);
         if least == 0 {
-            return row.unknown_cells();
+            return unknown;
         }
-        near_known(
-            row,
-            known_above(&self.rows, y),
-            known_below(&self.rows, y),
-            least,
-        )
+        let beside = known_beside(unknown, len);
+        in_at_least(unknown, &beside, &known_across(self, y), least)
     }
 
     /// Returns the index of the first unknown cell in row order from index `from` on, if there is
@@ -292,19 +273,7 @@ impl<W: LineBits> GridLines<W> {
     pub fn most_known(&self) -> Option<usize>
         ensures { result ≡ most_known self.now.width self.now.cells }
     {
-        let width = self.columns.len();
-        let mut best = None;
-        let mut least = 0;
-        for y in 0..self.rows.len() {
-            let above = known_above(&self.rows, y);
-            let below = known_below(&self.rows, y);
-            if let Some((count, x)) = most_in_row(&self.rows[y], above, below, least) {
-                best = Some(y * width + usize::from(x));
-                // Later cells need a greater count, so that of equal ones the first stays.
-                least = count + 1;
-            }
-        }
-        best
+        most_known(self)
     }
 
     /// Returns line `i` of an axis.
