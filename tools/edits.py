@@ -25,8 +25,9 @@ def function_at(crate, file, line):
     """Returns the function of a file in which a line stands, as MODULE::NAME, or the module alone if no function stands
     above it, or if the file has lemmas: a wrong body keeps the numbers of lines, but may add functions."""
     if file.startswith("proofs/"):
-        module, *rest = file.split("/")[1:]
-        return "::".join([Path(module).stem, *rest[-2:-1]])
+        *folders, answers = Path(file).parts[1:]
+        modules = [folder for folder in folders[:-1] if folder.islower()]
+        return "::".join([*modules[-1:], folders[-1]] if folders else [Path(answers).stem])
     lines = (TOP / "crates" / crate / file).read_text().split("\n")
     at = line - 1
     while lines[at].lstrip().startswith("#["):

@@ -84,7 +84,9 @@ board-undone most g old entries less s capacity left b t e l =
     })
 
 -- an unknown board with an empty trail satisfies the invariant
-pub board-unknown : (most w h capacity : ℕ) (g : PartialGrid) (entries : List LineEntry) → IsSize w h → (w ≤ most) × (h ≤ most) →
-    g ≡ record { width = w; height = h; cells = replicate (w * h) Unknown } → entries ≡ [] → w * h ≤ capacity
+pub board-unknown : (most capacity : ℕ) (g : PartialGrid) (entries : List LineEntry) → IsSize g.width g.height
+    → (g.width ≤ most) × (g.height ≤ most) → g.cells ≡ replicate (g.width * g.height) Unknown → entries ≡ [] → length g.cells ≤ capacity
     → IsBoard most g entries capacity
-board-unknown most w h capacity g entries size fits e t l = search (rules, length-replicate, unknown_count-le)
+board-unknown most capacity g entries size fits unknown none l =
+    let count : length g.cells ≡ g.width * g.height = ap length unknown ∙ length-replicate (g.width * g.height) Unknown in
+    search (rules, unknown_count-le)

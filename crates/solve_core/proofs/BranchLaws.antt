@@ -1,12 +1,16 @@
 -- The branches of a search, and how assignments, a filled guess and a blank guess change them.
-use Rattle.solve_core.proofs.Names.{◌≡◌, ℕ, zero, suc, ◌+◌, ◌<◌, ◌≤◌, List, [], ◌∷◌, ◌++◌, length, set, take, drop, refl, sym, ap, ◌∙◌, arith, length-append, append-nil, append_assoc, Option, Some, AllByRecursion, drop-length, drop-append-le, length-take-le, take-append-drop, Cell, Filled, Blank, GridLine, Branch, Guess, events, CellEntry, TrailedGrid, undone, IsTrailed, cells_before, IsNext, IsBranch, AreInOrder, AreBefore, AreBranchesOf, pending, events_from_cell, events_from_guess, rules}
-use Rattle.solve_core.proofs.TrailSteps.{undone-append, all_append}
+use Rattle.solve_core.proofs.Names.{◌≡◌, ℕ, zero, suc, ◌+◌, ◌<◌, ◌≤◌, List, [], ◌∷◌, ◌++◌, length, set, take, drop, refl, sym, ap, ◌∙◌, arith, length-append, append-nil, append_assoc, Option, Some, None, AllByRecursion, drop-length, drop-append-le, length-take-le, take-append-drop, Cell, Filled, Blank, GridLine, lines_of, Branch, Guess, events, CellEntry, TrailedGrid, undone, IsTrailed, cells_before, IsNext, IsBranch, AreInOrder, AreBefore, AreBranchesOf, pending, events_from_cell, events_from_guess, ColourMasks, LineMasks, TakesGuess, IsBoardOf, IsWorkspace, WorkspaceState, state_of, rules}
+use Rattle.solve_core.proofs.TrailSteps.{undone-append, all_append, length-undone}
 
 drop_take : {X : Type 0} (m n : ℕ) (xs : List X) → m ≤ n → drop m (take n xs) ++ drop n xs ≡ drop m xs
 drop_take zero n xs h = take-append-drop n xs
 drop_take (suc m) zero xs h = absurd (omega arith)
 drop_take (suc m) (suc n) [] h = refl
 drop_take (suc m) (suc n) (x ∷ xs) h = drop_take m n xs (omega arith)
+
+-- the board after undoing to `checkpoint`
+abbrev pub undone_board : TrailedGrid → ℕ → TrailedGrid
+undone_board g checkpoint = record g { cells = cells_before g.cells g.trail checkpoint; trail = take checkpoint g.trail }
 
 -- undoing to `checkpoint` doesn't change the cells at an earlier checkpoint
 pub before_back : (cells : List Cell) (trail : List CellEntry) (earlier checkpoint : ℕ) → earlier ≤ checkpoint
@@ -87,12 +91,12 @@ module _ (pick : List Cell → Option ℕ) (lines : List GridLine) where
   module _ (cells : List Cell) (trail : List CellEntry) (branches made : List Branch) (b : Branch) (e : made ≡ branches ++ (b ∷ []))
       (m : b.checkpoint ≡ length trail) where
     -- after a filled guess the branches with its branch appended are valid
-    pub fork-work : AreBranchesOf pick lines cells trail branches → AreBefore (length trail) branches → IsNext pick lines cells b.place →
+    fork-work : AreBranchesOf pick lines cells trail branches → AreBefore (length trail) branches → IsNext pick lines cells b.place →
         AreBranchesOf pick lines cells trail made
     fork-work w older n = search (rules, all_append, order-more, made, before-now)
 
     -- the two guesses of a cell are the filled one, made now, and the blank one, owed by the new last branch
-    pub fork-events : events_from_cell pick lines cells (Some b.place) (pending pick lines cells trail branches) ≡
+    fork-events : events_from_cell pick lines cells (Some b.place) (pending pick lines cells trail branches) ≡
         events_from_guess pick lines cells (Some (b.place, Filled)) (pending pick lines cells trail made)
     fork-events = rw (e, pending-last cells trail branches b, m, before-now cells trail) refl
 
@@ -110,14 +114,57 @@ module _ (pick : List Cell → Option ℕ) (lines : List GridLine) where
     same checkpoint h = rw (f, g) (before_back cells trail checkpoint b.checkpoint (omega arith))
 
     -- after undoing to the last branch's checkpoint, the other branches are valid
-    pub back-work : AreBranchesOf pick lines now after rest
+    back-work : AreBranchesOf pick lines now after rest
     back-work = search (rules, all_split, length-take-le, before-more, last, made, branches-same, same)
 
     -- the events owed by all branches are the last one's blank guess, made now, and those owed by the others
-    pub back-events : pending pick lines cells trail all
+    back-events : pending pick lines cells trail all
         ≡ events_from_guess pick lines now (Some (b.place, Blank)) (pending pick lines now after rest)
     back-events = rw (e, pending-last cells trail rest b, pending-same cells now trail after b.checkpoint same rest last.0, f) refl
 
     -- after undoing to the last branch's checkpoint, its cell is the next one to be guessed
-    pub back-ready : IsNext pick lines now b.place
+    back-ready : IsNext pick lines now b.place
     back-ready = rw f made.0
+
+module _ (old : WorkspaceState) (before after : List Branch) (b : Branch) where
+  -- pushing the branch of a cell takes the cell's filled guess
+  pub fork-TakesGuess : IsBoardOf old.puzzle old.board → after ≡ before ++ (b ∷ []) → b.checkpoint ≡ length old.board.trail →
+      TakesGuess old before (Some b.place) old after (Some (b.place, Filled))
+  fork-TakesGuess board made at =
+      let lines = lines_of old.puzzle in
+      record {
+        puzzle = refl;
+        size = board.2;
+        dirty = refl;
+        events_are = λ pick w. fork-events pick lines old.board.cells old.board.trail before after b made at;
+        work = λ pick u. fork-work pick lines old.board.cells old.board.trail before after b made at u.work u.older u.next_cell;
+        ready = λ pick u. u.next_cell;
+      }
+
+  -- popping the last branch and undoing to its checkpoint takes the blank guess of its cell
+  pub back-TakesGuess : (new : WorkspaceState) → IsBoardOf new.puzzle new.board → before ≡ after ++ (b ∷ []) →
+      new ≡ record old { board = undone_board old.board b.checkpoint } →
+      TakesGuess old before None new after (Some (b.place, Blank))
+  back-TakesGuess new board last is =
+      let lines = lines_of old.puzzle in
+      let cells = ap (λ (s : WorkspaceState). s.board.cells) is in
+      let trail = ap (λ (s : WorkspaceState). s.board.trail) is in
+      record {
+        puzzle = ap (λ (s : WorkspaceState). s.puzzle) is;
+        size = board.2;
+        dirty = ap (λ (s : WorkspaceState). s.dirty) is;
+        events_are = λ pick w. back-events pick lines _ _ _ _ before after b last cells trail w;
+        work = λ pick u. back-work pick lines _ _ _ _ before after b last cells trail u.work;
+        ready = λ pick u. back-ready pick lines _ _ _ _ before after b last cells trail u.work;
+      }
+
+-- undoing doesn't break what is always true of a workspace
+pub undone-IsWorkspace : (most : ℕ) (clues : List (List ℕ)) (old new : TrailedGrid) (dirty : LineMasks) (consistent : List ColourMasks)
+    (checkpoint : ℕ) → new ≡ undone_board old checkpoint → IsWorkspace most (state_of clues old dirty consistent) →
+    IsWorkspace most (state_of clues new dirty consistent)
+undone-IsWorkspace most clues old new dirty consistent checkpoint is h = rw is (record {
+  puzzle = h.puzzle;
+  fits = h.fits;
+  board = (h.board.0, h.board.1, length-undone old.cells (drop checkpoint old.trail) ∙ h.board.2);
+  rows = h.rows;
+})

@@ -1,25 +1,33 @@
--- The deduction cache stays correct when deductions are looked up and inserted.
-use Rattle.solve_core.proofs.Names.{◌≡◌, ℕ, ◌<◌, ◌∙◌, List, length, get_or, sym, inl, inr, Cell}
+-- What a deducer starts with: clues that fit into its sets, and nothing deduced.
+use Rattle.solve_core.proofs.Names.{◌≡◌, ℕ, ◌≤◌, ◌++◌, List, [], ◌∷◌, arith, true, AllByRecursion, recursion_from_All, IsNonogram, MAX_SIDE, Nonogram}
+use Rattle.grid_core.specs.Clues.{is_clue}
+use Rattle.line_core.proofs.LineCells.{clue_within}
+use Rattle.solve_core.proofs.TrailSteps.{all_append}
+use Rattle.solve_core.specs.steps.Widths.{FitsIn}
 use Rattle.std.specs.List.{All}
-use Rattle.std.proofs.lemmas.List.Elements.{All-contains, All-get_or, All-weaker}
-use Rattle.std.proofs.lemmas.List.{get_or_default}
-use Rattle.grid_core.specs.Nonogram.{Nonogram, line_on}
-use Rattle.grid_core.specs.declared.axes.Axis.{Axis}
-use Rattle.line_core.specs.Deduction.{deduced}
-use Rattle.solve_core.specs.steps.DeductionCache.{IsDeductionOf, IsInsertedInto, CachedLine}
+use Rattle.line_core.specs.Lookahead.{Table}
+use Rattle.solve_core.proofs.TableSteps.{empty_tables}
+use Rattle.solve_core.specs.steps.LookaheadTables.{AreEmpty}
+use Rattle.solve_core.specs.steps.DeductionCache.{AreDeductionsOf, CachedLine}
 
--- a cached deduction of a line with these cells is the deduced line
-pub cached : (p : Nonogram) (entries : List CachedLine) (k : ℕ) (d e : CachedLine) (axis : Axis) (i : ℕ) (line : List Cell)
-    → All (IsDeductionOf p) entries → k < length entries → d ≡ get_or entries k d → e ≡ get_or entries k e
-    → (d.axis ≡ axis) × (d.number ≡ i) × (d.line ≡ line) → e.answer ≡ deduced line (line_on axis p i).clue
-cached p entries k d e axis i line right within at again of =
-    let same : e ≡ d = again ∙ get_or_default entries k e d within ∙ sym at in
-    let is : IsDeductionOf p d = rw at (All-get_or (IsDeductionOf p) entries k d within right) in
-    rw (same, ← of.0, ← of.1, ← of.2) is
+-- clues fit into sets of `width` indices if their numbers do
+fit : (width : ℕ) (clues : List (List ℕ)) → AllByRecursion (λ clue. is_clue MAX_SIDE clue ≡ true) clues
+    → AllByRecursion (All (λ number. number ≤ width)) clues → AllByRecursion (λ clue. is_clue width clue ≡ true) clues
+fit width [] are within = tt
+fit width (clue ∷ clues) are within = (clue_within MAX_SIDE width clue are.0 within.0, fit width clues are.1 within.1)
 
--- the cache stays correct if a correct deduction is inserted
-pub entries_right : (p : Nonogram) (old new : List CachedLine) (d : CachedLine) → All (IsDeductionOf p) old → IsDeductionOf p d
-    → All (IsInsertedInto old d) new → All (IsDeductionOf p) new
-entries_right p old new d right is entries =
-    All-weaker (IsInsertedInto old d) (IsDeductionOf p)
-    (λ x h. elim h [ inl e ↦ rw e is | inr c ↦ All-contains (IsDeductionOf p) old x right c ]) new entries
+-- the clues of a puzzle fit into its sets
+pub clues_fit : (width : ℕ) (p : Nonogram) → IsNonogram p → FitsIn width p
+    → AllByRecursion (λ clue. is_clue width clue ≡ true) (p.rows ++ p.columns)
+clues_fit width p is fits =
+    all_append (λ clue. is_clue width clue ≡ true) p.rows p.columns (fit width p.rows is.rows (recursion_from_All _ p.rows fits.rows))
+    (fit width p.columns is.columns (recursion_from_All _ p.columns fits.columns))
+
+-- nothing is deduced yet
+pub none_deduced : (width : ℕ) (clues : List (List ℕ)) (entries : List CachedLine) (tables : List Table)
+    → AllByRecursion (λ clue. is_clue width clue ≡ true) clues → entries ≡ [] → AreEmpty tables → AreDeductionsOf width clues entries tables
+none_deduced width clues entries tables fits none empty = record {
+  fit = fits;
+  right = rw none (λ k d h. absurd (omega arith));
+  tables_are = empty_tables clues tables empty;
+}

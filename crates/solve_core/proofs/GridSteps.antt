@@ -1,6 +1,6 @@
 -- Effects of deducing a line, and of assigning a cell, on the worklist and on the grid's closure.
-use Rattle.solve_core.proofs.Names.{◌≡◌, ◌≢◌, ℕ, ◌+◌, ◌*◌, ◌/◌, ◌%◌, ◌<◌, inl, inr, true, false, List, length, get_or, set, Option, Some, refl, sym, ap, ◌∙◌, arith, length-set, true≢false, cases_eq, div_below, Cell, Unknown, TrailedGrid, IsBoardOf, cells_along, cells_at, Nonogram, IsNonogram, GridLine, lines_of, line_on, crossing, line_indices, line_count, cell_index_on, Dead, Unchanged, Changed, round, closure, deduce_line, LineMasks, mask_on, IsInMask, IsEmptyMask, IsMaskWithin, Has, IsWithBit, IsMaskOf, Axis, Rows, Columns, IsDeduced, IsPropagated, AddsToWorklist, IsWorklist, WorklistAfter, StepsTowards, IsAtFixpoint, PropagatorState, HasNoDirtyLine, Extends-refl, length-Extends, rules}
-use Rattle.solve_core.specs.declared.propagation.Effect.{Effect}
+use Rattle.solve_core.proofs.Names.{◌≡◌, ◌≢◌, ℕ, ◌+◌, ◌*◌, ◌/◌, ◌%◌, ◌<◌, inl, inr, true, false, List, length, get_or, set, Option, Some, refl, sym, ap, ◌∙◌, arith, length-set, true≢false, cases_eq, div_below, Cell, Unknown, TrailedGrid, IsBoardOf, cells_along, cells_at, Nonogram, IsNonogram, GridLine, lines_of, line_on, crossing, line_indices, line_count, cell_index_on, Dead, Unchanged, Changed, round, closure, deduce_line, LineMasks, mask_on, IsInMask, IsEmptyMask, IsMaskWithin, Has, IsWithBit, IsMaskOf, Axis, Rows, Columns, IsDeduced, IsPropagated, AddsToWorklist, IsWorklist, WorklistAfter, StepsTowards, IsAtFixpoint, WorkspaceState, Extends-refl, length-Extends, rules}
+use Rattle.solve_core.specs.declared.solving.propagation.Effect.{Effect}
 use Rattle.solve_core.proofs.ClosureLaws.{closure-IsLeastClosed}
 use Rattle.solve_core.proofs.StepLaws.{IsOneOf, done_within}
 use Rattle.solve_core.proofs.LineSteps.{closed_settled, cells_at-same, kept-elsewhere, AreDistinct, AreBelow, settled_line, written_line, written-extends, written-settled, written-elsewhere, line_keeps, line_dead}
@@ -134,16 +134,15 @@ pub place_split : (p : Nonogram) (cells : List Cell) (k : ℕ) → IsNonogram p 
     → (k % p.width < p.width) × (k / p.width < p.height) × (k / p.width * p.width + k % p.width ≡ k)
 place_split p cells k is size l = search (rules, div_below)
 
--- cells at a fixpoint are line-closed
-pub fixpoint_closed : (p : Nonogram) (c : PropagatorState) (cells : List Cell) → IsAtFixpoint p c cells
-    → round (lines_of p) cells ≡ Some cells
-fixpoint_closed p c cells r =
-    (closure-IsLeastClosed (lines_of p) cells).closed cells (none_dirty_closed p c.dirty cells r.worklist r.clean.none_dirty)
+-- a board at its fixpoint is line-closed
+pub fixpoint_closed : (s : WorkspaceState) → IsAtFixpoint s → round (lines_of s.puzzle) s.board.cells ≡ Some s.board.cells
+fixpoint_closed s r = (closure-IsLeastClosed (lines_of s.puzzle) s.board.cells).closed s.board.cells
+    (none_dirty_closed s.puzzle s.dirty s.board.cells r.worklist r.clean)
 
--- a line-closed grid is at a fixpoint if no line is dirty
-pub closed_fixpoint : (p : Nonogram) (c : PropagatorState) (cells : List Cell) → IsNonogram p → length cells ≡ p.width * p.height →
-    round (lines_of p) cells ≡ Some cells → HasNoDirtyLine p c → IsAtFixpoint p c cells
-closed_fixpoint p c cells is size closed clean = search (rules, line_settled)
+-- a line-closed board is at its fixpoint if no line is dirty
+pub closed_fixpoint : (s : WorkspaceState) → IsNonogram s.puzzle → length s.board.cells ≡ s.puzzle.width * s.puzzle.height →
+    round (lines_of s.puzzle) s.board.cells ≡ Some s.board.cells → IsEmptyMask s.dirty → IsAtFixpoint s
+closed_fixpoint s is size closed clean = search (rules, line_settled)
 
 -- deducing one of the lines is a step towards the closure
 pub assigned-effect : (lines : List GridLine) (line : GridLine) (g new : List Cell) (r : Effect) → IsOneOf line lines →

@@ -28,3 +28,6 @@ pub mod StatedLaws
 pub mod WordLemmas
 pub mod TableSteps
 pub mod CacheLaws
+pub mod WorkspaceSteps
+pub mod ClueLists
+pub mod WorkspaceTrials

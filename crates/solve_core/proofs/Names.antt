@@ -31,27 +31,28 @@ pub use Rattle.grid_core.specs.steps.Axes.{column_on, line_count, cell_index_on,
 pub use Rattle.line_core.proofs.DeductionLaws.{AtMost-trans, Extends-antisym, Extends-at, Extends-from_places, Extends-refl, Extends-trans, deduced-above, deduced-below, deduced-full, deduced-monotone, deduced-idempotent, get_or-map_colour, length-Extends, length-deduced}
 pub use Rattle.line_core.specs.Deduction.{deduced}
 pub use Rattle.line_core.specs.Order.{AtMost}
-pub use Rattle.solve_core.specs.Closure.{closure, deduce_line, join, join_all, join_cells, option_cons, repeat, round, with_cells}
+pub use Rattle.solve_core.specs.Closure.{closure, deduce_line, if_alive, join, join_all, join_cells, option_cons, repeat, round, with_cells}
 pub use Rattle.solve_core.specs.LeastClosed.{IsLeastClosed}
 pub use Rattle.solve_core.specs.Picks.{better, first_most, is_above_known, is_below_known, is_left_known, is_right_known, is_known_or_outside, most_known, picked, known_neighbours}
 pub use Rattle.solve_core.specs.Report.{events_from, grade_by, grid_of, guesses_in, guesses_of, is_decided, known_in, limited_search, line_closure, report_of, search_of, solutions_in, through_solution, trial_closure, unknown_grid, verdict_by, verdict_of, whole_search, within_guesses}
 pub use Rattle.solve_core.specs.Search.{Event, Guess, IsPick, Solution, events, events_within, first_unknown, guess_at, search_from}
 pub use Rattle.solve_core.specs.Trials.{HasNoRefutedColour, all_present, is_refuted, left_over, trial_round, trials, after_trials_of}
 pub use Rattle.solve_core.specs.Verdicts.{Holds, IsFinal}
-pub use Rattle.solve_core.specs.declared.branches.Branch.{Branch}
-pub use Rattle.solve_core.specs.declared.propagation.Effect.TheVariants.{Changed, Dead, Unchanged}
+pub use Rattle.solve_core.specs.declared.searching.branches.Branch.{Branch}
+pub use Rattle.solve_core.specs.declared.solving.propagation.Effect.TheVariants.{Changed, Dead, Unchanged}
 pub use Rattle.solve_core.specs.declared.findings.Findings.{Findings}
-pub use Rattle.solve_core.specs.steps.Boards.{BufferCapacities, IsBoard, IsBoardOf, board_of, cells_along}
+pub use Rattle.solve_core.specs.steps.Boards.{IsBoard, IsBoardOf, board_of, cells_along, unknown_board}
 pub use Rattle.solve_core.specs.steps.Branches.{AreBefore, AreInOrder, AreKnownBefore, AreOlder, IsBranch, IsClosed, IsNext, IsNextCell, AreBranchesOf, cells_before, events_from_cell, pending, events_from_guess}
-pub use Rattle.solve_core.specs.steps.Propagation.{PropagatorState, HasNoDirtyLine, HasCorrectCache}
+pub use Rattle.solve_core.specs.steps.Propagation.{Closes, Deduces, Enqueues, Propagates, PropagatesLines, PropagatesOn}
 pub use Rattle.solve_core.specs.steps.ColourMasks.{ColourMasks, mask_of, no_colours}
 pub use Rattle.solve_core.specs.steps.Counts.{IsFirstHighest, IsUnknownIn, count_across, count_beside, set_count, two_of}
 pub use Rattle.solve_core.specs.steps.Endings.{Ending, ending}
 pub use Rattle.solve_core.specs.steps.GridLines.{AreLinesOf}
-pub use Rattle.solve_core.specs.steps.Guesses.{IsUnderWay, owed, owed_by}
+pub use Rattle.solve_core.specs.steps.Guesses.{AreFound, FindsNext, GoesOn, Guesses, HasRoom, IsUnderWay, TakesGuess, owed, owed_by}
 pub use Rattle.solve_core.specs.steps.CrossingWrites.{CanAssignAcross, CanWriteIn, IsIn}
 pub use Rattle.solve_core.specs.steps.LineMasks.{IsMaskWithin, IsEmptyMask, IsInMask, IsEmptyOn, LineMasks, mask_on}
-pub use Rattle.solve_core.specs.steps.Worklist.{IsWorklist, CanPropagate, IsAtFixpoint, IsDeduced, IsPropagated, IsWritten, WorklistAfter, AddsToWorklist, StepsTowards}
+pub use Rattle.solve_core.specs.steps.Worklist.{IsWorklist, IsDeduced, IsPropagated, IsWritten, WorklistAfter, AddsToWorklist, StepsTowards}
 pub use Rattle.solve_core.specs.steps.ConsistentColours.{AreBothRecorded, AreConsistent}
 pub use Rattle.solve_core.specs.steps.Trails.{IsEntryOf, IsTrailed, LineEntry, CellEntry, TrailedGrid, undone, entry_on, unknown_count, undo_entry}
-pub use Rattle.solve_core.specs.steps.TrialState.{HasRoomFor, IsReadyForTrial, TrialState}
+pub use Rattle.solve_core.specs.steps.TrialState.{CanTry, ClosesUnderTrials, IsReadyForTrial, LeavesBoard, Tries}
+pub use Rattle.solve_core.specs.steps.Workspaces.{HasWorklist, IsAtFixpoint, IsLater, IsPreparedFor, IsWorkspace, WorkspaceState, clue_index, clues_only, puzzle_of, state_of}

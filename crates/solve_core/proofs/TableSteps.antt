@@ -1,14 +1,8 @@
 -- Lookahead tables of lines when they are created, cleared and written.
-use Rattle.solve_core.proofs.Names.{inl, inr, ◌≡◌, ◌≢◌, ℕ, zero, suc, refl, arith, ◌<◌, ◌≤◌, List, length, [], ◌∷◌, ◌++◌, None, get_or}
-use Rattle.std.proofs.lemmas.Bool.{cases_eq, cases_lt}
-use Rattle.std.proofs.Math.ListN.{get_or-eq_default}
-use Rattle.grid_core.specs.Nonogram.{Nonogram, crossing, line_on}
-use Rattle.grid_core.specs.declared.axes.Axis.{Axis}
-use Rattle.grid_core.specs.declared.axes.Axis.TheVariants.{Rows, Columns}
+use Rattle.solve_core.proofs.Names.{inl, inr, ◌≡◌, ◌≢◌, ℕ, zero, suc, refl, arith, cases_eq, cases_lt, ◌<◌, ◌≤◌, List, length, length-set, set, [], ◌∷◌, ◌++◌, None, get_or, get_or-eq_default, get_or-set_other, get_or-set_same}
 use Rattle.line_core.proofs.LookaheadLemmas.{empty_table}
-use Rattle.solve_core.proofs.AxisLines.{by_axis}
 use Rattle.line_core.specs.Lookahead.{IsTableOf, Table, no_table}
-use Rattle.solve_core.specs.steps.LookaheadTables.{AreEmpty, AreTablesOf, LineTables, table_on}
+use Rattle.solve_core.specs.steps.LookaheadTables.{AreEmpty, AreTablesOf}
 
 -- an empty list of tables has no table with a line
 pub none_empty : (xs : List Table) → xs ≡ [] → AreEmpty xs
@@ -28,35 +22,20 @@ one_more_empty xs y empty none = record { each = λ i. at xs i empty.each }
 pub all_empty : (xs : List Table) (n : ℕ) → length xs ≤ n → ((k : ℕ) → k < n → (get_or xs k no_table).line ≡ None) → AreEmpty xs
 all_empty xs n long none = grind (arith, cases_lt, get_or-eq_default)
 
--- tables without lines are tables of each puzzle
-pub empty_tables : (p : Nonogram) (rows columns : List Table) → AreEmpty rows → AreEmpty columns
-    → AreTablesOf p (record { rows = rows; columns = columns })
-empty_tables p rows columns r c = grind (arith, table_on, empty_table)
+-- tables without lines are tables of each list of clues
+pub empty_tables : (clues : List (List ℕ)) (tables : List Table) → AreEmpty tables → AreTablesOf clues tables
+empty_tables clues tables empty = record { each = λ k. empty_table (get_or clues k []) (get_or tables k no_table) (empty.each k) }
 
--- the tables stay those of the puzzle if that of one line is written and the others are unchanged
-pub line_written : (p : Nonogram) (axis : Axis) (i : ℕ) (old new : LineTables) → AreTablesOf p old
-    → IsTableOf (line_on axis p i).clue (table_on axis i new)
-    → ((s : Axis) (k : ℕ) → (s ≡ axis → k ≢ i) → table_on s k new ≡ table_on s k old) → AreTablesOf p new
-line_written p axis i old new tables table others = record {
-  each = by_axis (λ s. (k : ℕ) → IsTableOf (line_on s p k).clue (table_on s k new)) axis
-      (λ k. elim (cases_eq k i) [ inl e ↦ rw e table | inr n ↦ rw (others axis k (λ e. n)) (tables.each axis k) ])
-      (λ k. rw (others (crossing axis) k (λ e. absurd (not_across axis e))) (tables.each (crossing axis) k));
-}
+-- the tables stay those of the clues if one of them is written for its clue
+pub one_written : (clues : List (List ℕ)) (old : List Table) (k : ℕ) (new : Table) → AreTablesOf clues old
+    → IsTableOf (get_or clues k []) new → AreTablesOf clues (set old k new)
+one_written clues old k new tables is = record { each = λ i. elim (cases_eq i k) [ inl e ↦ at i e | inr n ↦ other i n ] }
   where
-    not_across : (axis : Axis) → crossing axis ≢ axis
-    not_across Rows e = cc
-    not_across Columns e = cc
+    other : (i : ℕ) → i ≢ k → IsTableOf (get_or clues i []) (get_or (set old k new) i no_table)
+    other i n = rw (get_or-set_other old k i new no_table n) (tables.each i)
 
--- writing the table of a row leaves those of the other lines unchanged
-pub row_others : (i : ℕ) (old new columns : List Table) → ((k : ℕ) → k ≢ i → get_or new k no_table ≡ get_or old k no_table)
-    → (s : Axis) (k : ℕ) → (s ≡ Rows → k ≢ i)
-    → table_on s k (record { rows = new; columns = columns }) ≡ table_on s k (record { rows = old; columns = columns })
-row_others i old new columns others Rows k n = others k (n refl)
-row_others i old new columns others Columns k n = refl
-
--- writing the table of a column leaves those of the other lines unchanged
-pub column_others : (i : ℕ) (old new rows : List Table) → ((k : ℕ) → k ≢ i → get_or new k no_table ≡ get_or old k no_table)
-    → (s : Axis) (k : ℕ) → (s ≡ Columns → k ≢ i)
-    → table_on s k (record { rows = rows; columns = new }) ≡ table_on s k (record { rows = rows; columns = old })
-column_others i old new rows others Rows k n = refl
-column_others i old new rows others Columns k n = others k (n refl)
+    at : (i : ℕ) → i ≡ k → IsTableOf (get_or clues i []) (get_or (set old k new) i no_table)
+    at i e = elim (cases_lt k (length old)) [
+      | inl within ↦ rw (e, get_or-set_same old k new no_table within) is
+      | inr past ↦ grind (arith, get_or-eq_default, length-set, empty_table)
+    ]

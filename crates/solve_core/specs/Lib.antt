@@ -6,7 +6,6 @@ pub mod Sizes
 pub mod Search
 pub mod Report
 pub mod Verdicts
-pub mod Workspaces
 pub mod Picks
 pub mod MostKnown
 pub mod steps

@@ -1,5 +1,7 @@
 -- The definitions that only the contracts of private functions use.
+pub mod AnyWorkspaces
 pub mod Boards
+pub mod ClueLists
 pub mod Branches
 pub mod Propagation
 pub mod ColourMasks
@@ -16,4 +18,5 @@ pub mod ConsistentColours
 pub mod Trails
 pub mod TrialState
 pub mod Widths
+pub mod Workspaces
 pub mod LookaheadTables

@@ -1,38 +1,38 @@
 //! The solver: the closure of grids under line deduction and under trials, the search for
-//! solutions, and the report on a puzzle.
+//! solutions, and the report on a puzzle. Its parts, each over those before it:
+//!
+//! - `picks`: the cell to guess next in a grid.
+//! - `grids`: a grid as rows and columns, with a trail by which assignments are undone.
+//! - `deducing`: the deduced line of each line, from its clue, a cache or a lookahead table.
+//! - `records`: consistent colours and conflict lines, which later trials and guesses use.
+//! - `solving`: one workspace for a puzzle that is being solved; propagation and trials in it.
+//! - `searching`: the search for solutions in a workspace.
+//! - `reports`: the report on the puzzle of a workspace; `findings` are its parts.
+//! - `any_workspaces`: workspaces in the narrowest sets that fit, which `widths` determines.
+//! - `reporters`, `solver`, `line_grids`, `guessing`: what callers ask for.
+//! - `laws`: what the public definitions mean.
 #![tactic(auto)]
 
-mod boards;
-mod branches;
+mod any_workspaces;
 mod buffers;
-mod colour_sets;
-mod conflict_hints;
-mod consistent;
-mod crossing_writes;
-mod deduction_cache;
+mod deducing;
 mod findings;
-mod grid_lines;
+mod grids;
 mod guessing;
 pub mod laws;
-mod line_clues;
 mod line_grids;
-mod line_mask;
-mod lookahead_tables;
 mod picks;
-mod propagation;
+mod records;
+mod reporters;
 mod reports;
-mod search;
-mod solutions;
+mod searching;
 mod solver;
-mod trails;
-mod trials;
+mod solving;
 mod widths;
-mod words;
-mod workspaces;
 
 pub use findings::{Findings, Grade, Verdict};
 pub use guessing::next_guess;
 pub use line_grids::line_grid;
 pub use picks::Pick;
-pub use reports::{Reporter, report};
+pub use reporters::{Reporter, report};
 pub use solver::Solver;

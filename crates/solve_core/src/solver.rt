@@ -6,42 +6,38 @@ ghost use Rattle.solve_core.specs.Sizes.{HasSizeOf};
 ghost use Rattle.solve_core.specs.Trials.{trials};
 ghost use Rattle.solve_core.specs.Closure.{if_alive};
 
-use crate::widths::width_for;
-use crate::workspaces::Workspace;
-use bit_sets::Bits256;
+use crate::any_workspaces::AnyWorkspace;
 use grid_core::{Grid, NoMemory, Puzzle};
-use line_core::SetWidth;
 use std::alloc::Global;
 use std::marker::Model;
 
-/// A workspace in the narrowest sets that fit its puzzle.
-#[derive(Drop)]
-pub enum AnyWorkspace<'p> {
-    Narrow(Workspace<'p, u64>),
-    Middle(Workspace<'p, u128>),
-    Wide(Workspace<'p, Bits256>),
-}
-
 /// A puzzle with the buffers for closing its grids under line deduction or trials.
 pub struct Solver<'p> {
-    workspace: AnyWorkspace<'p>,
+    puzzle: &'p Puzzle,
+    workspace: AnyWorkspace,
 }
 
 /// Written by hand so that callers' proofs see one call: a derived drop is expanded at each exit of
 /// each caller, for each of the set widths.
 impl Drop for Solver<'_> {
     fn drop(self) {
-        let Solver { workspace: _ } = self;
+        let Solver {
+            puzzle: _,
+            workspace: _,
+        } = self;
     }
 }
 
 impl<'p> Model for Solver<'p> {
-    ghost use Rattle.grid_core.specs.Nonogram.{Nonogram};
-    ghost use Rattle.solve_core.specs.Workspaces.{puzzle_of_workspace};
+    ghost use Rattle.std.specs.Prelude.{◌≡◌};
+    ghost use Rattle.grid_core.specs.Nonogram.{Nonogram, plain};
 
     ghost Value = { Nonogram };
 
-    ghost view = { λ s. puzzle_of_workspace s.workspace };
+    ghost view = { λ s. s.puzzle.now };
+
+    ghost invariant = { λ s. s.workspace.puzzle
+        ≡ plain s.puzzle.now.width s.puzzle.now.height s.puzzle.now.rows s.puzzle.now.columns };
 }
 
 impl<'p> Solver<'p> {
@@ -49,12 +45,10 @@ impl<'p> Solver<'p> {
     pub fn new(alloc: Global, puzzle: &'p Puzzle) -> Result<Solver<'p>, NoMemory>
         ensures { IfOk result (λ solver. solver ≡ puzzle.now) }
     {
-        let workspace = match width_for(puzzle) {
-            SetWidth::Narrow => AnyWorkspace::Narrow(Workspace::new(alloc, puzzle)?),
-            SetWidth::Middle => AnyWorkspace::Middle(Workspace::new(alloc, puzzle)?),
-            SetWidth::Wide => AnyWorkspace::Wide(Workspace::new(alloc, puzzle)?),
-        };
-        Ok(Solver { workspace })
+        Ok(Solver {
+            puzzle,
+            workspace: AnyWorkspace::new(alloc, puzzle)?,
+        })
     }
 
     /// Closes `grid`, which has the puzzle's size, under line deduction. Returns whether it is
@@ -67,11 +61,7 @@ impl<'p> Solver<'p> {
         ensures size { HasSizeOf self.old grid.new }
         ensures puzzle { self.new ≡ self.old }
     {
-        match &mut self.workspace {
-            AnyWorkspace::Narrow(workspace) => workspace.close_lines(grid),
-            AnyWorkspace::Middle(workspace) => workspace.close_lines(grid),
-            AnyWorkspace::Wide(workspace) => workspace.close_lines(grid),
-        }
+        self.workspace.close_lines(grid)
     }
 
     /// Closes `grid`, which has the puzzle's size, under trials. Returns whether it is alive; the
@@ -83,10 +73,6 @@ impl<'p> Solver<'p> {
         ensures size { HasSizeOf self.old grid.new }
         ensures puzzle { self.new ≡ self.old }
     {
-        match &mut self.workspace {
-            AnyWorkspace::Narrow(workspace) => workspace.close_trials(grid),
-            AnyWorkspace::Middle(workspace) => workspace.close_trials(grid),
-            AnyWorkspace::Wide(workspace) => workspace.close_trials(grid),
-        }
+        self.workspace.close_trials(grid)
     }
 }

@@ -309,8 +309,7 @@ fn knows_inert_cells<W: LineBits>(alloc: Global) -> Result<bool, Fail>
     let mut tables = Tables::new(alloc, 256)?;
     let mut buffers = LookaheadBuffers::new(alloc, 2)?;
     let mut table = LookaheadTable::<W>::new(alloc)?;
-    let clue = Clue::from_numbers(alloc, &[2, 1])?;
-    table.write(&mut tables, &mut buffers, &BitLine::unknown(5), &clue);
+    table.write(&mut tables, &mut buffers, &BitLine::unknown(5), &[2, 1]);
     let filled = table.inert_cells(true);
     let blank = table.inert_cells(false);
     Ok(filled.contains(1) && filled.with_bit(1, false).is_empty() && blank.is_empty())

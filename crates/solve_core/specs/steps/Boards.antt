@@ -36,18 +36,6 @@ board_of g entries =
       trail = map (entry_on g.width g.height) entries;
     }
 
--- the capacities of a board's buffers: for rows, for columns and for trail entries
-pub record BufferCapacities : Type 0 where
-  pub rows : ℕ
-  pub columns : ℕ
-  pub trail : ℕ
-
--- `buffers` suffice for a board of this size: for its lines, and for a trail entry for each cell
-pub record HasCapacityFor (width height : ℕ) (buffers : BufferCapacities) : Type 0 where
-  pub rows : height ≤ buffers.rows
-  pub columns : width ≤ buffers.columns
-  pub trail : width * height ≤ buffers.trail
-
 -- The invariant of a board, with sets of `most` indices and a trail capacity of `capacity`: the
 -- entries `entries` are of the grid's lines; and after undoing to any checkpoint `checkpoint`, the
 -- trail's length and the unknown cells together are at most the number of cells, so that no

@@ -5,7 +5,7 @@ use Rattle.grid_core.specs.declared.cells.Cell.{Cell}
 use Rattle.grid_core.specs.declared.cells.Cell.TheVariants.{Unknown, Filled, Blank}
 use Rattle.grid_core.specs.Cells.{is_unknown}
 use Rattle.grid_core.specs.Nonogram.{GridLine}
-use Rattle.solve_core.specs.declared.branches.Branch.{Branch}
+use Rattle.solve_core.specs.declared.searching.branches.Branch.{Branch}
 use Rattle.solve_core.specs.Closure.{round}
 use Rattle.solve_core.specs.steps.Trails.{CellEntry, undone}
 use Rattle.solve_core.specs.Search.{Event, Guess, events}

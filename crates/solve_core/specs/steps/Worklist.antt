@@ -1,4 +1,4 @@
--- The worklist of dirty lines, and what a step of propagation or of trials does.
+-- The worklist of dirty lines, and the effect of a step of propagation or of trials.
 use Rattle.std.specs.Prelude.{◌⊎◌, ◌≡◌, ℕ, ◌*◌, ◌<◌, List, length, Option, Some, None, slice_index_or}
 use Rattle.grid_core.specs.declared.cells.Cell.{Cell}
 use Rattle.grid_core.specs.declared.cells.Cell.TheVariants.{Unknown}
@@ -9,9 +9,8 @@ use Rattle.line_core.specs.Deduction.{deduced}
 use Rattle.solve_core.specs.Closure.{with_cells}
 use Rattle.solve_core.specs.steps.LineMasks.{LineMasks, mask_on, IsInMask, IsMaskWithin}
 use Rattle.solve_core.specs.steps.Trails.{unknown_count}
-use Rattle.solve_core.specs.steps.Propagation.{PropagatorState, HasNoDirtyLine, HasCorrectCache}
-use Rattle.solve_core.specs.declared.propagation.Effect.{Effect}
-use Rattle.solve_core.specs.declared.propagation.Effect.TheVariants.{Dead, Unchanged, Changed}
+use Rattle.solve_core.specs.declared.solving.propagation.Effect.{Effect}
+use Rattle.solve_core.specs.declared.solving.propagation.Effect.TheVariants.{Dead, Unchanged, Changed}
 
 -- the line deduces just its own cells from the grid
 abbrev pub IsDeduced : List Cell → GridLine → Type 0
@@ -63,17 +62,6 @@ WorklistAfter Dead p dirty cells = Unit {0}
 WorklistAfter Unchanged p dirty cells = IsWorklist p dirty cells
 WorklistAfter Changed p dirty cells = IsWorklist p dirty cells
 
--- what propagation needs: a worklist for the cells, and a correct cache for the puzzle
-pub record CanPropagate (p : Nonogram) (c : PropagatorState) (cells : List Cell) : Type 0 where
-  pub worklist : IsWorklist p c.dirty cells
-  pub cache : HasCorrectCache p c
-
--- what a step leaves: a correct cache, and a worklist unless the cells are dead
-pub record LeavesPropagatable (r : Effect) (p : Nonogram) (c : PropagatorState) (cells : List Cell)
-    : Type 0 where
-  pub worklist : WorklistAfter r p c.dirty cells
-  pub cache : HasCorrectCache p c
-
 -- the effect of a step towards `f` (the closure, or trials) of the cells: `f` of them is dead, they
 -- are unchanged, or fewer are unknown and `f` of them is the same as before
 abbrev pub StepsTowards :
@@ -81,8 +69,3 @@ abbrev pub StepsTowards :
 StepsTowards f Dead old new = f old ≡ None
 StepsTowards f Unchanged old new = new ≡ old
 StepsTowards f Changed old new = (f new ≡ f old) × (unknown_count new < unknown_count old)
-
--- the cells are at a fixpoint: no line is dirty, and each deduces just its own cells
-pub record IsAtFixpoint (p : Nonogram) (c : PropagatorState) (cells : List Cell) : Type 0 where
-  pub worklist : IsWorklist p c.dirty cells
-  pub clean : HasNoDirtyLine p c

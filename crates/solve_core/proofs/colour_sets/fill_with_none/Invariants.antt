@@ -1,6 +1,0 @@
--- Invariant of the loop of `fill_with_none`: all sets so far are empty, and the capacity suffices for all.
-use Rattle.solve_core.proofs.Names.{◌≡◌, ◌≤◌, replicate, vec_capacity, no_colours}
-use Rattle.solve_core.proofs.colour_sets.fill_with_none.Given as goal
-
-abbrev pub invariant-loop : goal.invariant-loop
-invariant-loop g l = record { items : l.sets.items ≡ replicate l.counter no_colours; capacity : l.count ≤ vec_capacity l.sets }

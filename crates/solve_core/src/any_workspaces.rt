@@ -1,0 +1,129 @@
+//! Workspaces in the narrowest sets that fit their puzzles. Nothing else knows the set widths.
+ghost use Rattle.std.specs.Prelude.{◌≡◌, IfOk};
+ghost use Rattle.grid_core.specs.Nonogram.{lines_of};
+ghost use Rattle.solve_core.specs.Closure.{closure, if_alive};
+ghost use Rattle.solve_core.specs.Report.{findings_of, unknown_grid};
+ghost use Rattle.solve_core.specs.Sizes.{HasSizeOf};
+ghost use Rattle.solve_core.specs.Trials.{trials};
+ghost use Rattle.solve_core.specs.steps.Workspaces.{IsPreparedFor};
+
+use crate::findings::Findings;
+use crate::picks::Pick;
+use crate::searching::branches::Branch;
+use crate::solving::workspaces::Workspace;
+use crate::widths::width_for;
+use bit_sets::Bits256;
+use grid_core::{Grid, NoMemory, Puzzle};
+use line_core::SetWidth;
+use std::alloc::Global;
+use std::marker::Model;
+
+/// A workspace in sets of 64, 128 or 256 indices.
+#[derive(Drop)]
+pub enum SizedWorkspace {
+    Narrow(Workspace<u64>),
+    Middle(Workspace<u128>),
+    Wide(Workspace<Bits256>),
+}
+
+/// A workspace in the narrowest sets that fit its puzzle.
+#[derive(Drop)]
+pub struct AnyWorkspace {
+    sized: SizedWorkspace,
+}
+
+impl Model for AnyWorkspace {
+    ghost use Rattle.solve_core.specs.steps.AnyWorkspaces.{state_in};
+    ghost use Rattle.solve_core.specs.steps.Workspaces.{WorkspaceState};
+
+    ghost Value = { WorkspaceState };
+
+    ghost view = { λ s. state_in s.sized };
+}
+
+impl AnyWorkspace {
+    /// Allocates a workspace for `puzzle`. Fails with `NoMemory` if an allocation fails.
+    pub fn new(alloc: Global, puzzle: &Puzzle) -> Result<AnyWorkspace, NoMemory>
+        ensures { IfOk result (IsPreparedFor puzzle.now) }
+    {
+        let sized = match width_for(puzzle) {
+            SetWidth::Narrow => SizedWorkspace::Narrow(Workspace::new(alloc, puzzle)?),
+            SetWidth::Middle => SizedWorkspace::Middle(Workspace::new(alloc, puzzle)?),
+            SetWidth::Wide => SizedWorkspace::Wide(Workspace::new(alloc, puzzle)?),
+        };
+        Ok(AnyWorkspace { sized })
+    }
+
+    /// Returns a workspace for `puzzle`: this one, prepared for it, or a new one if the puzzle
+    /// takes sets of another width. Fails with `NoMemory` if an allocation fails.
+    pub fn reset(self, alloc: Global, puzzle: &Puzzle) -> Result<AnyWorkspace, NoMemory>
+        ensures { IfOk result (IsPreparedFor puzzle.now) }
+    {
+        let AnyWorkspace { sized } = self;
+        let sized = match (width_for(puzzle), sized) {
+            (SetWidth::Narrow, SizedWorkspace::Narrow(workspace)) => {
+                SizedWorkspace::Narrow(workspace.reset(alloc, puzzle)?)
+            }
+            (SetWidth::Middle, SizedWorkspace::Middle(workspace)) => {
+                SizedWorkspace::Middle(workspace.reset(alloc, puzzle)?)
+            }
+            (SetWidth::Wide, SizedWorkspace::Wide(workspace)) => {
+                SizedWorkspace::Wide(workspace.reset(alloc, puzzle)?)
+            }
+            _ => return AnyWorkspace::new(alloc, puzzle),
+        };
+        Ok(AnyWorkspace { sized })
+    }
+
+    /// Closes `grid`, which has the puzzle's size, under line deduction. Returns whether it is
+    /// alive; the cells of a dead grid are unspecified.
+    pub fn close_lines(&mut self, grid: &mut Grid) -> bool
+        requires { HasSizeOf self.old.puzzle grid.old }
+        ensures closed { if_alive result grid.new.cells
+            ≡ closure (lines_of self.old.puzzle) grid.old.cells }
+        ensures size { HasSizeOf self.old.puzzle grid.new }
+        ensures puzzle { self.new.puzzle ≡ self.old.puzzle }
+    {
+        match &mut self.sized {
+            SizedWorkspace::Narrow(workspace) => workspace.close_lines_of(grid),
+            SizedWorkspace::Middle(workspace) => workspace.close_lines_of(grid),
+            SizedWorkspace::Wide(workspace) => workspace.close_lines_of(grid),
+        }
+    }
+
+    /// Closes `grid`, which has the puzzle's size, under trials. Returns whether it is alive; the
+    /// cells of a dead grid are unspecified.
+    pub fn close_trials(&mut self, grid: &mut Grid) -> bool
+        requires { HasSizeOf self.old.puzzle grid.old }
+        ensures tried { if_alive result grid.new.cells
+            ≡ trials (lines_of self.old.puzzle) grid.old.cells }
+        ensures size { HasSizeOf self.old.puzzle grid.new }
+        ensures puzzle { self.new.puzzle ≡ self.old.puzzle }
+    {
+        match &mut self.sized {
+            SizedWorkspace::Narrow(workspace) => workspace.close_trials_of(grid),
+            SizedWorkspace::Middle(workspace) => workspace.close_trials_of(grid),
+            SizedWorkspace::Wide(workspace) => workspace.close_trials_of(grid),
+        }
+    }
+
+    /// Returns the report on the puzzle, by a board whose cells are all unknown. `branches` is a
+    /// buffer for the branches of the search. Fails with `NoMemory` if an allocation fails.
+    pub fn report(
+        &mut self,
+        alloc: Global,
+        branches: &mut Vec<Branch>,
+        guesses: u32,
+        pick: Pick,
+    ) -> Result<Findings, NoMemory>
+        requires { self.old.board.cells ≡ unknown_grid self.old.puzzle }
+        ensures { IfOk result (λ findings.
+            findings ≡ findings_of pick self.old.puzzle guesses) }
+    {
+        match &mut self.sized {
+            SizedWorkspace::Narrow(workspace) => workspace.report(alloc, branches, guesses, pick),
+            SizedWorkspace::Middle(workspace) => workspace.report(alloc, branches, guesses, pick),
+            SizedWorkspace::Wide(workspace) => workspace.report(alloc, branches, guesses, pick),
+        }
+    }
+}

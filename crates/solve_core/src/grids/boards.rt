@@ -1,0 +1,204 @@
+//! The board of a search: a grid as rows and columns, with a trail by which assignments are undone.
+ghost use Rattle.std.specs.Prelude.{◌≡◌, ◌≢◌, ℕ, ◌+◌, ◌-◌, ◌*◌, ◌<◌, ◌≤◌, length, replicate, take, slice_index_or, slice_set, true, IfOk};
+ghost use Rattle.grid_core.specs.Cells.{Extends, is_known};
+ghost use Rattle.grid_core.specs.Lines.{IsChanged};
+ghost use Rattle.grid_core.specs.Nonogram.{line_indices};
+ghost use Rattle.grid_core.specs.steps.Axes.{line_count};
+ghost use Rattle.bit_sets.specs.Masks.{Has, IsMaskOf};
+ghost use Rattle.solve_core.specs.Closure.{with_cells};
+ghost use Rattle.grid_core.specs.PartialGrid.{IsSize};
+ghost use Rattle.grid_core.specs.declared.cells.Cell.TheVariants.{Unknown};
+ghost use Rattle.solve_core.specs.steps.Boards.{board_without_trail, cells_along, grid_of_board, unknown_board, IsWhole};
+ghost use Rattle.solve_core.specs.steps.Branches.{cells_before};
+ghost use Rattle.solve_core.specs.steps.Trails.{IsTrailed, unknown_count};
+
+use crate::buffers::cleared_with_capacity;
+use crate::grids::grid_lines::GridLines;
+use crate::grids::trails::TrailEntry;
+use bit_sets::BitSet;
+use grid_core::{Axis, Cell, Grid, NoMemory};
+use line_core::{BitLine, LineBits};
+use std::alloc::Global;
+use std::marker::Model;
+
+/// A grid as rows and columns, with a trail by which assignments are undone in reverse order.
+/// Its buffers are allocated once.
+pub struct Board<W: LineBits> {
+    lines: GridLines<W>,
+    trail: Vec<TrailEntry<W>>,
+}
+
+/// Written by hand so that callers' proofs see one call: a derived drop is expanded at each exit of
+/// each caller.
+impl<W: LineBits> Drop for Board<W> {
+    fn drop(self) {
+        let Board { lines: _, trail: _ } = self;
+    }
+}
+
+impl<W: LineBits> Model for Board<W> {
+    ghost use Rattle.std.specs.Prelude.{vec_capacity};
+    ghost use Rattle.solve_core.specs.steps.Boards.{board_of, IsBoard};
+    ghost use Rattle.solve_core.specs.steps.Trails.{TrailedGrid};
+
+    ghost Value = { TrailedGrid };
+
+    ghost view = { λ b. board_of b.lines b.trail.items };
+
+    ghost invariant = { λ b. IsBoard W.WIDTH b.lines b.trail.items (vec_capacity b.trail) };
+}
+
+impl<W: LineBits> Board<W> {
+    /// Returns the board of `lines`, an unknown grid of `width` columns and `height` rows, with an
+    /// empty trail in the buffer of `trail`. Fails with `NoMemory` if an allocation fails.
+    fn with_trail(
+        alloc: Global,
+        lines: GridLines<W>,
+        trail: Vec<TrailEntry<W>>,
+    ) -> Result<Board<W>, NoMemory>
+        requires fits { (lines.width ≤ W.WIDTH) × (lines.height ≤ W.WIDTH) }
+        requires unknown { lines.cells ≡ replicate (lines.width * lines.height) Unknown }
+        ensures { IfOk result (λ board. board ≡ unknown_board lines.width lines.height) }
+    {
+        let trail = cleared_with_capacity(alloc, trail, lines.count())?;
+        Ok(Board { lines, trail })
+    }
+
+    /// Returns a board of one unknown cell. Fails with `NoMemory` if an allocation fails.
+    pub fn new(alloc: Global) -> Result<Board<W>, NoMemory>
+        ensures { IfOk result (λ board. board ≡ unknown_board 1 1) }
+    {
+        let lines = GridLines::unknown(alloc, Vec::new(alloc), Vec::new(alloc), 1, 1)?;
+        Board::with_trail(alloc, lines, Vec::new(alloc))
+    }
+
+    /// Returns the board with `width` columns and `height` rows, whose cells are all unknown, and
+    /// an empty trail. Fails with `NoMemory` if an allocation fails.
+    pub fn reset(self, alloc: Global, width: u16, height: u16) -> Result<Board<W>, NoMemory>
+        requires size { IsSize width height }
+        requires fits { (width ≤ W.WIDTH) × (height ≤ W.WIDTH) }
+        ensures { IfOk result (λ board. board ≡ unknown_board width height) }
+    {
+        let Board { lines, trail } = self;
+        let (rows, columns) = lines.into_lists();
+        let lines = GridLines::unknown(alloc, rows, columns, width, height)?;
+        Board::with_trail(alloc, lines, trail)
+    }
+
+    /// Returns the board's rows and columns.
+    pub fn lines(&self) -> &GridLines<W>
+        ensures lines { result.now ≡ grid_of_board self.now }
+        ensures size { IsSize self.now.width self.now.height }
+        ensures count { length self.now.cells ≡ self.now.width * self.now.height }
+    {
+        &self.lines
+    }
+
+    /// Returns the entries of the trail, oldest first.
+    pub fn trail(&self) -> &[TrailEntry<W>]
+        ensures len { length result.now ≡ length self.now.trail }
+        ensures trail { length self.now.trail + unknown_count self.now.cells
+            ≤ length self.now.cells }
+        ensures few { length self.now.cells ≤ 65536 }
+    {
+        &self.trail
+    }
+
+    /// Returns line `i` of an axis.
+    pub fn line(&self, axis: Axis, i: u16) -> &BitLine<W>
+        requires { i < line_count axis self.now.width self.now.height }
+        ensures cells { result.now ≡ cells_along self.now axis i }
+        ensures whole { IsWhole self.now }
+    {
+        self.lines.line(axis, i)
+    }
+
+    /// Replaces line `i` of an axis by `new`, in which the cells in `changes`, at least one and all
+    /// unknown before, have a colour, and appends an entry to the trail.
+    pub fn assign_line(&mut self, axis: Axis, i: u16, new: &BitLine<W>, changes: W)
+        requires i { i < line_count axis self.old.width self.old.height }
+        requires fits { length new.now ≤ W.WIDTH }
+        requires more { Extends (cells_along self.old axis i) new.now }
+        requires changes { IsMaskOf (IsChanged (cells_along self.old axis i) new.now)
+            (W.bits changes) }
+        requires some { new.now ≢ cells_along self.old axis i }
+        ensures cells { self.new.cells ≡ with_cells self.old.cells
+            (line_indices axis self.old.width self.old.height i) new.now }
+        ensures trail { IsTrailed self.old self.new }
+    {
+        self.lines.assign_line(axis, i, new, changes);
+        // The capacity suffices: it is one entry for each cell, and each entry assigned at least
+        // one unknown cell.
+        self.trail.push_reserved(TrailEntry {
+            axis,
+            line: i,
+            changes,
+        });
+    }
+
+    /// Assigns the colour `cell` to the unknown cell in column `x` and row `y`, and appends an
+    /// entry to the trail.
+    pub fn assign_cell(&mut self, x: u16, y: u16, cell: Cell)
+        requires column { x < self.old.width }
+        requires row { y < self.old.height }
+        requires unknown { slice_index_or self.old.cells (y * self.old.width + x) Unknown
+            ≡ Unknown }
+        requires known { is_known cell ≡ true }
+        ensures cells { self.new.cells ≡ slice_set self.old.cells (y * self.old.width + x) cell }
+        ensures trail { IsTrailed self.old self.new }
+    {
+        let mut row = self.lines.line(Axis::Rows, y).copy();
+        row.assign(x, cell);
+        self.assign_line(Axis::Rows, y, &row, W::empty().with_bit(x, true));
+    }
+
+    /// Undoes the last entry of the trail and removes it.
+    fn undo_last(&mut self)
+        requires { 0 < length self.old.trail }
+        ensures { self.new ≡ record self.old {
+          cells = cells_before self.old.cells self.old.trail (length self.old.trail - 1);
+          trail = take (length self.old.trail - 1) self.old.trail;
+        } }
+    {
+        let Some(entry) = self.trail.pop() else {
+            return;
+        };
+        self.lines.unassign(entry.axis, entry.line, entry.changes);
+    }
+
+    /// Undoes all assignments since the trail had `checkpoint` entries, the last one first. Does
+    /// nothing if the trail isn't longer than that.
+    pub fn undo_to(&mut self, checkpoint: usize)
+        ensures { self.new ≡ record self.old {
+          cells = cells_before self.old.cells self.old.trail checkpoint;
+          trail = take checkpoint self.old.trail;
+        } }
+    {
+        while self.trail().len() > checkpoint {
+            self.undo_last();
+        }
+    }
+
+    /// Returns the rows in which a cell was assigned since the trail had `checkpoint` entries.
+    pub fn rows_touched_since(&self, checkpoint: usize) -> W
+        requires { checkpoint ≤ length self.now.trail }
+        ensures { (y : ℕ) → Has (W.bits result) y → y < self.now.height }
+    {
+        let mut rows = W::empty();
+        for entry in &self.trail[checkpoint..] {
+            rows = rows.union(entry.rows());
+        }
+        rows
+    }
+
+    /// Loads the cells of `grid`, which has the board's size, and clears the trail.
+    pub fn load(&mut self, grid: &Grid)
+        requires width { grid.now.width ≡ self.old.width }
+        requires height { grid.now.height ≡ self.old.height }
+        ensures board { self.new ≡ board_without_trail grid.now }
+        ensures count { length grid.now.cells ≡ grid.now.width * grid.now.height }
+    {
+        self.lines.load(grid);
+        self.trail.clear();
+    }
+}
