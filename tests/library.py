@@ -1,83 +1,394 @@
 #!/usr/bin/env python3
-"""Runs the examples of the Python module, and compares what its calls give with what the program prints.
+"""Runs the examples of the Python package and of its page, and compares what its calls give with what the program prints.
 
-Usage: library.py PROGRAM PUZZLES
+Usage: library.py PROGRAM TOP
 
-Compares `solve` and `convert` on each puzzle of a folder in each format, and `solve` on 500 puzzles made here. Its last line
-is `N passed, M failed`.
+PROGRAM is the program, TOP the top of the repository. Compares each field of each result for the puzzles of `puzzles/`, in
+each format, and for 500 puzzles made here; `nonograde.h` with the crate; and what wrong arguments raise. The package is the
+one that Python imports. Its last line is `N passed, M failed`.
 """
 
+import contextlib
+import ctypes
+import dataclasses
 import doctest
+import io
+import json
+import os
+import pickle
 import random
+import re
 import subprocess
 import sys
 import tempfile
+import threading
+import urllib.error
+import urllib.request
+from http.server import ThreadingHTTPServer
 from pathlib import Path
+from xml.etree import ElementTree
 
 import nonograde
+from comparing import Program, Results, TooManyFailures
+from header import compare_header, status_comments
 
 MADE = 500
+TWO = "2 2\n1\n1\n1\n1\n"
+LATIN_1 = b'title "Caf\xe9"\nwidth 1\nheight 1\n\nrows\n1\n\ncolumns\n1\n'
 
 
 def runs(line):
-    """The lengths of the runs of filled cells, as a clue line."""
-    return " ".join(str(len(run)) for run in line.replace(".", " ").split()) or "0"
+    """The lengths of the runs of filled cells."""
+    return [len(run) for run in line.replace(".", " ").split()]
 
 
-def made_puzzle(source):
-    """A puzzle of up to 12 a side, in .nin."""
-    width, height = source.randint(1, 12), source.randint(1, 12)
+def made_clues(source, most):
+    """The clues of the rows and of the columns of a grid of up to `most` a side."""
+    width, height = source.randint(1, most), source.randint(1, most)
     share = source.choice((0.4, 0.6, 0.8))
     rows = ["".join("#" if source.random() < share else "." for _ in range(width)) for _ in range(height)]
-    return f"{width} {height}\n" + "".join(runs(line) + "\n" for line in [*rows, *map("".join, zip(*rows))])
+    return [runs(row) for row in rows], [runs(column) for column in map("".join, zip(*rows))]
 
 
-def by_program(program, folder, *words):
-    """What the program prints, or the word of its fault."""
-    ran = subprocess.run([program, *words], cwd=folder, capture_output=True, text=True)
-    return ran.stdout if ran.returncode == 0 else ran.stderr.removeprefix("nonograde: ").strip()
+def text_of(rows, columns):
+    """Clues as a text in .nin."""
+    return f"{len(columns)} {len(rows)}\n" + "".join(" ".join(map(str, clue or [0])) + "\n" for clue in [*rows, *columns])
 
 
-def by_library(call, name, text, *words):
-    """What a call of the library gives under a name, or the word of its fault."""
-    name, body = name.encode(), text.encode()
+def given_by(call, *words, **settings):
+    """What a call gives, or the word of its fault with the line."""
     try:
-        return nonograde._answer(call, name, len(name), body, len(body), *words)
+        return call(*words, **settings)
     except nonograde.Fault as fault:
-        return str(fault)
+        return fault.word if fault.line is None else f"{fault.word}:{fault.line}"
 
 
-def main(program, puzzles):
-    tried = doctest.testmod(nonograde)
-    failed, total = tried.failed, tried.attempted
-    library = nonograde._library
+def raised_by(call, *words, **settings):
+    """The type of what a call raises, and what that says."""
+    try:
+        call(*words, **settings)
+    except Exception as error:  # each type is compared
+        return type(error), str(error)
+    return None, None
+
+
+def solved_of(printed):
+    """What `solve` prints, as the fields of `Solved`; a fault as it is."""
+    if isinstance(printed, str):
+        return printed
+    head, *grids = printed.decode("latin-1").removesuffix("\n\n").replace("\n", "\n\n", 1).split("\n\n")
+    words = head.split(" ")
+    width, height = words[1].split("x")
+    return {
+        "width": int(width), "height": int(height), "verdict": words[2], "grade": words[3], "known_by_lines": int(words[4]),
+        "known_by_trials": int(words[5]), "guesses": int(words[6]), "goal": words[7],
+        "solutions": tuple(tuple(grid.split("\n")) for grid in grids if grid),
+    }
+
+
+def differing_cells(solutions):
+    """The cells, as pairs (column, row), in which two solutions differ."""
+    first, second = solutions
+    return [(x, y) for y in range(len(first)) for x in range(len(first[0])) if first[y][x] != second[y][x]]
+
+
+def compare_solved(results, name, wanted, given):
+    """Compares a result of `solve` with what the program prints."""
+    wanted = solved_of(wanted)
+    if not isinstance(given, nonograde.Solved):
+        results.compare("solve", name, wanted, given)
+        return
+    results.compare("solve", name, wanted, dataclasses.asdict(given))
+    solutions = wanted["solutions"] if isinstance(wanted, dict) else ()
+    results.compare("the rows", name, solutions[0] if solutions else (), given.rows)
+    results.compare("the differing cells", name, differing_cells(solutions) if len(solutions) == 2 else [], given.differing)
+    results.compare("str", name, "\n\n".join("\n".join(rows) for rows in solutions), str(given))
+
+
+def compare_lines(results, name, wanted, given):
+    """Compares a result of `lines` with what the program prints."""
+    if isinstance(wanted, bytes) and isinstance(given, nonograde.Lines):
+        wanted = wanted.decode()
+        given = f"{given.word} {given.known}\n{given}\n".replace("\n\n", "\n")
+    results.compare("lines", name, wanted, given)
+
+
+class Compared:
+    """Compares calls on a text with the program, which runs in a folder of its own."""
+
+    def __init__(self, results, program, folder):
+        self.results, self.program, self.folder = results, Program(program, folder), Path(folder)
+
+    def solve(self, name, text, **settings):
+        """Compares `solve`, and returns what it gives."""
+        options = [word for key, value in settings.items() for word in (f"--{key}", str(value))]
+        given = given_by(nonograde.solve, text, Path(name).suffix, **settings)
+        body = text.encode() if isinstance(text, str) else text
+        compare_solved(self.results, f"{name} {settings}", self.program.printed_of(name, body, "solve", *options), given)
+        return given
+
+    def all_calls(self, name, body):
+        """Compares each call on a file of this name, and returns its conversions by format."""
+        self.solve(name, body)
+        compare_lines(self.results, name, self.program.printed("lines", name), given_by(nonograde.lines, body, Path(name).suffix))
+        text = nonograde.read(self.folder / name)
+        self.results.compare("read", name, (body, Path(name).suffix[1:]), (text.text.encode() if isinstance(text.text, str) else text.text, text.format))
+        converted = {}
+        for to in nonograde.FORMATS:
+            wanted = self.program.printed("convert", "--to", to, name)
+            converted[to] = given_by(nonograde.convert, body, Path(name).suffix, to)
+            self.results.compare(f"convert to {to}", name, wanted, converted[to])
+            if isinstance(text.text, str):
+                as_text = wanted.decode() if isinstance(wanted, bytes) else wanted
+                self.results.compare(f"convert to {to}, str", name, as_text, given_by(nonograde.convert, *text, to))
+        return converted
+
+
+def compare_puzzles(compared, puzzles):
+    """Compares all calls on each puzzle of a folder, as it is and converted."""
+    for file in sorted(puzzles.rglob("*.*")):
+        if file.suffix[1:] in nonograde.FORMATS:
+            for to, body in compared.all_calls(file.name, file.read_bytes()).items():
+                if isinstance(body, bytes):
+                    compared.all_calls(f"{file.stem}_again.{to}", body)
+
+
+def compare_made(compared):
+    """Compares `solve` and `solve_clues` on made puzzles."""
+    source = random.Random(47)
+    for place in range(MADE):
+        rows, columns = made_clues(source, 12)
+        found = compared.solve(f"made{place}.nin", text_of(rows, columns))
+        compared.results.compare("solve_clues", text_of(rows, columns), found, nonograde.solve_clues(rows, columns))
+
+
+def compare_settings(compared):
+    """Compares `solve` under each setting, and checks that each does something."""
+    source = random.Random(5)
+    texts = [text_of(*made_clues(source, 12)) for _ in range(60)]
+    texts = [text for text in texts if nonograde.solve(text, "nin").guesses > 0]
+    differing = {"guesses": 0, "pick": 0}
+    for place, text in enumerate(texts):
+        found = {rule: compared.solve(f"set{place}.nin", text, pick=rule) for rule in nonograde.PICKS}
+        limited = compared.solve(f"set{place}.nin", text, guesses=1)
+        differing["pick"] += found["first"].guesses != found["most"].guesses
+        differing["guesses"] += limited.guesses < found["first"].guesses
+        compared.solve(f"set{place}.nin", text, guesses=nonograde.MAX_GUESSES, pick="most")
+    compared.results.compare("settings that do nothing", f"of {len(texts)} puzzles", [], [name for name, count in differing.items() if not count])
+
+
+def compare_buffers(compared):
+    """Compares calls whose first buffer has each size around the answer's, and on a puzzle whose answer is long."""
+    usual = nonograde.FIRST_BUFFER
+    wanted = [nonograde.solve(TWO, "nin"), nonograde.convert(TWO, "nin", "mk"), nonograde.version()]
+    for size in (1, 2, 4, 5, 6, *range(50, 70)):
+        nonograde.FIRST_BUFFER = size
+        given = [given_by(nonograde.solve, TWO, "nin"), given_by(nonograde.convert, TWO, "nin", "mk"), given_by(nonograde.version)]
+        compared.results.compare("a first buffer of", size, wanted, given)
+    nonograde.FIRST_BUFFER = usual
+    wide = text_of([[100]] * 90, [[90]] * 100)
+    compared.solve("wide.nin", wide)
+    compare_lines(compared.results, "wide.nin", compared.program.printed("lines", "wide.nin"), nonograde.lines(wide, "nin"))
+
+
+def compare_faults(compared):
+    """Compares the faults of texts with those of the program, and their sentences with `nonograde.h`."""
+    clues = "rows\n1\ncolumns\n1\n"
+    texts = {
+        "a.txt": TWO, "b.nin": "", "c.nin": "1 257\n", "d.non": "width 1\nheight 1\n", "e.non": f"width 1\n1\nheight 1\n{clues}",
+        "f.non": f"width 1\nwidth 1\nheight 1\n{clues}", "g.nin": "1 1\n1\n", "h.nin": "1 1\n1\nx\n",
+        "i.non": f"width 1\nheight 1\n{clues}goal 2\n", "j.mk": "\n" * 1048577,
+    }
+    words = set()
+    for name, text in texts.items():
+        compared.solve(name, text)
+        wanted = given_by(nonograde.solve, text, Path(name).suffix)
+        compared.results.compare("lines", name, wanted, given_by(nonograde.lines, text, Path(name).suffix))
+        words.add(str(wanted).partition(":")[0])
+    flat = "1 2\n1\n#\n1\n2\n"
+    compared.program.write("flat.mk", flat.encode())
+    wanted = compared.program.printed("convert", "--to", "nin", "flat.mk")
+    compared.results.compare("convert", "flat.mk", wanted, given_by(nonograde.convert, flat, "mk", "nin"))
+    others = {"RoomTooSmall", "BadSetting", "NoMemory"}
+    compared.results.compare("the faults", "seen", set(nonograde.SENTENCES) - others, words | {wanted})
+
+
+def check_faults(results, header):
+    """Checks what a fault says, and what wrong arguments raise."""
+    results.compare("the sentences", "of nonograde.h", status_comments(header), nonograde.SENTENCES)
+    fault = nonograde.Fault("BadNumber", 3)
+    results.compare("a fault", "is a ValueError", True, isinstance(fault, ValueError))
+    for one in (fault, nonograde.Fault("NoSize"), nonograde.Fault("BadGoal", 7), nonograde.Fault("BadSetting", None, "x is odd")):
+        again = pickle.loads(pickle.dumps(one))
+        results.compare("a fault", "pickled", (one.word, one.line, one.sentence, str(one)), (again.word, again.line, again.sentence, str(again)))
+    results.compare("a fault", "of a line", "line 7: the goal doesn't fit the size", nonograde.Fault("BadGoal", 7).sentence)
+    wrong_types = {
+        "text": [(nonograde.solve, 5, "nin"), (nonograde.solve, Path("a.nin"), "nin"), (nonograde.lines, None, "nin"), (nonograde.convert, 5, "nin", "mk"), (nonograde.solve, [1], "nin")],
+        "format": [(nonograde.solve, TWO, 5), (nonograde.lines, TWO, None), (nonograde.convert, TWO, b"nin", "mk")],
+        "to": [(nonograde.convert, TWO, "nin", 1)],
+        "guesses": [(nonograde.solve, TWO, "nin", 1.5), (nonograde.solve, TWO, "nin", "5"), (nonograde.solve, TWO, "nin", None)],
+        "pick": [(nonograde.solve, TWO, "nin", 9, 0), (nonograde.solve, TWO, "nin", 9, None)],
+        "rows": [(nonograde.solve_clues, 5, [[1]]), (nonograde.solve_clues, [1], [[1]]), (nonograde.solve_clues, ["1"], [[1]]), (nonograde.solve_clues, [[1.5]], [[1]])],
+        "columns": [(nonograde.solve_clues, [[1]], None), (nonograde.solve_clues, [[1]], [[None]])],
+    }
+    wrong_values = {
+        "guesses": [(nonograde.solve, TWO, "nin", limit) for limit in (-1, nonograde.MAX_GUESSES + 1, 2**32, 2**32 + 1, 2**64, -(2**32))],
+        "pick": [(nonograde.solve, TWO, "nin", 9, "last"), (nonograde.solve, TWO, "nin", 9, "")],
+        "to": [(nonograde.convert, TWO, "nin", "txt"), (nonograde.convert, TWO, "nin", "")],
+    }
+    for type, cases in ((TypeError, wrong_types), (nonograde.Fault, wrong_values)):
+        for name, calls in cases.items():
+            for call, *words in calls:
+                raised, said = raised_by(call, *words)
+                place = str(said).removeprefix("BadSetting: ")
+                results.compare("what is raised", (call.__name__, words, said), (type, True), (raised, place.startswith((f"{name} is ", f"{name}["))))
+    for clues, place in (([[1], [0, 1]], "rows[1]"), ([[-1], [1]], "rows[0]"), ([[1], [257]], "rows[1]")):
+        results.compare("solve_clues", clues, f"BadNumber: {place} is no clue", raised_by(nonograde.solve_clues, clues, [[1], [1]])[1])
+        named = place.replace("rows", "columns")
+        results.compare("solve_clues", clues, f"BadNumber: {named} is no clue", raised_by(nonograde.solve_clues, [[1], [1]], clues)[1])
+    results.compare("solve_clues", "without rows", "BadSize", given_by(nonograde.solve_clues, [], [[1]]))
+
+
+def check_words(results):
+    """Checks that formats are taken in either case, as endings too, and texts of all types."""
+    wanted = nonograde.solve(TWO, "nin")
+    for format in ("NIN", ".nin", ".NIN", ".Nin", Path("two.NIN").suffix):
+        results.compare("solve", format, wanted, given_by(nonograde.solve, TWO, format))
+        results.compare("lines", format, nonograde.lines(TWO, "nin"), given_by(nonograde.lines, TWO, format))
+        results.compare("convert", format, nonograde.convert(TWO, "nin", "mk"), given_by(nonograde.convert, TWO, format, format.lower().replace("nin", "MK")))
+    for text in (TWO.encode(), bytearray(TWO.encode()), memoryview(TWO.encode())):
+        results.compare("solve", type(text), wanted, given_by(nonograde.solve, text, "nin"))
+    results.compare("solve", "a limit of another type", 1, nonograde.solve(TWO, "nin", guesses=True).guesses)
+
+
+def check_bytes(compared):
+    """Checks texts that aren't UTF-8."""
+    compared.all_calls("cafe.non", LATIN_1)
+    text = nonograde.read(compared.folder / "cafe.non")
+    compared.results.compare("read", "cafe.non", (LATIN_1, "non"), text)
+    converted = given_by(nonograde.convert, *text, "non")
+    compared.results.compare("convert", "cafe.non", True, isinstance(converted, bytes) and b'"Caf\xe9"' in converted)
+    umlaut = LATIN_1.decode("latin-1")
+    compared.results.compare("convert", "a title in UTF-8", True, 'title "Café"' in given_by(nonograde.convert, umlaut, "non", "non"))
+
+
+def check_results(results):
+    """Checks that results can't be changed, and have the hash of their fields."""
+    for call, field in ((nonograde.solve, "verdict"), (nonograde.lines, "word")):
+        one, same = call(TWO, "nin"), call(TWO, "nin")
+        results.compare("results", call.__name__, (True, 1), (one == same, len({one, same})))
+        results.compare("a field", call.__name__, True, issubclass(raised_by(setattr, one, field, "none")[0] or object, AttributeError))
+        results.compare("a result", "pickled", one, pickle.loads(pickle.dumps(one)))
+    word, rows = nonograde.lines(TWO, "nin")
+    results.compare("lines", "unpacked", ("open", ("??", "??")), (word, rows))
+
+
+def colours_of(picture):
+    """The colour of each cell of a picture that isn't white, and its size in cells."""
+    frame, *cells = ElementTree.fromstring(picture)
+    size = int(frame.get("width")), int(frame.get("height"))
+    return size, {(int(cell.get("x")), int(cell.get("y"))): cell.get("fill") for cell in cells}
+
+
+def check_pictures(results):
+    """Checks the pictures for notebooks."""
+    pictures = {
+        "one": nonograde.solve("3 1\n1 1\n1\n0\n1\n", "nin"), "several": nonograde.solve(TWO, "nin"), "open": nonograde.lines(TWO, "nin"),
+        "none": nonograde.solve("1 1\n1\n0\n", "nin"),
+    }
+    wanted = {
+        "one": ((3, 1), {(0, 0): "black", (2, 0): "black"}),
+        "several": ((2, 2), {(0, 0): "firebrick", (1, 0): "lightpink", (0, 1): "lightpink", (1, 1): "firebrick"}),
+        "open": ((2, 2), {(x, y): "silver" for x in range(2) for y in range(2)}),
+    }
+    for name, result in pictures.items():
+        picture = result._repr_svg_()
+        results.compare("the picture", name, wanted.get(name), colours_of(picture) if picture else None)
+
+
+def check_loading(results, top):
+    """Checks which library is loaded, that calls release the GIL, and how an import without it fails."""
+    mapped = {line.split()[-1] for line in Path("/proc/self/maps").read_text().splitlines() if "libnonograde" in line}
+    folder = os.environ.get("NONOGRADE_LIBRARY") or Path(nonograde.__file__).parent
+    results.compare("the library", "that is loaded", {str((Path(folder) / "libnonograde.so").resolve())}, mapped)
+    results.compare("the library", "releases the GIL", ctypes.CDLL, type(nonograde._library))
+    results.compare("the version", "of nonograde.h", re.findall(r'NONOGRADE_VERSION "(.*)"', (top / "include/nonograde.h").read_text()), [nonograde.version()])
+    results.compare("the version", "of the package", nonograde.version(), nonograde.__version__)
     with tempfile.TemporaryDirectory() as folder:
+        for text in (None, "no library"):
+            if text:
+                (Path(folder) / "libnonograde.so").write_text(text)
+            ran = subprocess.run([sys.executable, "-c", "import nonograde"], env={**os.environ, "NONOGRADE_LIBRARY": folder}, capture_output=True, text=True)
+            said = ran.stderr.splitlines()[-1]
+            results.compare("import", said, True, said.startswith("ImportError: ") and folder in said and "`make library`" in said)
 
-        def compare(name, text):
-            nonlocal failed, total
-            (Path(folder) / name).write_text(text)
-            rows = [(by_program(program, folder, "solve", name), by_library(library.nonograde_solve, name, text, 1000, 0))]
-            for number, to in enumerate(nonograde.FORMATS if "made" not in name else ()):
-                given = by_library(library.nonograde_convert, name, text, number)
-                rows.append((by_program(program, folder, "convert", "--to", to, name), given))
-            total += len(rows)
-            for wanted, given in rows:
-                if wanted != given:
-                    failed += 1
-                    print(f"FAILED {name}: {given!r} in place of {wanted!r}")
-            return [(to, given) for to, (_, given) in zip(nonograde.FORMATS, rows[1:])]
 
-        for file in sorted(Path(puzzles).iterdir()):
-            if file.suffix[1:] in nonograde.FORMATS:
-                for to, text in compare(file.name, file.read_text()):
-                    if text != "Ambiguous":
-                        compare(f"{file.stem}_again.{to}", text)
-        source = random.Random(47)
-        for place in range(MADE):
-            compare(f"made{place}.nin", made_puzzle(source))
-    print(f"{total - failed} passed, {failed} failed")
-    return failed != 0
+def page_examples(page):
+    """The examples in Python of a page, each with what it prints."""
+    return re.findall(r"^```python\n(.*?)^```\n(?:\nIt prints\n\n```\n(.*?)^```\n)?", page, re.M | re.S)
+
+
+def check_page(results, page):
+    """Runs the examples of the page. The one that serves is called as a client does."""
+    for code, wanted in page_examples(page):
+        names, printed = {"__name__": "example"}, io.StringIO()
+        with contextlib.redirect_stdout(printed):
+            exec(compile(code, "library.md", "exec"), names)  # the page is part of the repository
+        results.compare("the example", code, wanted, printed.getvalue())
+        if "Handler" in names:
+            check_server(results, names["Handler"])
+
+
+def check_server(results, handler):
+    """Posts texts to a server with a handler."""
+    server = ThreadingHTTPServer(("127.0.0.1", 0), handler)
+    threading.Thread(target=server.serve_forever, daemon=True).start()
+    try:
+        for path, text, wanted in (
+            ("nin", TWO, (200, {"verdict": "several", "grade": "search", "solutions": [["#.", ".#"], [".#", "#."]]})),
+            ("nin", "1 1\n1\nx\n", (400, {"word": "BadNumber", "line": 3, "sentence": "line 3 is no clue"})),
+            ("txt", TWO, (400, {"word": "UnknownFormat", "line": None, "sentence": "the name doesn't end in .non, .mk or .nin"})),
+        ):
+            results.compare("the server", path, wanted, answer_of(f"http://127.0.0.1:{server.server_port}/puzzle.{path}", text))
+    finally:
+        server.shutdown()
+        server.server_close()
+
+
+def answer_of(address, text):
+    """The status and the JSON of a server's answer."""
+    opener = urllib.request.build_opener(urllib.request.ProxyHandler({}))
+    try:
+        with opener.open(urllib.request.Request(address, text.encode()), timeout=60) as answer:
+            return answer.status, json.load(answer)
+    except urllib.error.HTTPError as error:
+        with error:
+            return error.code, json.load(error)
+
+
+def main(program, top):
+    top, results = Path(top), Results()
+    tried = doctest.testmod(nonograde)
+    results.passed, results.failed = tried.attempted - tried.failed, tried.failed
+    header = (top / "include/nonograde.h").read_text()
+    with tempfile.TemporaryDirectory() as folder, contextlib.suppress(TooManyFailures):
+        compared = Compared(results, program, folder)
+        check_loading(results, top)
+        compare_header(results, top)
+        check_faults(results, header)
+        check_words(results)
+        check_results(results)
+        check_pictures(results)
+        check_bytes(compared)
+        compare_buffers(compared)
+        compare_faults(compared)
+        compare_settings(compared)
+        compare_puzzles(compared, top / "puzzles")
+        compare_made(compared)
+        check_page(results, (top / "docs/library.md").read_text())
+    print(f"{results.passed} passed, {results.failed} failed")
+    return results.failed != 0
 
 
 if __name__ == "__main__":
-    sys.exit(main(*map(str, sys.argv[1:])))
+    sys.exit(main(*sys.argv[1:]))

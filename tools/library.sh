@@ -3,9 +3,10 @@
 #
 # Usage: library.sh [--made] [FOLDER]
 #
-# Makes libnonograde.a, libnonograde.so, nonograde.h and nonograde.py in FOLDER, out/library if none is named; with
-# --made, of the archive that is in crates/nonograde_c/out. Then calls them as programs in C and in Python do, and
-# compares what they give with what the program prints. Its last line is `N passed, M failed`.
+# Makes libnonograde.a, libnonograde.so.0 with the link libnonograde.so, nonograde.h and the Python package in FOLDER,
+# out/library if none is named; with --made, of the archive that is in crates/nonograde_c/out. Then calls them as
+# programs in C and in Python do, and compares what they give with what the program prints. Its last line is
+# `N passed, M failed`.
 # shellcheck source-path=SCRIPTDIR source=common.sh
 . "$(dirname "$0")/common.sh"
 [ "${1-}" = --help ] && { print_head; exit; }
@@ -24,8 +25,18 @@ cd "$room" || stop Write
 cp "$kit/c/liblibc_c.a" libnonograde.a
 mkdir objects && (cd objects && ar x "$top/crates/nonograde_c/out/libnonograde_c.a")
 ar qs libnonograde.a objects/* || stop Library
-cc -shared -o libnonograde.so -Wl,--whole-archive libnonograde.a -Wl,--no-whole-archive || stop Library
-cp libnonograde.a libnonograde.so "$top/include/nonograde.h" "$top/python/nonograde.py" "$folder" || stop Write
+cc -shared -o libnonograde.so.0 -Wl,-soname,libnonograde.so.0 -Wl,--version-script="$top/include/nonograde.map" \
+    -Wl,--whole-archive libnonograde.a -Wl,--no-whole-archive || stop Library
+
+# Puts them into the folder. The Python package finds the library beside itself.
+put_into_folder() {
+    rm -rf "$folder/nonograde" && mkdir "$folder/nonograde" &&
+        cp libnonograde.a libnonograde.so.0 "$top/include/nonograde.h" "$folder" &&
+        cp "$top/python/nonograde/__init__.py" "$top/python/nonograde/py.typed" "$folder/nonograde" &&
+        ln -sf libnonograde.so.0 "$folder/libnonograde.so" &&
+        ln -s ../libnonograde.so.0 "$folder/nonograde/libnonograde.so"
+}
+put_into_folder || stop Write
 
 # Counts what a program's last line counts.
 add() {
@@ -48,10 +59,22 @@ call_from_c() {
         "$top/tests/c/calls.c" "$folder/libnonograde.a" -lpthread && ./calls
 }
 
+# Compares what the shared library exports and is called with what its header declares.
+check_exports() {
+    local declared exported
+    declared=$(grep -oE '\<nonograde_[a-z]+\(' "$folder/nonograde.h" | tr -d '(' | sort -u)
+    exported=$(nm -D --defined-only "$folder/libnonograde.so.0" | awk '{ print $3 }' | sort)
+    count 'the exports of the shared library' "$(diff <(echo "$declared") <(echo "$exported"))"
+    count 'the SONAME' "$(objdump -p "$folder/libnonograde.so.0" | grep -q '^ *SONAME *libnonograde.so.0$' || echo 'it is another')"
+    count 'the link' "$([ "$(readlink "$folder/libnonograde.so")" = libnonograde.so.0 ] || echo 'it leads elsewhere')"
+}
+
+check_exports
 add 'calls from C' call_from_c
 if echo 'int main(void) { return 0; }' | cc -x c -fsanitize=address -o sanitized - 2>/dev/null; then
     add 'calls from C, sanitized' call_from_c -fsanitize=address
 fi
-NONOGRADE_LIBRARY=$folder PYTHONPATH=$folder add 'Python' python3 "$top/tests/library.py" "$program" "$top/puzzles"
+count 'the types of the Python package' "$(cd "$folder" && mypy --strict --cache-dir "$room/types" nonograde 2>&1 | grep -v '^Success')"
+PYTHONPATH=$folder add 'Python' python3 "$top/tests/library.py" "$program" "$top"
 echo "$passed passed, $failed failed"
 [ "$failed" = 0 ]

@@ -1,0 +1,394 @@
+"""nonograde for Python: black-and-white nonograms solved, closed by line logic, and converted.
+
+The shared library `libnonograde.so` is looked for in the folder that NONOGRADE_LIBRARY names, else beside this file.
+
+>>> heart = "5 4\\n1 1\\n5\\n3\\n1\\n1\\n3\\n3\\n3\\n1\\n"
+>>> found = solve(heart, "nin")
+>>> found.verdict, found.grade
+('one', 'line')
+>>> print(found)
+.#.#.
+#####
+.###.
+..#..
+"""
+
+from __future__ import annotations
+
+import ctypes
+import operator
+import os
+from collections.abc import Callable, Collection, Iterable
+from dataclasses import dataclass
+from pathlib import Path
+from typing import Any, NamedTuple, NoReturn, SupportsIndex, TypeVar
+
+__all__ = [
+    "FORMATS", "MAX_GUESSES", "PICKS", "Fault", "Lines", "Solved", "Text", "convert", "lines", "read", "solve", "solve_clues", "version",
+]
+
+FORMATS = ("non", "mk", "nin")
+PICKS = ("first", "most")
+MAX_GUESSES = 1_000_000
+ROOM_TOO_SMALL = 1
+FIRST_BUFFER = 4096
+
+SENTENCES = {
+    "RoomTooSmall": "the answer has more bytes than the buffer",
+    "BadSetting": "a setting is out of its range",
+    "UnknownFormat": "the name doesn't end in .non, .mk or .nin",
+    "TooLong": "the text has more than 1,048,576 bytes",
+    "NoSize": "the text has no size",
+    "BadSize": "the width or the height is no number from 1 to 256",
+    "NoSection": "a section of clues is missing",
+    "BadLine": "a line belongs to no section, or is too long",
+    "Twice": "a line repeats a keyword",
+    "BadCount": "the number of clue lines doesn't fit the size",
+    "BadNumber": "a line is no clue",
+    "BadGoal": "the goal doesn't fit the size",
+    "Ambiguous": "in .nin the text would be read with width and height exchanged",
+    "NoMemory": "an allocation failed",
+}
+
+AnyText = TypeVar("AnyText", str, bytes)
+Row = Iterable[SupportsIndex]
+
+
+class Fault(ValueError):
+    """Why a call gives no answer: the fault's word, the number of the line that it is about, or None, and a sentence.
+
+    >>> try:
+    ...     solve("1 1\\n1\\nx\\n", "nin")
+    ... except Fault as fault:
+    ...     print(fault.word, fault.line, fault.sentence, sep=", ")
+    ...     print(fault)
+    BadNumber, 3, line 3 is no clue
+    BadNumber:3: line 3 is no clue
+    """
+
+    def __init__(self, word: str, line: int | None = None, sentence: str | None = None) -> None:
+        super().__init__(word, line, sentence)
+        self.word = word
+        self.line = line
+        self.sentence = sentence or _sentence(word, line)
+
+    def __str__(self) -> str:
+        place = "" if self.line is None else f":{self.line}"
+        return f"{self.word}{place}: {self.sentence}"
+
+
+@dataclass(frozen=True)
+class Solved:
+    """What is found of a puzzle. `str` gives the solutions, a line for each row, with an empty line between two.
+
+    >>> print(solve("2 2\\n1\\n1\\n1\\n1\\n", "nin"))
+    #.
+    .#
+    <BLANKLINE>
+    .#
+    #.
+    """
+
+    width: int
+    height: int
+    verdict: str  # none, one, several or unsettled
+    grade: str  # line, trials or search
+    known_by_lines: int  # how many cells are known after line logic; 0 if that finds a contradiction
+    known_by_trials: int  # how many are known after trials; 0 if they find a contradiction
+    guesses: int
+    goal: str  # absent, meets or misses
+    solutions: tuple[tuple[str, ...], ...]  # the rows of each, `#` for filled and `.` for blank; the first two of several
+
+    @property
+    def rows(self) -> tuple[str, ...]:
+        """The rows of the first solution; none if there is no solution.
+
+        >>> solve("2 1\\n2\\n1\\n1\\n", "nin").rows
+        ('##',)
+        """
+        return self.solutions[0] if self.solutions else ()
+
+    @property
+    def differing(self) -> list[tuple[int, int]]:
+        """The cells, as pairs (column, row) from 0, in which two solutions differ.
+
+        >>> solve("2 2\\n1\\n1\\n1\\n1\\n", "nin").differing
+        [(0, 0), (1, 0), (0, 1), (1, 1)]
+        """
+        if len(self.solutions) < 2:
+            return []
+        pairs = zip(*self.solutions)
+        return [(x, y) for y, rows in enumerate(pairs) for x, cells in enumerate(zip(*rows)) if cells[0] != cells[1]]
+
+    def __str__(self) -> str:
+        return "\n\n".join("\n".join(rows) for rows in self.solutions)
+
+    def _repr_svg_(self) -> str | None:
+        """The picture that notebooks show: the first solution, with the cells in red in which the second one differs."""
+        return _svg(self.rows, self.differing)
+
+
+class Lines(NamedTuple):
+    """What line logic knows of a puzzle. `str` gives the rows, a line for each."""
+
+    word: str  # one if all cells are known, open if not, none if line logic finds a contradiction
+    rows: tuple[str, ...]  # `#` for filled, `.` for blank and `?` for unknown; without rows if there is a contradiction
+
+    @property
+    def known(self) -> int:
+        """How many cells are known.
+
+        >>> lines("3 1\\n2\\n1\\n1\\n1\\n", "nin").known
+        0
+        >>> lines("3 1\\n2\\n1\\n1\\n0\\n", "nin").known
+        3
+        """
+        return sum(len(row) - row.count("?") for row in self.rows)
+
+    def __str__(self) -> str:
+        return "\n".join(self.rows)
+
+    def _repr_svg_(self) -> str | None:
+        """The picture that notebooks show, with unknown cells in grey."""
+        return _svg(self.rows)
+
+
+class Text(NamedTuple):
+    """A puzzle's text with its format, as the calls take them: `solve(*read("heart.non"))`."""
+
+    text: str | bytes
+    format: str
+
+
+def _sentence(word: str, line: int | None) -> str:
+    """A fault's sentence, about a line if there is one."""
+    sentence = SENTENCES.get(word, "the call failed")
+    if line is None:
+        return sentence
+    return sentence.replace("a line ", f"line {line} ") if sentence.startswith("a line ") else f"line {line}: {sentence}"
+
+
+def _svg(rows: tuple[str, ...], marked: Iterable[tuple[int, int]] = ()) -> str | None:
+    """A picture of rows, with the marked cells in red; None without rows."""
+    if not rows:
+        return None
+    width, height = len(rows[0]), len(rows)
+    colours = {"#": "black", "?": "silver"}
+    fills = {(x, y): colours[cell] for y, row in enumerate(rows) for x, cell in enumerate(row) if cell in colours}
+    for x, y in marked:
+        fills[x, y] = "firebrick" if rows[y][x] == "#" else "lightpink"
+    cells = "".join(f'<rect x="{x}" y="{y}" width="1" height="1" fill="{fill}"/>' for (x, y), fill in fills.items())
+    frame = f'<rect width="{width}" height="{height}" fill="white" stroke="black" stroke-width="0.1"/>'
+    size = f'viewBox="-0.1 -0.1 {width + 0.2:g} {height + 0.2:g}" width="{16 * width}" height="{16 * height}"'
+    return f'<svg xmlns="http://www.w3.org/2000/svg" {size}>{frame}{cells}</svg>'
+
+
+class _Reply(ctypes.Structure):
+    _fields_ = [("status", ctypes.c_uint32), ("length", ctypes.c_size_t)]
+    status: int
+    length: int
+
+
+def _load() -> ctypes.CDLL:
+    folder = os.environ.get("NONOGRADE_LIBRARY") or Path(__file__).resolve().parent
+    path = Path(folder) / "libnonograde.so"
+    try:
+        library = ctypes.CDLL(str(path.absolute()))
+        text: list[Any] = [ctypes.c_char_p, ctypes.c_size_t]
+        number = ctypes.c_uint32
+        calls: dict[str, list[Any]] = {
+            "solve": [*text, *text, number, number], "lines": [*text, *text], "convert": [*text, *text, number], "version": [],
+        }
+        for name, words in calls.items():
+            call = getattr(library, f"nonograde_{name}")
+            call.argtypes = words + text
+            call.restype = _Reply
+    except (OSError, AttributeError) as error:
+        raise ImportError(
+            f"{error}: `make library` in nonograde's repository builds libnonograde.so in out/library; "
+            f"NONOGRADE_LIBRARY has to name the folder that it is in"
+        ) from None
+    return library
+
+
+_library = _load()
+
+
+def _answer(call: Callable[..., _Reply], *words: bytes | int) -> bytes:
+    """The answer of a call, in a buffer that is made larger once if it is too small."""
+    size = FIRST_BUFFER
+    buffer = ctypes.create_string_buffer(size)
+    reply = call(*words, buffer, size)
+    if reply.status == ROOM_TOO_SMALL:
+        size = reply.length
+        buffer = ctypes.create_string_buffer(size)
+        reply = call(*words, buffer, size)
+    said = ctypes.string_at(buffer, min(reply.length, size))
+    if reply.status == ROOM_TOO_SMALL:
+        raise Fault("RoomTooSmall")
+    if reply.status:
+        word, _, line = said.decode().partition(":")
+        raise Fault(word, int(line) if line else None)
+    return said
+
+
+def _refuse(name: str, value: object, wanted: str) -> NoReturn:
+    """Raises that an argument has a wrong type."""
+    raise TypeError(f"{name} is of type {type(value).__name__}, and has to be {wanted}")
+
+
+def _body(text: str | bytes) -> bytes:
+    """The bytes of a text."""
+    if isinstance(text, str):
+        return text.encode()
+    if isinstance(text, (bytes, bytearray, memoryview)):
+        return bytes(text)
+    _refuse("text", text, "str or bytes")
+
+
+def _word(name: str, value: str, words: Collection[str]) -> str:
+    """A word of a setting. Raises `Fault` if it is none of the words."""
+    if not isinstance(value, str):
+        _refuse(name, value, "str")
+    if value not in words:
+        raise Fault("BadSetting", None, f"{name} is {value!r}, and has to be one of {', '.join(words)}")
+    return value
+
+
+def _ending(name: str, format: str) -> str:
+    """A format's word, of an ending in either case."""
+    if not isinstance(format, str):
+        _refuse(name, format, "str")
+    return format.lower().removeprefix(".")
+
+
+def _words(text: str | bytes, format: str) -> tuple[bytes, int, bytes, int]:
+    """A name and a text, as a call takes them."""
+    name, body = f"puzzle.{_ending('format', format)}".encode(), _body(text)
+    return name, len(name), body, len(body)
+
+
+def _guesses(guesses: SupportsIndex) -> int:
+    """A limit of guesses. Raises `Fault` if it is out of its range."""
+    try:
+        limit = operator.index(guesses)
+    except TypeError:
+        _refuse("guesses", guesses, "int")
+    if not 0 <= limit <= MAX_GUESSES:
+        raise Fault("BadSetting", None, f"guesses is {limit}, and has to be from 0 to {MAX_GUESSES}")
+    return limit
+
+
+def solve(text: str | bytes, format: str, guesses: SupportsIndex = 1000, pick: str = "first") -> Solved:
+    """Grades the puzzle of a text in a format, `non`, `mk` or `nin`, with at most so many guesses, by a rule, `first` or
+    `most`.
+
+    >>> found = solve("2 2\\n1\\n1\\n1\\n1\\n", "nin")
+    >>> found.verdict, found.grade, found.guesses
+    ('several', 'search', 2)
+    >>> found.solutions
+    (('#.', '.#'), ('.#', '#.'))
+    >>> solve("2 2\\n1\\n1\\n1\\n1\\n", "nin", guesses=-1)
+    Traceback (most recent call last):
+    nonograde.Fault: BadSetting: guesses is -1, and has to be from 0 to 1000000
+    """
+    limit, rule = _guesses(guesses), PICKS.index(_word("pick", pick, PICKS))
+    said = _answer(_library.nonograde_solve, *_words(text, format), limit, rule).decode()
+    head, _, rows = said.partition("\n")
+    _, sizes, verdict, grade, by_lines, by_trials, spent, goal, _ = head.split(" ", 8)
+    width, height = map(int, sizes.split("x"))
+    solutions = tuple(tuple(grid.split("\n")) for grid in rows.split("\n\n") if grid)
+    return Solved(width, height, verdict, grade, int(by_lines), int(by_trials), int(spent), goal, solutions)
+
+
+def _clue(name: str, place: int, clue: Row) -> str:
+    """A clue as a line of .non."""
+    try:
+        numbers = [operator.index(number) for number in clue]
+    except TypeError:
+        raise TypeError(f"{name}[{place}] is {clue!r}, and has to be a sequence of int") from None
+    return ",".join(map(str, numbers)) or "0"
+
+
+def _clues(name: str, clues: Iterable[Row]) -> list[str]:
+    """The clues of all rows, or of all columns, as lines of .non."""
+    if not isinstance(clues, Iterable):
+        _refuse(name, clues, "a sequence of clues")
+    return [_clue(name, place, clue) for place, clue in enumerate(clues)]
+
+
+def solve_clues(
+    rows: Iterable[Row], columns: Iterable[Row], guesses: SupportsIndex = 1000, pick: str = "first"
+) -> Solved:
+    """Grades the puzzle of these clues, as `solve` does. A line without filled cells has the clue `[]` or `[0]`.
+
+    >>> print(solve_clues([[1, 1], [5], [3], [1]], [[1], [3], [3], [3], [1]]))
+    .#.#.
+    #####
+    .###.
+    ..#..
+    >>> solve_clues([[1], [0, 1]], [[1], [1]])
+    Traceback (most recent call last):
+    nonograde.Fault: BadNumber: rows[1] is no clue
+    """
+    across, down = _clues("rows", rows), _clues("columns", columns)
+    head = [f"width {len(down)}", f"height {len(across)}", "rows"]
+    text = "\n".join([*head, *across, "columns", *down, ""])
+    try:
+        return solve(text, "non", guesses, pick)
+    except Fault as fault:
+        if fault.line is None:
+            raise
+        place = fault.line - len(head) - 1
+        name = f"rows[{place}]" if place < len(across) else f"columns[{place - len(across) - 1}]"
+        raise Fault(fault.word, None, fault.sentence.replace(f"line {fault.line}", name)) from None
+
+
+def lines(text: str | bytes, format: str) -> Lines:
+    """What line logic knows of a puzzle: the word `one`, `open` or `none`, and the rows, `?` for unknown.
+
+    >>> word, rows = lines("2 2\\n1\\n1\\n1\\n1\\n", "nin")
+    >>> word, rows
+    ('open', ('??', '??'))
+    """
+    head, *rows = _answer(_library.nonograde_lines, *_words(text, format)).decode().split("\n")
+    return Lines(head.split(" ")[0], tuple(rows[:-1]))
+
+
+def convert(text: AnyText, format: str, to: str) -> AnyText:
+    """A puzzle's text in another format: a `str` of a `str`, `bytes` of `bytes`.
+
+    >>> convert("1 1\\n1\\n1\\n", "nin", "mk")
+    '1 1\\n1\\n#\\n1\\n'
+    >>> convert(b"1 1\\n1\\n1\\n", ".NIN", "mk")
+    b'1 1\\n1\\n#\\n1\\n'
+    """
+    number = FORMATS.index(_word("to", _ending("to", to), FORMATS))
+    said = _answer(_library.nonograde_convert, *_words(text, format), number)
+    return said.decode() if isinstance(text, str) else said
+
+
+def read(path: str | os.PathLike[str]) -> Text:
+    """The text of a file, and its format. The text is a `str` if it is UTF-8, and else `bytes`.
+
+    >>> import tempfile
+    >>> with tempfile.TemporaryDirectory() as folder:
+    ...     file = Path(folder) / "two.nin"
+    ...     _ = file.write_text("2 1\\n2\\n1\\n1\\n")
+    ...     solve(*read(file)).rows
+    ('##',)
+    """
+    body = Path(path).read_bytes()
+    try:
+        text: str | bytes = body.decode()
+    except UnicodeDecodeError:
+        text = body
+    return Text(text, _ending("format", Path(path).suffix))
+
+
+def version() -> str:
+    """The version, as the program tells it."""
+    return _answer(_library.nonograde_version).decode()
+
+
+__version__ = version()

@@ -1,0 +1,74 @@
+"""What `nonograde.h` declares, and what the crate exports, each read from its source."""
+
+import re
+
+# How an argument of the crate is passed from C.
+PASSED = {
+    "Global": [],
+    "&[u8]": [("const uint8_t *", ""), ("size_t ", "_length")],
+    "&mut [u8]": [("uint8_t *", ""), ("size_t ", "_length")],
+    "u32": [("uint32_t ", "")],
+}
+
+
+def calls_of_header(header):
+    """The calls that the header declares: their names, each with its arguments."""
+    found = re.findall(r"^nonograde_reply (nonograde_\w+)\(([^)]*)\);", header, re.M)
+    return {name: re.split(r",\s*", arguments) for name, arguments in found}
+
+
+def calls_of_crate(exports):
+    """The same calls as `exports.rt` has them."""
+    calls = {}
+    for name, arguments in re.findall(r'^pub extern "C" fn (nonograde_\w+)\(([^)]*)\)', exports, re.M):
+        pairs = [argument.split(": ") for argument in re.split(r",\s*", arguments.strip().rstrip(","))]
+        calls[name] = [f"{kind}{argument}{ending}" for argument, type in pairs for kind, ending in PASSED[type]]
+    return calls
+
+
+def enum_of_header(header, name):
+    """The constants of an enum of the header with their numbers."""
+    body = re.search(rf"^enum nonograde_{name} {{(.*?)}};", header, re.M | re.S)[1]
+    return {word: int(number) for word, number in re.findall(r"NONOGRADE_(\w+) = (\d+)", body)}
+
+
+def status_comments(header):
+    """What the header says of each status, by the fault's word."""
+    found = re.findall(r"NONOGRADE_(\w+) = \d+,? +/\* (.*) \*/", header)
+    return {word.title().replace("_", ""): comment for word, comment in found}
+
+
+def constant_of(word):
+    """A name of the crate as a constant of C."""
+    return re.sub(r"(?<=.)([A-Z])", r"_\1", word).upper()
+
+
+def statuses_of_crate(faults):
+    """The statuses as `faults.rt` has them, in the order of their numbers."""
+    body = re.search(r"^pub enum Status {(.*?)^}", faults, re.M | re.S)[1]
+    words = re.findall(r"^    (\w+),$", body, re.M)
+    return {constant_of({"Answered": "Ok"}.get(word, word)): number for number, word in enumerate(words)}
+
+
+def settings_of_crate(settings, type):
+    """The numbers of a setting as `settings.rt` has them."""
+    return {constant_of(word): int(number) for number, word in re.findall(rf"(\d+) => Some\({type}::(\w+)\)", settings)}
+
+
+def number_of_crate(source, name):
+    """A number that a source defines."""
+    return int(re.search(rf"^pub const {name}: \w+ = ([\d_]+);", source, re.M)[1].replace("_", ""))
+
+
+def compare_header(results, top):
+    """Compares the header with the crate."""
+    header = (top / "include/nonograde.h").read_text()
+    exports, faults, settings = [(top / f"crates/nonograde_c/src/{name}.rt").read_text() for name in ("exports", "faults", "settings")]
+    results.compare("the calls", "of nonograde.h", calls_of_crate(exports), calls_of_header(header))
+    results.compare("the statuses", "of nonograde.h", statuses_of_crate(faults), enum_of_header(header, "status"))
+    results.compare("the rules", "of nonograde.h", settings_of_crate(settings, "Pick"), enum_of_header(header, "pick"))
+    results.compare("the formats", "of nonograde.h", settings_of_crate(settings, "Format"), enum_of_header(header, "format"))
+    for crate, name, wanted in (("lane_core", "MAX_GUESSES", r"from 0 to ([\d,]+)"), ("puzzle_text", "MAX_PUZZLE_LEN", r"more than ([\d,]+) bytes")):
+        source = "\n".join(file.read_text() for file in sorted((top / f"crates/{crate}/src").glob("*.rt")))
+        said = [int(number.replace(",", "")) for number in re.findall(wanted, header)]
+        results.compare(name, "in nonograde.h", [number_of_crate(source, name)], said)
