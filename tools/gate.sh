@@ -32,12 +32,14 @@ compiles() {
 # Prints the packages of which something is missing.
 lacking() {
     compiles || echo gcc libc6-dev
+    hash c++ pkg-config mypy || echo g++ pkgconf mypy
     parallel --version | grep -q '^GNU parallel' || echo parallel
     hash sshd ssh rsync gawk shellcheck || echo openssh-server openssh-client rsync gawk shellcheck
     hash make mandoc man zsh fish lintian valgrind || echo make mandoc man-db zsh fish lintian valgrind
     hash python3 rustc sqlite3 || echo python3 rustc sqlite3
     hash chromium chromedriver pdftotext tidy || echo chromium chromium-driver poppler-utils tidy
     /usr/bin/python3 -c 'import PIL, selenium' || echo python3-pil python3-selenium
+    /usr/bin/python3 -c 'import ensurepip' || echo python3-venv
 } 2>/dev/null
 
 # Installs the packages of which something is missing.

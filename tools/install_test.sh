@@ -1,13 +1,17 @@
 #!/usr/bin/env bash
-# Tests tools/install.sh and what `make install`, `make uninstall` and `make dist` do with it: which files they
-# put where, with which modes, what they remove, what they refuse, and that packages are the same bytes twice,
-# run from an empty folder and pass lintian but for tools/lintian-tags.txt. The program is the one that `rt ci`
-# left in crates/nonograde/out, or the one that NONOGRADE names. It needs make, man-db, dpkg-deb and lintian. It
-# never runs rt. Its last line is `N passed, M failed`.
+# Tests tools/install.sh and what `make install`, `make install-library`, `make uninstall` and `make dist` do with it:
+# which files they put where, with which modes, what they remove, what they refuse, and that packages are the same bytes
+# twice, run from an empty folder and pass lintian but for tools/lintian-tags.txt. Builds the examples of
+# docs/library.md with the library that was installed, and installs what `make wheel` makes into an empty environment.
+# The program is the one that `rt ci` left in crates/nonograde/out, or the one that NONOGRADE names; the library is that
+# of out/library, or of the folder that NONOGRADE_LIBRARY names. It needs make, man-db, dpkg-deb, lintian, compilers for
+# C, C++ and Rust, pkg-config, and Debian's python3 with venv. It never runs rt. Its last line is `N passed, M failed`.
 . "$(dirname "$0")/common.sh"
 program=$(realpath "$program")
 [ -x "$program" ] || refuse "there is no $program"
-unset NONOGRADE MANPATH MAKEFLAGS MAKELEVEL MFLAGS SOURCE_DATE_EPOCH DESTDIR PREFIX
+library=$(realpath "${NONOGRADE_LIBRARY:-$tools/../out/library}")
+[ -f "$library/libnonograde.so.0" ] || refuse "there is no $library/libnonograde.so.0"
+unset NONOGRADE NONOGRADE_LIBRARY PKG_CONFIG_PATH LD_LIBRARY_PATH MANPATH MAKEFLAGS MAKELEVEL MFLAGS SOURCE_DATE_EPOCH DESTDIR PREFIX
 open_room
 kit=$(realpath "$(command -v rt)" 2>/dev/null)
 kit=${kit%/bin/rt}
@@ -19,13 +23,14 @@ same() {
     count "$1" "$([ "$2" = "$3" ] || diff <(echo "$2") <(echo "$3"))"
 }
 
-# Copies what is installed or packed, with one source older than the program, into a new folder.
+# Copies what is installed or packed, with one source older than the program and the library, into a new folder.
 make_clone() {
     local part
-    mkdir -p "$1/crates/program/src" "$1/crates/nonograde/out"
-    for part in Makefile README.md CHANGELOG.md CONTRIBUTING.md bin docs man completions puzzles tools; do
+    mkdir -p "$1/crates/program/src" "$1/crates/nonograde/out" "$1/out"
+    for part in Makefile README.md CHANGELOG.md CONTRIBUTING.md bin docs include man completions puzzles python tools; do
         cp -r "$top/$part" "$1" || exit
     done
+    cp -r "$library" "$1/out/library" || exit
     touch -d 2001-01-01 "$1/crates/program/src/stop.rt"
     cp "$program" "$1/$built"
 }
@@ -153,6 +158,114 @@ install_newer_sources() {
     rm -r "$room/new" stand-in without ran
 }
 
+# Prints the files of the library that are to be installed: the mode or `link`, and the place below the root, whose
+# folder for libraries is named.
+library_files() {
+    echo '644 include/nonograde.h'
+    printf "644 $1/%s\n" libnonograde.a libnonograde.so.0 pkgconfig/nonograde.pc
+    echo "link $1/libnonograde.so"
+}
+
+# Prints the files and links in a root, as `library_files` does.
+found_files() {
+    (cd "$1" && find . \( -type f ! -path ./share/nonograde/installed -printf '%m %P\n' \) -o \( -type l -printf 'link %P\n' \)) | sort
+}
+
+# Installs the library into folders of many kinds, and removes it again.
+install_and_remove_library() {
+    local root="$room/a root" stage=$room/stage said='make: the library is older than its sources; building it needs rt'
+    (umask 077 && make -s install-library DESTDIR="$stage" PREFIX="$root") >said 2>&1
+    same 'make install-library' '0 ' "$? $(cat said)"
+    same 'the files of the library' "$(library_files lib | sort)" "$(found_files "$stage$root")"
+    same 'the library' '' "$(cd "$stage$root/lib" && for file in *.a *.so *.so.0; do cmp "$file" "$library/$file"; done 2>&1)"
+    same 'where the link leads' libnonograde.so.0 "$(readlink "$stage$root/lib/libnonograde.so")"
+    same 'the prefix for pkg-config' "prefix=$root" "$(head -n 1 "$stage$root/lib/pkgconfig/nonograde.pc")"
+    make -s install DESTDIR="$stage" PREFIX="$root"
+    make -s install-library DESTDIR="$stage" PREFIX="$root"
+    make -s uninstall DESTDIR="$stage" PREFIX="$root" >said 2>&1
+    same 'make uninstall of both' '0 ' "$? $(cat said)"
+    count 'make uninstall leaves nothing of both' "$([ ! -e "$stage" ] || find "$stage")"
+    HOME="$room/home" make -s install-library PREFIX='~/.local'
+    same 'a home in nonograde.pc' "prefix=$room/home/.local" "$(head -n 1 "$room/home/.local/lib/pkgconfig/nonograde.pc")"
+    rm "$room/home/.local/share/nonograde/installed"
+    HOME="$room/home" make -s uninstall PREFIX='~/.local'
+    same 'make uninstall without its list' '' "$(found_files "$room/home")"
+    rm -r "${room:?}/home"
+    mv out/library kept
+    refuses 'no library to install' 1 'install.sh: there is no library to install: run make library' tools/install.sh --library root
+    refuses 'no library to pack' 0 'install.sh: without a library, none is packed: run make library' tools/install.sh --pack packed
+    same 'what is packed without a library' 2 "$(find packed -type f | wc -l)"
+    mv kept out/library && rm -r packed
+    mkdir without && for file in make install mkdir find sh; do ln -s "$(command -v $file)" without; done
+    touch -d 2030-01-01 crates/program/src/stop.rt
+    refuses 'a library older than its sources, without rt' 2 "$said" env PATH="$PWD/without" make -s install-library PREFIX="$root"
+    touch -d 2001-01-01 crates/program/src/stop.rt && rm -r without
+}
+
+# Prints the first example in a language of the page on the library.
+example_in() {
+    awk -v begin="\`\`\`$1" '$0 == begin { on = 1; next } /^```$/ && on { exit } on' docs/library.md
+}
+
+# Prints what the page says that the example in C, C++ or Rust prints: its number, from 1.
+example_prints() {
+    awk -v wanted="$1" '/^    \$ \.\/two$/ { seen++; next } seen == wanted && /^$/ { empty = empty "\n"; next }
+        seen == wanted && !/^    / { exit } seen == wanted { printf "%s%s\n", empty, substr($0, 5); empty = "" }' docs/library.md
+}
+
+# Builds the page's examples with the library in a root, as the page does, and runs them.
+build_examples() {
+    local root="$room/a root" words number=0 language file compiler
+    make -s install-library PREFIX="$root"
+    mkdir examples
+    while read -r language file compiler; do
+        number=$((number + 1))
+        example_in "$language" >"examples/$file"
+        words=$(PKG_CONFIG_PATH="$root/lib/pkgconfig" pkg-config --cflags --libs nonograde)
+        [ "$language" != rust ] || words=$(PKG_CONFIG_PATH="$root/lib/pkgconfig" pkg-config --libs nonograde)
+        (cd examples && eval "$compiler -o two $file $words") >said 2>&1
+        same "the example in $language is built" '0 ' "$? $(cat said)"
+        same "the example in $language" "$(example_prints $number)" "$(LD_LIBRARY_PATH="$root/lib" examples/two)"
+        same "the library of the example in $language" "$root/lib/libnonograde.so.0" \
+            "$(LD_LIBRARY_PATH="$root/lib" ldd examples/two | sed -n 's/.*libnonograde.* => \(.*\) (.*/\1/p')"
+        rm examples/two
+    done <<<'c two.c cc -std=c11 -Wall -Wextra -Werror
+cpp two.cpp c++ -std=c++17 -Wall -Wextra -Werror
+rust two.rs rustc -D warnings'
+    cc -I "$root/include" -o examples/two examples/two.c "$root/lib/libnonograde.a"
+    same 'the example with the static library' "$(example_prints 1)" "$(examples/two)"
+    same 'the version for pkg-config' "$(examples_version "$root")" "$(PKG_CONFIG_PATH="$root/lib/pkgconfig" pkg-config --modversion nonograde)"
+    make -s uninstall PREFIX="$root"
+    rm -r examples
+}
+
+# The version in the header that is installed in a root.
+examples_version() {
+    sed -n 's/^#define NONOGRADE_VERSION "\(.*\)"$/\1/p' "$1/include/nonograde.h"
+}
+
+# Makes the wheel twice, once as pip does, and installs it into an empty environment.
+try_wheel() {
+    local wheel wanted
+    make -s wheel >said 2>&1
+    wheel=$(echo out/*.whl)
+    same 'make wheel' "0 $wheel" "$? $(cat said)"
+    same 'the name of the wheel' "out/nonograde-$(examples_version .)-py3-none-linux_x86_64.whl" "$wheel"
+    /usr/bin/python3 -m venv empty && empty/bin/pip -q --no-input --no-cache-dir wheel --no-index -w again ./python >said 2>&1
+    same 'the wheel by pip' '0 ' "$? $(cat said; cmp "$wheel" again/*.whl 2>&1)"
+    empty/bin/pip -q --no-input --no-cache-dir install --no-index "$wheel" >said 2>&1
+    same 'the wheel is installed' '0 ' "$? $(cat said)"
+    example_in python >example.py
+    wanted=$(awk '/^It prints$/ { seen = 1 } seen && /^```$/ { fences++; next } fences == 1 { print } fences == 2 { exit }' docs/library.md)
+    same 'the example in an empty environment' "$wanted" "$(empty/bin/python -I example.py 2>&1)"
+    same 'what is installed' "$(printf '%s\n' __init__.py libnonograde.so py.typed)" \
+        "$(cd empty/lib/python*/site-packages/nonograde && find . -type f ! -path '*/__pycache__/*' -printf '%P\n' | sort)"
+    same 'the version of the wheel' "$(examples_version .)" "$(empty/bin/pip show nonograde 2>/dev/null | sed -n 's/^Version: //p')"
+    same 'paths of this machine in the wheel' '' \
+        "$(grep -rlF -e "$top" -e "$room" -e "${kit:-$room}" empty/lib/python*/site-packages/nonograde --include='*.py' --include='*.so')"
+    rm -r empty again example.py
+}
+
 # Packs twice, from clones with other modes and dates, and at other dates.
 pack_twice() {
     local epoch
@@ -167,7 +280,7 @@ pack_twice() {
     same 'the date of packed files' "$(date -ud "@$epoch" '+%Y-%m-%d %H:%M')" \
         "$(TZ=UTC tar -tvzf out/*.tar.gz | awk '{ print $4, $5 }' | sort -u)"
     same 'the owner of packed files' 0/0 "$(tar --numeric-owner -tvzf out/*.tar.gz | awk '{ print $2 }' | sort -u)"
-    same 'the owner in the .deb' root/root "$(dpkg-deb -c out/*.deb | awk '{ print $2 }' | sort -u)"
+    same 'the owner in the .deb' root/root "$(dpkg-deb -c out/nonograde_*.deb | awk '{ print $2 }' | sort -u)"
     same 'the order of packed files' "$(tar -tzf out/*.tar.gz | sed 's/\/$//' | tr / '\1' | sort)" \
         "$(tar -tzf out/*.tar.gz | sed 's/\/$//' | tr / '\1')"
     SOURCE_DATE_EPOCH=1000000000 tools/install.sh --pack dated >said 2>&1
@@ -201,15 +314,42 @@ compare_packages() {
         "$(cd package/debian && find usr/share/man -type f | sort)"
     gzip -d package/debian/usr/share/man/man?/*.gz
     zcat package/debian/usr/share/doc/nonograde/changelog.gz >printed
-    same 'the changelog of the .deb' "nonograde ($(dpkg-deb -f out/*.deb Version)) unstable; urgency=medium" "$(head -n 1 printed)"
+    same 'the changelog of the .deb' "nonograde ($(dpkg-deb -f out/nonograde_*.deb Version)) unstable; urgency=medium" "$(head -n 1 printed)"
     rm package/debian/usr/share/doc/nonograde/changelog.gz
     same 'the two packages' '' "$(diff -r "package/$folder" package/debian/usr)"
-    same 'the version of the package' "$(bin_of "$folder" --version)" "nonograde $(dpkg-deb -f out/*.deb Version)"
+    same 'the version of the package' "$(bin_of "$folder" --version)" "nonograde $(dpkg-deb -f out/nonograde_*.deb Version)"
     same 'the fields of the .deb' 'Package Version Architecture Maintainer Installed-Size Depends Suggests Section Priority Description' \
-        "$(dpkg-deb -f out/*.deb | grep -oE '^[A-Z][A-Za-z-]+' | paste -sd ' ')"
+        "$(dpkg-deb -f out/nonograde_*.deb | grep -oE '^[A-Z][A-Za-z-]+' | paste -sd ' ')"
     needed=$(grep -aoE 'GLIBC_[0-9]+\.[0-9]+' "package/$folder/bin/nonograde" | cut -d _ -f 2 | sort -V | tail -n 1)
-    same 'what the .deb depends on' "libc6 (>= $(getconf GNU_LIBC_VERSION | cut -d ' ' -f 2))" "$(dpkg-deb -f out/*.deb Depends)"
-    same 'its C library is new enough' 0 "$(dpkg --compare-versions "$(dpkg-deb -f out/*.deb Depends | grep -oE '[0-9.]+\)' | tr -d ')')" ge "$needed"; echo $?)"
+    same 'what the .deb depends on' "libc6 (>= $(getconf GNU_LIBC_VERSION | cut -d ' ' -f 2))" "$(dpkg-deb -f out/nonograde_*.deb Depends)"
+    same 'its C library is new enough' 0 "$(dpkg --compare-versions "$(dpkg-deb -f out/nonograde_*.deb Depends | grep -oE '[0-9.]+\)' | tr -d ')')" ge "$needed"; echo $?)"
+}
+
+# Compares the files of the library's packages, and what they say of themselves.
+compare_library_packages() {
+    local lib version
+    lib=usr/lib/$(cc -print-multiarch)
+    version=$(examples_version .)
+    dpkg-deb -x out/libnonograde0_*.deb package/shared
+    dpkg-deb -x out/libnonograde-dev_*.deb package/dev
+    same 'the files of libnonograde0' "644 $lib/libnonograde.so.0
+644 usr/share/doc/libnonograde0/changelog.gz" "$(found_files package/shared)"
+    same 'the files of libnonograde-dev' "$({
+        library_files "$lib" | sed 's/ include/ usr\/include/' | grep -v 'so\.0$'
+        echo 644 usr/share/doc/libnonograde-dev/changelog.gz
+    } | sort)" "$(found_files package/dev)"
+    same 'what libnonograde-dev depends on' "libnonograde0 (= $version)" "$(dpkg-deb -f out/libnonograde-dev_*.deb Depends)"
+    same 'the version of libnonograde0' "$version" "$(dpkg-deb -f out/libnonograde0_*.deb Version)"
+    same 'the exports of libnonograde0' "$(printf 'nonograde_%s\n' convert lines solve version)" \
+        "$(nm -D --defined-only "package/shared/$lib/libnonograde.so.0" | awk '{ print $3 }' | sort)"
+    cp -r package/shared/. package/dev/. package/both && example_in c >two.c
+    (
+        export PKG_CONFIG_SYSROOT_DIR=$PWD/package/both PKG_CONFIG_LIBDIR=$PWD/package/both/$lib/pkgconfig
+        export PKG_CONFIG_ALLOW_SYSTEM_CFLAGS=1 PKG_CONFIG_ALLOW_SYSTEM_LIBS=1
+        eval "cc -o two two.c $(pkg-config --cflags --libs nonograde)"
+    ) >said 2>&1
+    same 'the example with libnonograde-dev' "$(example_prints 1)" "$(LD_LIBRARY_PATH=$PWD/package/both/$lib ./two; cat said)"
+    rm two two.c
 }
 
 # The program of the .tar.gz.
@@ -224,8 +364,9 @@ try_package() {
     folder=$(basename "$packed" .tar.gz)
     mkdir package
     tar -xzf "$packed" -C package
-    dpkg-deb -x out/*.deb package/debian
+    dpkg-deb -x out/nonograde_*.deb package/debian
     compare_packages "$folder"
+    mkdir package/both && compare_library_packages
     same 'what the program needs' libc.so.6 "$(ldd "package/$folder/bin/nonograde" | awk '$2 == "=>" { print $1 }')"
     same 'paths of this machine in the package' '' \
         "$(grep -rlF -e "$top" -e "$room" -e "${kit:-$room}" package)"
@@ -239,7 +380,7 @@ try_package() {
     same 'the formats of the package' "$(man -l man/nonograde.5 2>&1)" "$(man -M "package/$folder/share/man" 5 nonograde 2>&1)"
 }
 
-# Compares lintian's tags of the .deb with those that the file allows. Each of these has a reason above it.
+# Compares lintian's tags of each .deb with those that the file allows. Each of these has a reason above it.
 run_lintian() {
     local tag allowed
     lintian --allow-root out/*.deb >printed 2>said
@@ -259,6 +400,9 @@ cd "$room/clone" || exit
 install_and_remove
 refuse_to_install
 install_newer_sources
+install_and_remove_library
+build_examples
+try_wheel
 pack_twice
 pack_without_dpkg
 try_package
