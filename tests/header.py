@@ -63,12 +63,14 @@ def number_of_crate(source, name):
 def compare_header(results, top):
     """Compares the header with the crate."""
     header = (top / "include/nonograde.h").read_text()
-    exports, faults, settings = [(top / f"crates/nonograde_c/src/{name}.rt").read_text() for name in ("exports", "faults", "settings")]
+    sources = top / "crates/nonograde_c/src"
+    exports, faults, settings = [(sources / f"{name}.rt").read_text() for name in ("exports", "faults", "settings")]
     results.compare("the calls", "of nonograde.h", calls_of_crate(exports), calls_of_header(header))
     results.compare("the statuses", "of nonograde.h", statuses_of_crate(faults), enum_of_header(header, "status"))
     results.compare("the rules", "of nonograde.h", settings_of_crate(settings, "Pick"), enum_of_header(header, "pick"))
     results.compare("the formats", "of nonograde.h", settings_of_crate(settings, "Format"), enum_of_header(header, "format"))
-    for crate, name, wanted in (("lane_core", "MAX_GUESSES", r"from 0 to ([\d,]+)"), ("puzzle_text", "MAX_PUZZLE_LEN", r"more than ([\d,]+) bytes")):
+    limits = (("lane_core", "MAX_GUESSES", r"from 0 to ([\d,]+)"), ("puzzle_text", "MAX_PUZZLE_LEN", r"more than ([\d,]+) bytes"))
+    for crate, name, wanted in limits:
         source = "\n".join(file.read_text() for file in sorted((top / f"crates/{crate}/src").glob("*.rt")))
         said = [int(number.replace(",", "")) for number in re.findall(wanted, header)]
         results.compare(name, "in nonograde.h", [number_of_crate(source, name)], said)

@@ -132,7 +132,8 @@ class Compared:
         self.solve(name, body)
         compare_lines(self.results, name, self.program.printed("lines", name), given_by(nonograde.lines, body, Path(name).suffix))
         text = nonograde.read(self.folder / name)
-        self.results.compare("read", name, (body, Path(name).suffix[1:]), (text.text.encode() if isinstance(text.text, str) else text.text, text.format))
+        as_bytes = text.text.encode() if isinstance(text.text, str) else text.text
+        self.results.compare("read", name, (body, Path(name).suffix[1:]), (as_bytes, text.format))
         converted = {}
         for to in nonograde.FORMATS:
             wanted = self.program.printed("convert", "--to", to, name)
@@ -174,16 +175,18 @@ def compare_settings(compared):
         differing["pick"] += found["first"].guesses != found["most"].guesses
         differing["guesses"] += limited.guesses < found["first"].guesses
         compared.solve(f"set{place}.nin", text, guesses=nonograde.MAX_GUESSES, pick="most")
-    compared.results.compare("settings that do nothing", f"of {len(texts)} puzzles", [], [name for name, count in differing.items() if not count])
+    idle = [name for name, count in differing.items() if not count]
+    compared.results.compare("settings that do nothing", f"of {len(texts)} puzzles", [], idle)
 
 
 def compare_buffers(compared):
     """Compares calls whose first buffer has each size around the answer's, and on a puzzle whose answer is long."""
     usual = nonograde.FIRST_BUFFER
-    wanted = [nonograde.solve(TWO, "nin"), nonograde.convert(TWO, "nin", "mk"), nonograde.version()]
+    calls = [(nonograde.solve, TWO, "nin"), (nonograde.convert, TWO, "nin", "mk"), (nonograde.version,)]
+    wanted = [given_by(*call) for call in calls]
     for size in (1, 2, 4, 5, 6, *range(50, 70)):
         nonograde.FIRST_BUFFER = size
-        given = [given_by(nonograde.solve, TWO, "nin"), given_by(nonograde.convert, TWO, "nin", "mk"), given_by(nonograde.version)]
+        given = [given_by(*call) for call in calls]
         compared.results.compare("a first buffer of", size, wanted, given)
     nonograde.FIRST_BUFFER = usual
     wide = text_of([[100]] * 90, [[90]] * 100)
@@ -195,9 +198,16 @@ def compare_faults(compared):
     """Compares the faults of texts with those of the program, and their sentences with `nonograde.h`."""
     clues = "rows\n1\ncolumns\n1\n"
     texts = {
-        "a.txt": TWO, "b.nin": "", "c.nin": "1 257\n", "d.non": "width 1\nheight 1\n", "e.non": f"width 1\n1\nheight 1\n{clues}",
-        "f.non": f"width 1\nwidth 1\nheight 1\n{clues}", "g.nin": "1 1\n1\n", "h.nin": "1 1\n1\nx\n",
-        "i.non": f"width 1\nheight 1\n{clues}goal 2\n", "j.mk": "\n" * 1048577,
+        "a.txt": TWO,
+        "b.nin": "",
+        "c.nin": "1 257\n",
+        "d.non": "width 1\nheight 1\n",
+        "e.non": f"width 1\n1\nheight 1\n{clues}",
+        "f.non": f"width 1\nwidth 1\nheight 1\n{clues}",
+        "g.nin": "1 1\n1\n",
+        "h.nin": "1 1\n1\nx\n",
+        "i.non": f"width 1\nheight 1\n{clues}goal 2\n",
+        "j.mk": "\n" * 1048577,
     }
     words = set()
     for name, text in texts.items():
@@ -219,34 +229,42 @@ def check_faults(results, header):
     fault = nonograde.Fault("BadNumber", 3)
     results.compare("a fault", "is a ValueError", True, isinstance(fault, ValueError))
     for one in (fault, nonograde.Fault("NoSize"), nonograde.Fault("BadGoal", 7), nonograde.Fault("BadSetting", None, "x is odd")):
-        again = pickle.loads(pickle.dumps(one))
-        results.compare("a fault", "pickled", (one.word, one.line, one.sentence, str(one)), (again.word, again.line, again.sentence, str(again)))
+        facts, again = [
+            (it.word, it.line, it.sentence, str(it)) for it in (one, pickle.loads(pickle.dumps(one)))
+        ]
+        results.compare("a fault", "pickled", facts, again)
     results.compare("a fault", "of a line", "line 7: the goal doesn't fit the size", nonograde.Fault("BadGoal", 7).sentence)
+    solve, lines, convert, solve_clues = nonograde.solve, nonograde.lines, nonograde.convert, nonograde.solve_clues
     wrong_types = {
-        "text": [(nonograde.solve, 5, "nin"), (nonograde.solve, Path("a.nin"), "nin"), (nonograde.lines, None, "nin"), (nonograde.convert, 5, "nin", "mk"), (nonograde.solve, [1], "nin")],
-        "format": [(nonograde.solve, TWO, 5), (nonograde.lines, TWO, None), (nonograde.convert, TWO, b"nin", "mk")],
-        "to": [(nonograde.convert, TWO, "nin", 1)],
-        "guesses": [(nonograde.solve, TWO, "nin", 1.5), (nonograde.solve, TWO, "nin", "5"), (nonograde.solve, TWO, "nin", None)],
-        "pick": [(nonograde.solve, TWO, "nin", 9, 0), (nonograde.solve, TWO, "nin", 9, None)],
-        "rows": [(nonograde.solve_clues, 5, [[1]]), (nonograde.solve_clues, [1], [[1]]), (nonograde.solve_clues, ["1"], [[1]]), (nonograde.solve_clues, [[1.5]], [[1]])],
-        "columns": [(nonograde.solve_clues, [[1]], None), (nonograde.solve_clues, [[1]], [[None]])],
+        "text": [
+            *((solve, text, "nin") for text in (5, [1], None, Path("a.nin"))),
+            (lines, None, "nin"),
+            (convert, 5, "nin", "mk"),
+        ],
+        "format": [(solve, TWO, 5), (lines, TWO, None), (convert, TWO, b"nin", "mk")],
+        "to": [(convert, TWO, "nin", 1)],
+        "guesses": [(solve, TWO, "nin", limit) for limit in (1.5, "5", None)],
+        "pick": [(solve, TWO, "nin", 9, rule) for rule in (0, None)],
+        "rows": [(solve_clues, clues, [[1]]) for clues in (5, [1], ["1"], [[1.5]])],
+        "columns": [(solve_clues, [[1]], clues) for clues in (None, [[None]])],
     }
+    limits = (-1, nonograde.MAX_GUESSES + 1, 2**32, 2**32 + 1, 2**64, -(2**32))
     wrong_values = {
-        "guesses": [(nonograde.solve, TWO, "nin", limit) for limit in (-1, nonograde.MAX_GUESSES + 1, 2**32, 2**32 + 1, 2**64, -(2**32))],
-        "pick": [(nonograde.solve, TWO, "nin", 9, "last"), (nonograde.solve, TWO, "nin", 9, "")],
-        "to": [(nonograde.convert, TWO, "nin", "txt"), (nonograde.convert, TWO, "nin", "")],
+        "guesses": [(solve, TWO, "nin", limit) for limit in limits],
+        "pick": [(solve, TWO, "nin", 9, rule) for rule in ("last", "")],
+        "to": [(convert, TWO, "nin", format) for format in ("txt", "")],
     }
     for type, cases in ((TypeError, wrong_types), (nonograde.Fault, wrong_values)):
         for name, calls in cases.items():
             for call, *words in calls:
                 raised, said = raised_by(call, *words)
-                place = str(said).removeprefix("BadSetting: ")
-                results.compare("what is raised", (call.__name__, words, said), (type, True), (raised, place.startswith((f"{name} is ", f"{name}["))))
+                is_named = str(said).removeprefix("BadSetting: ").startswith((f"{name} is ", f"{name}["))
+                results.compare("what is raised", (call.__name__, words, said), (type, True), (raised, is_named))
     for clues, place in (([[1], [0, 1]], "rows[1]"), ([[-1], [1]], "rows[0]"), ([[1], [257]], "rows[1]")):
-        results.compare("solve_clues", clues, f"BadNumber: {place} is no clue", raised_by(nonograde.solve_clues, clues, [[1], [1]])[1])
-        named = place.replace("rows", "columns")
-        results.compare("solve_clues", clues, f"BadNumber: {named} is no clue", raised_by(nonograde.solve_clues, [[1], [1]], clues)[1])
-    results.compare("solve_clues", "without rows", "BadSize", given_by(nonograde.solve_clues, [], [[1]]))
+        said = f"BadNumber: {place} is no clue"
+        results.compare("solve_clues", clues, said, raised_by(solve_clues, clues, [[1], [1]])[1])
+        results.compare("solve_clues", clues, said.replace("rows", "columns"), raised_by(solve_clues, [[1], [1]], clues)[1])
+    results.compare("solve_clues", "without rows", "BadSize", given_by(solve_clues, [], [[1]]))
 
 
 def check_words(results):
@@ -255,7 +273,8 @@ def check_words(results):
     for format in ("NIN", ".nin", ".NIN", ".Nin", Path("two.NIN").suffix):
         results.compare("solve", format, wanted, given_by(nonograde.solve, TWO, format))
         results.compare("lines", format, nonograde.lines(TWO, "nin"), given_by(nonograde.lines, TWO, format))
-        results.compare("convert", format, nonograde.convert(TWO, "nin", "mk"), given_by(nonograde.convert, TWO, format, format.lower().replace("nin", "MK")))
+        to = format.lower().replace("nin", "MK")
+        results.compare("convert", format, nonograde.convert(TWO, "nin", "mk"), given_by(nonograde.convert, TWO, format, to))
     for text in (TWO.encode(), bytearray(TWO.encode()), memoryview(TWO.encode())):
         results.compare("solve", type(text), wanted, given_by(nonograde.solve, text, "nin"))
     results.compare("solve", "a limit of another type", 1, nonograde.solve(TWO, "nin", guesses=True).guesses)
@@ -268,8 +287,8 @@ def check_bytes(compared):
     compared.results.compare("read", "cafe.non", (LATIN_1, "non"), text)
     converted = given_by(nonograde.convert, *text, "non")
     compared.results.compare("convert", "cafe.non", True, isinstance(converted, bytes) and b'"Caf\xe9"' in converted)
-    umlaut = LATIN_1.decode("latin-1")
-    compared.results.compare("convert", "a title in UTF-8", True, 'title "Café"' in given_by(nonograde.convert, umlaut, "non", "non"))
+    converted = given_by(nonograde.convert, LATIN_1.decode("latin-1"), "non", "non")
+    compared.results.compare("convert", "a title in UTF-8", True, 'title "Café"' in converted)
 
 
 def check_results(results):
@@ -277,7 +296,8 @@ def check_results(results):
     for call, field in ((nonograde.solve, "verdict"), (nonograde.lines, "word")):
         one, same = call(TWO, "nin"), call(TWO, "nin")
         results.compare("results", call.__name__, (True, 1), (one == same, len({one, same})))
-        results.compare("a field", call.__name__, True, issubclass(raised_by(setattr, one, field, "none")[0] or object, AttributeError))
+        raised = raised_by(setattr, one, field, "none")[0]
+        results.compare("a field", call.__name__, True, raised is not None and issubclass(raised, AttributeError))
         results.compare("a result", "pickled", one, pickle.loads(pickle.dumps(one)))
     word, rows = nonograde.lines(TWO, "nin")
     results.compare("lines", "unpacked", ("open", ("??", "??")), (word, rows))
@@ -293,7 +313,9 @@ def colours_of(picture):
 def check_pictures(results):
     """Checks the pictures for notebooks."""
     pictures = {
-        "one": nonograde.solve("3 1\n1 1\n1\n0\n1\n", "nin"), "several": nonograde.solve(TWO, "nin"), "open": nonograde.lines(TWO, "nin"),
+        "one": nonograde.solve("3 1\n1 1\n1\n0\n1\n", "nin"),
+        "several": nonograde.solve(TWO, "nin"),
+        "open": nonograde.lines(TWO, "nin"),
         "none": nonograde.solve("1 1\n1\n0\n", "nin"),
     }
     wanted = {
@@ -312,15 +334,19 @@ def check_loading(results, top):
     folder = os.environ.get("NONOGRADE_LIBRARY") or Path(nonograde.__file__).parent
     results.compare("the library", "that is loaded", {str((Path(folder) / "libnonograde.so").resolve())}, mapped)
     results.compare("the library", "releases the GIL", ctypes.CDLL, type(nonograde._library))
-    results.compare("the version", "of nonograde.h", re.findall(r'NONOGRADE_VERSION "(.*)"', (top / "include/nonograde.h").read_text()), [nonograde.version()])
+    declared = re.findall(r'NONOGRADE_VERSION "(.*)"', (top / "include/nonograde.h").read_text())
+    results.compare("the version", "of nonograde.h", declared, [nonograde.version()])
     results.compare("the version", "of the package", nonograde.version(), nonograde.__version__)
     with tempfile.TemporaryDirectory() as folder:
         for text in (None, "no library"):
             if text:
                 (Path(folder) / "libnonograde.so").write_text(text)
-            ran = subprocess.run([sys.executable, "-c", "import nonograde"], env={**os.environ, "NONOGRADE_LIBRARY": folder}, capture_output=True, text=True)
-            said = ran.stderr.splitlines()[-1]
-            results.compare("import", said, True, said.startswith("ImportError: ") and folder in said and "`make library`" in said)
+            surroundings = {**os.environ, "NONOGRADE_LIBRARY": folder}
+            command = [sys.executable, "-c", "import nonograde"]
+            ran = subprocess.run(command, env=surroundings, capture_output=True, text=True, check=False)
+            said = (ran.stderr.splitlines() or [""])[-1]
+            is_helpful = said.startswith("ImportError: ") and folder in said and "`make library`" in said
+            results.compare("import", said, True, is_helpful)
 
 
 def page_examples(page):
@@ -347,7 +373,7 @@ def check_server(results, handler):
         for path, text, wanted in (
             ("nin", TWO, (200, {"verdict": "several", "grade": "search", "solutions": [["#.", ".#"], [".#", "#."]]})),
             ("nin", "1 1\n1\nx\n", (400, {"word": "BadNumber", "line": 3, "sentence": "line 3 is no clue"})),
-            ("txt", TWO, (400, {"word": "UnknownFormat", "line": None, "sentence": "the name doesn't end in .non, .mk or .nin"})),
+            ("txt", TWO, (400, {"word": "UnknownFormat", "line": None, "sentence": nonograde.SENTENCES["UnknownFormat"]})),
         ):
             results.compare("the server", path, wanted, answer_of(f"http://127.0.0.1:{server.server_port}/puzzle.{path}", text))
     finally:

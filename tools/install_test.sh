@@ -244,6 +244,22 @@ examples_version() {
     sed -n 's/^#define NONOGRADE_VERSION "\(.*\)"$/\1/p' "$1/include/nonograde.h"
 }
 
+# Prints what is wrong with the list of files in a wheel: each has its digest and its length there.
+check_record() {
+    python3 - "$1" <<'END'
+import base64, csv, hashlib, sys, zipfile
+
+wheel = zipfile.ZipFile(sys.argv[1])
+[record] = [name for name in wheel.namelist() if name.endswith(".dist-info/RECORD")]
+wanted = []
+for name in wheel.namelist():
+    digest = base64.urlsafe_b64encode(hashlib.sha256(wheel.read(name)).digest()).decode().rstrip("=")
+    wanted.append([name, "", ""] if name == record else [name, f"sha256={digest}", str(wheel.getinfo(name).file_size)])
+found = list(csv.reader(wheel.read(record).decode().splitlines()))
+print("" if found == wanted else f"{found} in place of {wanted}")
+END
+}
+
 # Makes the wheel twice, once as pip does, and installs it into an empty environment.
 try_wheel() {
     local wheel wanted
@@ -251,6 +267,7 @@ try_wheel() {
     wheel=$(echo out/*.whl)
     same 'make wheel' "0 $wheel" "$? $(cat said)"
     same 'the name of the wheel' "out/nonograde-$(examples_version .)-py3-none-linux_x86_64.whl" "$wheel"
+    count 'the list in the wheel' "$(check_record "$wheel")"
     /usr/bin/python3 -m venv empty && empty/bin/pip -q --no-input --no-cache-dir wheel --no-index -w again ./python >said 2>&1
     same 'the wheel by pip' '0 ' "$? $(cat said; cmp "$wheel" again/*.whl 2>&1)"
     empty/bin/pip -q --no-input --no-cache-dir install --no-index "$wheel" >said 2>&1

@@ -69,12 +69,31 @@ check_exports() {
     count 'the link' "$([ "$(readlink "$folder/libnonograde.so")" = libnonograde.so.0 ] || echo 'it leads elsewhere')"
 }
 
+# Checks the types of the Python package, of the page's examples, and that wrong uses are refused: mypy complains of a
+# comment that ignores nothing.
+check_types() {
+    local check=(mypy --strict --cache-dir "$room/types")
+    mkdir page
+    awk '/^```python$/ { number++; on = 1; next } /^```$/ { on = 0 } on { print >("page/example" number ".py") }' "$top/docs/library.md"
+    cat >page/wrong.py <<'END'
+import nonograde
+nonograde.solve(5, "nin")  # type: ignore[arg-type]
+nonograde.solve("", "nin", guesses=1.5)  # type: ignore[arg-type]
+nonograde.solve_clues([1], [[1]])  # type: ignore[list-item]
+number: int = nonograde.solve("", "nin").rows  # type: ignore[assignment]
+word: int = nonograde.lines("", "nin").word  # type: ignore[assignment]
+text: str = nonograde.convert(b"", "nin", "mk")  # type: ignore[assignment]
+END
+    count 'the types of the Python package' "$("${check[@]}" "$folder/nonograde" 2>&1 | grep -v '^Success')"
+    count 'the types of its uses' "$(MYPYPATH=$folder "${check[@]}" page/*.py 2>&1 | grep -v '^Success')"
+}
+
 check_exports
 add 'calls from C' call_from_c
 if echo 'int main(void) { return 0; }' | cc -x c -fsanitize=address -o sanitized - 2>/dev/null; then
     add 'calls from C, sanitized' call_from_c -fsanitize=address
 fi
-count 'the types of the Python package' "$(cd "$folder" && mypy --strict --cache-dir "$room/types" nonograde 2>&1 | grep -v '^Success')"
-PYTHONPATH=$folder add 'Python' python3 "$top/tests/library.py" "$program" "$top"
+check_types
+NONOGRADE_LIBRARY='' PYTHONPATH=$folder add 'Python' python3 "$top/tests/library.py" "$program" "$top"
 echo "$passed passed, $failed failed"
 [ "$failed" = 0 ]

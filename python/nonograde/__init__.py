@@ -24,7 +24,8 @@ from pathlib import Path
 from typing import Any, NamedTuple, NoReturn, SupportsIndex, TypeVar
 
 __all__ = [
-    "FORMATS", "MAX_GUESSES", "PICKS", "Fault", "Lines", "Solved", "Text", "convert", "lines", "read", "solve", "solve_clues", "version",
+    "FORMATS", "MAX_GUESSES", "PICKS", "Fault", "Lines", "Solved", "Text",
+    "convert", "lines", "read", "solve", "solve_clues", "version",
 ]
 
 FORMATS = ("non", "mk", "nin")
