@@ -55,6 +55,14 @@ def text_of(rows, columns):
     return f"{len(columns)} {len(rows)}\n" + "".join(" ".join(map(str, clue or [0])) + "\n" for clue in [*rows, *columns])
 
 
+def text_or_bytes(body):
+    """A text as a `str` if it is UTF-8."""
+    try:
+        return body.decode()
+    except UnicodeDecodeError:
+        return body
+
+
 def given_by(call, *words, **settings):
     """What a call gives, or the word of its fault with the line."""
     try:
@@ -132,8 +140,7 @@ class Compared:
         self.solve(name, body)
         compare_lines(self.results, name, self.program.printed("lines", name), given_by(nonograde.lines, body, Path(name).suffix))
         text = nonograde.read(self.folder / name)
-        as_bytes = text.text.encode() if isinstance(text.text, str) else text.text
-        self.results.compare("read", name, (body, Path(name).suffix[1:]), (as_bytes, text.format))
+        self.results.compare("read", name, (text_or_bytes(body), Path(name).suffix[1:]), text)
         converted = {}
         for to in nonograde.FORMATS:
             wanted = self.program.printed("convert", "--to", to, name)
@@ -166,17 +173,19 @@ def compare_made(compared):
 def compare_settings(compared):
     """Compares `solve` under each setting, and checks that each does something."""
     source = random.Random(5)
-    texts = [text_of(*made_clues(source, 12)) for _ in range(60)]
-    texts = [text for text in texts if nonograde.solve(text, "nin").guesses > 0]
+    puzzles = [made_clues(source, 12) for _ in range(60)]
+    puzzles = [puzzle for puzzle in puzzles if nonograde.solve_clues(*puzzle).guesses > 0]
     differing = {"guesses": 0, "pick": 0}
-    for place, text in enumerate(texts):
-        found = {rule: compared.solve(f"set{place}.nin", text, pick=rule) for rule in nonograde.PICKS}
-        limited = compared.solve(f"set{place}.nin", text, guesses=1)
-        differing["pick"] += found["first"].guesses != found["most"].guesses
-        differing["guesses"] += limited.guesses < found["first"].guesses
-        compared.solve(f"set{place}.nin", text, guesses=nonograde.MAX_GUESSES, pick="most")
+    for place, puzzle in enumerate(puzzles):
+        name, text = f"set{place}.nin", text_of(*puzzle)
+        settings = [{}, {"pick": "most"}, {"guesses": 1}, {"guesses": nonograde.MAX_GUESSES, "pick": "most"}]
+        found = [compared.solve(name, text, **setting) for setting in settings]
+        of_clues = [nonograde.solve_clues(*puzzle, **setting) for setting in settings]
+        compared.results.compare("solve_clues", (name, settings), found, of_clues)
+        differing["pick"] += found[1].guesses != found[0].guesses
+        differing["guesses"] += found[2].guesses < found[0].guesses
     idle = [name for name, count in differing.items() if not count]
-    compared.results.compare("settings that do nothing", f"of {len(texts)} puzzles", [], idle)
+    compared.results.compare("settings that do nothing", f"of {len(puzzles)} puzzles", [], idle)
 
 
 def compare_buffers(compared):
