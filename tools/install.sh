@@ -203,7 +203,6 @@ pack_library() {
     lib=usr/lib/$(cc -print-multiarch) &&
         pkg_config /usr "\${prefix}/${lib#usr/}" >"$room/nonograde.pc" &&
         put "$built" library_files &&
-        strip_symbols "$built/lib/libnonograde.so.0" --strip-unneeded &&
         strip_symbols "$built/lib/libnonograde.a" --strip-debug --enable-deterministic-archives &&
         mkdir -p "$shared/DEBIAN" "$shared/$lib" "$dev/usr/lib" &&
         mv "$built/lib/libnonograde.so.0" "$shared/$lib" &&

@@ -20,12 +20,13 @@ kit=$(dirname "$(rt doc)")
 open_room
 cd "$room" || stop Write
 
-# Makes the two libraries. The calls to malloc are the kit's own small file of C.
+# Makes the two libraries. The calls to malloc are the kit's own small file of C. The shared one has no symbols but its
+# exports, and so no path of this machine.
 [ $made = yes ] || (cd "$top/crates/nonograde_c" && rt lib --jobs "$(nproc)") >made 2>&1 || { tail -n 5 made; stop Library; }
 cp "$kit/c/liblibc_c.a" libnonograde.a
 mkdir objects && (cd objects && ar x "$top/crates/nonograde_c/out/libnonograde_c.a")
 ar qs libnonograde.a objects/* || stop Library
-cc -shared -o libnonograde.so.0 -Wl,-soname,libnonograde.so.0 -Wl,--version-script="$top/include/nonograde.map" \
+cc -shared -s -o libnonograde.so.0 -Wl,-soname,libnonograde.so.0 -Wl,--version-script="$top/include/nonograde.map" \
     -Wl,--whole-archive libnonograde.a -Wl,--no-whole-archive || stop Library
 
 # Puts them into the folder. The Python package finds the library beside itself.
