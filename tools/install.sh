@@ -36,14 +36,14 @@ files() {
         _nonograde zsh/site-functions/_nonograde nonograde.fish fish/vendor_completions.d/nonograde.fish
 }
 
-# Prints the same of the library. The mode of a link is `link`, and then comes where it leads.
+# Prints the files of the library in the same form. A link has the mode `link`, and its target in place of a file.
 library_files() {
     printf '644\t%s\t%s\n' "$library/libnonograde.a" lib/libnonograde.a "$library/libnonograde.so.0" lib/libnonograde.so.0 \
         include/nonograde.h include/nonograde.h "$room/nonograde.pc" lib/pkgconfig/nonograde.pc
     printf 'link\tlibnonograde.so.0\tlib/libnonograde.so\n'
 }
 
-# Prints what pkg-config is told: the folder of the library's folders, and the library's folder.
+# Prints the contents of nonograde.pc, for a prefix and the folder of the library.
 pkg_config() {
     cat <<END
 prefix=$1

@@ -181,7 +181,7 @@ install_and_remove_library() {
     same 'where the link leads' libnonograde.so.0 "$(readlink "$stage$root/lib/libnonograde.so")"
     same 'the prefix for pkg-config' "prefix=$root" "$(head -n 1 "$stage$root/lib/pkgconfig/nonograde.pc")"
     make -s install install-library DESTDIR="$stage" PREFIX="$root" >said 2>&1
-    same 'make install-library once more' '0 ' "$? $(cat said)"
+    same 'make install-library a second time' '0 ' "$? $(cat said)"
     make -s uninstall DESTDIR="$stage" PREFIX="$root" >said 2>&1
     same 'make uninstall of both' '0 ' "$? $(cat said)"
     count 'make uninstall leaves nothing of both' "$([ ! -e "$stage" ] || find "$stage")"

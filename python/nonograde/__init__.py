@@ -281,8 +281,8 @@ def _guesses(guesses: SupportsIndex) -> int:
 
 
 def solve(text: str | bytes, format: str, guesses: SupportsIndex = 1000, pick: str = "first") -> Solved:
-    """Grades the puzzle of a text in a format, `non`, `mk` or `nin`, with at most so many guesses, by a rule, `first` or
-    `most`.
+    """Grades the puzzle of a text. The format is `non`, `mk` or `nin`, `guesses` the greatest number of guesses, and
+    `pick` the guess rule, `first` or `most`.
 
     >>> found = solve("2 2\\n1\\n1\\n1\\n1\\n", "nin")
     >>> found.verdict, found.grade, found.guesses
