@@ -842,10 +842,6 @@ def test_with_library(results, library, made):
         results.compare(f"library, {name!r}", text, wanted, library.convert(name, text, "non"))
     for name, text, target, wanted in HAND_CONVERTED:
         results.compare(f"library, {name!r} to {target}", text, wanted, library.convert(name, text, target))
-    for name in (b"", b".", b"a.mk ", b"a.mk\0", b"\0.mk", b"\xff.nin", b"a/.mk"):
-        text = b"1 1\n1\n\n"
-        wanted = converted("non", outcome(readers.read_entry, name, text))
-        results.compare(f"library, {name!r}", text, wanted, library.convert(name, text, "non"))
     for text in all_texts():
         for format in FORMATS:
             compare_with_library(results, library, format, text)

@@ -168,9 +168,9 @@ module _ (next : SectionKind) (line : TextLine) (number place : ℕ) (after rest
   }
 
   -- Of a keyword line and the clue lines below it, only the first is a keyword line.
-  pub kept_one : (kept all : List TextLine) → kept ++ filter is_keyword_line (line ∷ numbered_from number (raw_lines after)) ≡ all
+  pub only_keyword_line : (kept all : List TextLine) → kept ++ filter is_keyword_line (line ∷ numbered_from number (raw_lines after)) ≡ all
       → is_empty (keyword line) ≡ false → (kept ++ line ∷ []) ++ filter is_keyword_line later ≡ all
-  kept_one kept all e some = search (rules, parts, append_assoc, all-weaker, all_content, filter-append, filter_none)
+  only_keyword_line kept all e some = search (rules, parts, append_assoc, all-weaker, all_content, filter-append, filter_none)
 
 -- If `P` holds of the value of a result, and implies `Q`, then `Q` holds of the value of the result as an option.
 pub some_of_ok : {X E : Type 0} (P Q : X → Type 0) (r : Result X E) → IfOk r P → ((x : X) → P x → Q x) → IfSome (result_ok r) Q

@@ -105,6 +105,6 @@ short_first word [] h = refl
 short_first word (found ∷ kept) h = search (rules, short_first word kept, and_parts, leb-true, short_here)
 
 -- If no line is too long, no text is, so that the bad line is the stray one.
-pub short_lines : (stray : Option ℕ) (kept : List KeywordLine) → are_short kept ≡ true → bad_line stray (map shown_keyword kept) ≡ stray
-short_lines None kept h = search short_first
-short_lines (Some number) kept h = search short_first
+pub short_texts : (stray : Option ℕ) (kept : List KeywordLine) → are_short kept ≡ true → bad_line stray (map shown_keyword kept) ≡ stray
+short_texts None kept h = search short_first
+short_texts (Some number) kept h = search short_first

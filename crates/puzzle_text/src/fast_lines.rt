@@ -85,7 +85,7 @@ fn after_line_end(end: u8, rest: &[u8]) -> Option<&[u8]>
 }
 
 /// Reports whether a byte is a comma or a space.
-fn is_separator(byte: u8) -> bool
+fn is_comma_or_space(byte: u8) -> bool
     ensures { IsTrue result → IsSeparator byte }
 {
     byte == b',' || byte == b' '
@@ -108,7 +108,7 @@ fn read_clue_line<'t>(clue: &mut Clue, text: &'t [u8]) -> Option<&'t [u8]>
         // A separator is followed by a number and one more byte. With fewer than two bytes after
         // it, it is refused, since it is no line ending either.
         match after {
-            [_, _, ..] if is_separator(end) => rest = after,
+            [_, _, ..] if is_comma_or_space(end) => rest = after,
             _ => return after_line_end(end, after),
         }
     }
@@ -143,7 +143,7 @@ pub(crate) fn size_line(text: &[u8]) -> Option<((u16, u16), &[u8])>
     ensures { IfSome result (λ found. ReadsSizes text.now found.0 found.1.now) }
 {
     let (first, between, after) = number(text)?;
-    if !is_separator(between) {
+    if !is_comma_or_space(between) {
         return None;
     }
     let (second, end, after) = number(after)?;

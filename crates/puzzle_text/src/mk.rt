@@ -1,4 +1,4 @@
-//! The general reader for the format `.mk`.
+//! The reader for the format `.mk`.
 
 ghost use Rattle.std.specs.Prelude.{◌≡◌, ◌+◌, ◌<◌, ◌++◌, map, length, Err, IfOk, IfSome};
 ghost use Rattle.std.specs.List.{position};
@@ -14,6 +14,7 @@ use crate::faults::TextFault;
 use crate::limits::MAX_PUZZLE_LEN;
 use crate::lines::{TextLine, is_hash};
 use crate::parts::puzzle_from_parts;
+use crate::quick::quick_mk;
 use crate::sections::{SectionLines, section_lines};
 use crate::sizes::{size_line, text_lines};
 use grid_core::{MAX_SIDE, NoMemory, Puzzle, Texts};
@@ -116,13 +117,19 @@ fn mk_of(alloc: Global, lines: &[TextLine<'_>]) -> Result<Puzzle, TextFault>
     Err(TextFault::BadCount)
 }
 
-/// Reads a text in the format `.mk`, whatever form it has: the general reader, which splits the
-/// text into lines. Its results are those of `read_mk`.
-pub fn plain_mk(alloc: Global, bytes: &[u8]) -> Result<Puzzle, TextFault>
+/// Reads a puzzle in the format `.mk`: a line with the two sizes, the clue lines of the rows, a
+/// line that begins with `#`, and the clue lines of the columns; a further line that begins with
+/// `#` and all lines below it are ignored. The first size is the height, unless only with the other
+/// order both sections have as many clue lines as their size. A text with faults fails with the
+/// first of them in the order of `TextFault`.
+pub fn read_mk(alloc: Global, bytes: &[u8]) -> Result<Puzzle, TextFault>
     ensures answer { Gives TextFault.NoMemory (λ p. p) result (read_mk MAX_SIDE bytes.now) }
     // `NoMemory` is never returned in place of this fault.
     ensures too_long { MAX_PUZZLE_LEN < length bytes.now → result ≡ Err TextFault.TooLong }
 {
+    if let Some(puzzle) = quick_mk(alloc, bytes) {
+        return Ok(puzzle);
+    }
     let lines = text_lines(alloc, bytes)?;
     mk_of(alloc, &lines)
 }

@@ -1,4 +1,4 @@
-//! The general reader for the format `.nin`.
+//! The reader for the format `.nin`.
 
 ghost use Rattle.std.specs.Prelude.{◌≡◌, ◌<◌, map, length, Err};
 ghost use Rattle.puzzle_text.specs.Answers.{Gives};
@@ -10,6 +10,7 @@ use crate::faults::TextFault;
 use crate::limits::MAX_PUZZLE_LEN;
 use crate::lines::TextLine;
 use crate::orientation::orient;
+use crate::quick::quick_nin;
 use crate::sections::section_lines;
 use crate::sizes::{size_line, text_lines};
 use grid_core::{MAX_SIDE, Puzzle};
@@ -28,13 +29,18 @@ fn nin_of(alloc: Global, lines: &[TextLine<'_>]) -> Result<Puzzle, TextFault>
     Ok(orient(a, b, clues)?)
 }
 
-/// Reads a text in the format `.nin`, whatever form it has: the general reader, which splits the
-/// text into lines. Its results are those of `read_nin`.
-pub fn plain_nin(alloc: Global, bytes: &[u8]) -> Result<Puzzle, TextFault>
+/// Reads a puzzle in the format `.nin`: a line with the two sizes, then the clue lines of the rows
+/// and of the columns. The first size is the width, unless only with the other order each clue fits
+/// its line and the row clues add up to as many filled cells as the column clues. A text with
+/// faults fails with the first of them in the order of `TextFault`.
+pub fn read_nin(alloc: Global, bytes: &[u8]) -> Result<Puzzle, TextFault>
     ensures answer { Gives TextFault.NoMemory (λ p. p) result (read_nin MAX_SIDE bytes.now) }
     // `NoMemory` is never returned in place of this fault.
     ensures too_long { MAX_PUZZLE_LEN < length bytes.now → result ≡ Err TextFault.TooLong }
 {
+    if let Some(puzzle) = quick_nin(alloc, bytes) {
+        return Ok(puzzle);
+    }
     let lines = text_lines(alloc, bytes)?;
     nin_of(alloc, &lines)
 }

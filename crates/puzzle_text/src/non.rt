@@ -1,4 +1,4 @@
-//! The general reader for the format `.non`.
+//! The reader for the format `.non`.
 
 ghost use Rattle.std.specs.Prelude.{◌≡◌, ◌<◌, map, length, Err, IfOk, OnOk};
 ghost use Rattle.std.specs.Result.{result_ok};
@@ -21,6 +21,7 @@ use crate::keywords::{FIELDS, keyword_argument, keyword_lines, nth_with_keyword}
 use crate::limits::MAX_PUZZLE_LEN;
 use crate::lines::TextLine;
 use crate::parts::puzzle_from_parts;
+use crate::quick::quick_non;
 use crate::section_split::{Sections, clue_lines_of, sections_of};
 use crate::sizes::{size_of, text_lines};
 use grid_core::{Clue, MAX_SIDE, NoMemory, Puzzle};
@@ -61,7 +62,7 @@ fn second_number(lines: &[KeywordLine<'_>], word: &[u8]) -> Option<u32>
 
 /// Returns the number that `BadLine` is to report: the least of `stray`, which is that of the first
 /// stray line, and of those of the text fields' first lines whose texts are too long.
-#[tactic(auto, using(crate::proofs::FeedsLemmas::short_lines))]
+#[tactic(auto, using(crate::proofs::FeedsLemmas::short_texts))]
 fn bad_line(keyword_lines: &[KeywordLine<'_>], stray: Option<u32>) -> Option<u32>
     ensures { result ≡ bad_line stray (map shown_keyword keyword_lines.now) }
 {
@@ -209,20 +210,24 @@ fn non_of(alloc: Global, lines: &[TextLine<'_>]) -> Result<Puzzle, TextFault>
     build_puzzle(alloc, &keyword_lines, &sections)
 }
 
-/// Reads a text in the format `.non`, whatever form it has: the general reader, which splits the
-/// text into lines. Its results are those of `read_non`.
+/// Reads a puzzle in the format `.non`: keyword lines for the texts, the sizes and the goal, and a
+/// section of clue lines each below `rows` and `columns`. A text with faults fails with the first
+/// of them in the order of `TextFault`.
 #[tactic(auto, using(crate::proofs::FeedsLemmas::lines_have_no_feed))]
-pub fn plain_non(alloc: Global, bytes: &[u8]) -> Result<Puzzle, TextFault>
+pub fn read_non(alloc: Global, bytes: &[u8]) -> Result<Puzzle, TextFault>
     ensures answer { Gives TextFault.NoMemory (λ p. p) result (read_non MAX_SIDE bytes.now) }
     // `NoMemory` is never returned in place of this fault.
     ensures too_long { MAX_PUZZLE_LEN < length bytes.now → result ≡ Err TextFault.TooLong }
 {
+    if let Some(puzzle) = quick_non(alloc, bytes) {
+        return Ok(puzzle);
+    }
     let lines = text_lines(alloc, bytes)?;
     non_of(alloc, &lines)
 }
 
-/// Returns the width and the height that the keyword lines say; `None` if `plain_non` finds a fault
-/// in them.
+/// Returns the width and the height that the keyword lines say; `None` if there is a fault in
+/// them.
 pub(crate) fn known_sizes(lines: &[KeywordLine<'_>]) -> Result<Option<(u16, u16)>, NoMemory>
     ensures { IfOk result (λ sizes. sizes
         ≡ result_ok (sizes_of MAX_SIDE (map shown_keyword lines.now))) }

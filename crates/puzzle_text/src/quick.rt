@@ -22,7 +22,7 @@ use std::alloc::Global;
 
 /// Builds the puzzle from the keyword lines and clues that the fast path collected from a `.non`
 /// text. Any error sends the text to the general reader, which finds the fault to be reported.
-fn build_puzzle(alloc: Global, fast_sections: FastSections<'_>) -> Result<Puzzle, TextFault>
+fn fast_puzzle(alloc: Global, fast_sections: FastSections<'_>) -> Result<Puzzle, TextFault>
     requires { HaveNoFeed (map shown_keyword fast_sections.keyword_lines.items) }
     ensures { IfOk result (λ p. (sections : Sections)
         → HaveClues sections fast_sections.entry.rows.items fast_sections.entry.columns.items
@@ -48,20 +48,20 @@ fn build_puzzle(alloc: Global, fast_sections: FastSections<'_>) -> Result<Puzzle
 /// All other keyword lines may be in any order. If it returns a puzzle, `read_non` returns the
 /// same.
 #[tactic(auto, using(crate::proofs::FastLines::kept_clean))]
-pub fn quick_non(alloc: Global, bytes: &[u8]) -> Option<Puzzle>
+pub(crate) fn quick_non(alloc: Global, bytes: &[u8]) -> Option<Puzzle>
     ensures answer { IfSome result (λ p. read_non MAX_SIDE bytes.now ≡ Ok p) }
     ensures short { IsSome result → length bytes.now ≤ MAX_PUZZLE_LEN }
 {
     if bytes.len() > MAX_PUZZLE_LEN {
         return None;
     }
-    build_puzzle(alloc, fast_sections_of(alloc, bytes)?).ok()
+    fast_puzzle(alloc, fast_sections_of(alloc, bytes)?).ok()
 }
 
 /// Reads a `.mk` text in its usual form: the height comes first, the line between the sections is
 /// just `#`, and there is no other line than those of the sizes and the clues. If it returns a
 /// puzzle, `read_mk` returns the same.
-pub fn quick_mk(alloc: Global, bytes: &[u8]) -> Option<Puzzle>
+pub(crate) fn quick_mk(alloc: Global, bytes: &[u8]) -> Option<Puzzle>
     ensures answer { IfSome result (λ p. read_mk MAX_SIDE bytes.now ≡ Ok p) }
     ensures short { IsSome result → length bytes.now ≤ MAX_PUZZLE_LEN }
 {
@@ -79,7 +79,7 @@ pub fn quick_mk(alloc: Global, bytes: &[u8]) -> Option<Puzzle>
 
 /// Reads a `.nin` text in its usual form: there is no other line than those of the sizes and the
 /// clues. If it returns a puzzle, `read_nin` returns the same.
-pub fn quick_nin(alloc: Global, bytes: &[u8]) -> Option<Puzzle>
+pub(crate) fn quick_nin(alloc: Global, bytes: &[u8]) -> Option<Puzzle>
     ensures answer { IfSome result (λ p. read_nin MAX_SIDE bytes.now ≡ Ok p) }
     ensures short { IsSome result → length bytes.now ≤ MAX_PUZZLE_LEN }
 {

@@ -6,8 +6,6 @@ mod tests;
 #[cfg(test)]
 mod tests_diagnosis;
 #[cfg(test)]
-mod tests_quick;
-#[cfg(test)]
 mod tests_refused;
 #[cfg(test)]
 mod tests_refused_diagnosis;

@@ -160,9 +160,9 @@ fn texts_are_read_or_refused(rt: HostRuntime) -> Result<(), Fail> {
     Ok(())
 }
 
-/// A .non text in its usual form, with a clue of more than 8 numbers.
+/// A .non text in its usual form, with a comment and a clue of more than 8 numbers.
 const USUAL_NON: &[u8] =
-    b"title \"a\"\nby \"b\"\nwidth 2\nheight 2\n\nrows\n1\n1,1,1,1,1,1,1,1,1,1\n\n\
+    b"# usual\ntitle \"a\"\nby \"b\"\nwidth 2\nheight 2\n\nrows\n1\n1,1,1,1,1,1,1,1,1,1\n\n\
     columns\n2\n1\n\ngoal \"1010\"\n";
 
 /// An .mk text in its usual form, with a clue of more than 8 numbers.

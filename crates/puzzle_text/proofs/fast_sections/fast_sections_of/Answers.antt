@@ -1,7 +1,7 @@
 -- `fast_sections_of`: the invariant holds after a blank line, a comment, and a keyword line with the clue lines below it.
 use Rattle.puzzle_text.proofs.Names.{◌≡◌, ◌+◌, arith, length, rules, sym, ◌∙◌, clues_of_kind}
 use Rattle.puzzle_text.proofs.SectionsLemmas.{none_is}
-use Rattle.puzzle_text.proofs.FastLines.{above_all, kept_one, past_blank, past_section}
+use Rattle.puzzle_text.proofs.FastLines.{above_all, only_keyword_line, past_blank, past_section}
 use Rattle.puzzle_text.proofs.fast_sections.fast_sections_of.Goals as goal
 
 pub lines-init : goal.lines-init
@@ -25,7 +25,7 @@ lines-preserved-then-not-is_empty c =
       within = omega (arith, c.in_ok-count.ensures.within, c.next_line.ensures.shorter, c.lines.invariant.within);
       keywords =
           rw c.in_ok-count.ensures.line
-          (kept_one _ _ _ _ after rest rows columns c.in_ok-count.ensures.clues place _ _ (rw first at c.lines.invariant.keywords) some);
+          (only_keyword_line _ _ _ _ after rest rows columns c.in_ok-count.ensures.clues place _ _ (rw first at c.lines.invariant.keywords) some);
       walk = (kind, above);
     }
 

@@ -5,6 +5,6 @@ use Rattle.puzzle_text.proofs.quick.quick_non.Goals as goal
 
 pub returns-clause-answer : goal.returns-clause-answer
 returns-clause-answer c =
-    rw c.ok.ensures.value (some_of_ok _ _ _ c.build_puzzle.ensures (λ p parsed.
+    rw c.ok.ensures.value (some_of_ok _ _ _ c.fast_puzzle.ensures (λ p parsed.
     non_parsed c.args.bytes.now _ p (omega arith) c.in_ok-fast_sections_of.ensures.keywords
     (parsed _ c.in_ok-fast_sections_of.ensures.sections)))

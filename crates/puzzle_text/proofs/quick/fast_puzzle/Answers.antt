@@ -1,8 +1,8 @@
--- `build_puzzle`: keyword lines and clues that fit the sizes are a puzzle of the sections that have these clues.
+-- `fast_puzzle`: keyword lines and clues that fit the sizes are a puzzle of the sections that have these clues.
 use Rattle.puzzle_text.proofs.Names.{map, rules, MAX_SIDE, shown_keyword}
 use Rattle.puzzle_text.proofs.ParsedLines.{non_lines}
 use Rattle.puzzle_text.proofs.FastLines.{reads_all, ok_of_gives}
-use Rattle.puzzle_text.proofs.quick.build_puzzle.Goals as goal
+use Rattle.puzzle_text.proofs.quick.fast_puzzle.Goals as goal
 
 pub returns : goal.returns
 returns c =
