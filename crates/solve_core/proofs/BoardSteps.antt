@@ -64,6 +64,11 @@ board-trailed g old entries more s w h m back fewer = record {
   count = omega arith;
 }
 
+-- the last trail entry is one of the grid's lines
+pub last_entry : (most : ℕ) (g : PartialGrid) (entries less : List LineEntry) (s : LineEntry) (capacity : ℕ) → entries ≡ less ++ s ∷ [] →
+    IsBoard most g entries capacity → IsEntryOf g.width g.height s
+last_entry most g entries less s capacity t b = (all_split (IsEntryOf g.width g.height) less s (rw t at b.entries_are)).0
+
 -- a board with its last trail entry undone satisfies the invariant
 pub board-undone : (most : ℕ) (g old : PartialGrid) (entries less : List LineEntry) (s : LineEntry) (capacity left : ℕ)
     → IsBoard most old entries capacity →

@@ -17,11 +17,11 @@ fit width [] are within = tt
 fit width (clue ∷ clues) are within = (clue_within MAX_SIDE width clue are.0 within.0, fit width clues are.1 within.1)
 
 -- the clues of a puzzle fit into its sets
-pub clues_fit : (width : ℕ) (p : Nonogram) → IsNonogram p → FitsIn width p
+pub clues_fit : (width : ℕ) (p : Nonogram) → IsNonogram p → FitsIn width p.rows p.columns
     → AllByRecursion (λ clue. is_clue width clue ≡ true) (p.rows ++ p.columns)
 clues_fit width p is fits =
-    all_append (λ clue. is_clue width clue ≡ true) p.rows p.columns (fit width p.rows is.rows (recursion_from_All _ p.rows fits.rows))
-    (fit width p.columns is.columns (recursion_from_All _ p.columns fits.columns))
+    all_append (λ clue. is_clue width clue ≡ true) p.rows p.columns (fit width p.rows is.rows (recursion_from_All _ p.rows fits.rows_fit))
+    (fit width p.columns is.columns (recursion_from_All _ p.columns fits.columns_fit))
 
 -- nothing is deduced yet
 pub none_deduced : (width : ℕ) (clues : List (List ℕ)) (entries : List CachedLine) (tables : List Table)

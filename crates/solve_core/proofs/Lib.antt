@@ -29,5 +29,4 @@ pub mod WordLemmas
 pub mod TableSteps
 pub mod CacheLaws
 pub mod WorkspaceSteps
-pub mod ClueLists
 pub mod WorkspaceTrials

@@ -41,15 +41,15 @@ pub use Rattle.solve_core.specs.Verdicts.{Holds, IsFinal}
 pub use Rattle.solve_core.specs.declared.searching.branches.Branch.{Branch}
 pub use Rattle.solve_core.specs.declared.solving.propagation.Effect.TheVariants.{Changed, Dead, Unchanged}
 pub use Rattle.solve_core.specs.declared.findings.Findings.{Findings}
-pub use Rattle.solve_core.specs.steps.Boards.{IsBoard, IsBoardOf, board_of, cells_along, unknown_board}
+pub use Rattle.solve_core.specs.steps.Boards.{CanAssignLine, IsBoard, IsBoardOf, IsWhole, board_of, cells_along, unknown_board}
 pub use Rattle.solve_core.specs.steps.Branches.{AreBefore, AreInOrder, AreKnownBefore, AreOlder, IsBranch, IsClosed, IsNext, IsNextCell, AreBranchesOf, cells_before, events_from_cell, pending, events_from_guess}
 pub use Rattle.solve_core.specs.steps.Propagation.{Closes, Deduces, Enqueues, Propagates, PropagatesLines, PropagatesOn}
 pub use Rattle.solve_core.specs.steps.ColourMasks.{ColourMasks, mask_of, no_colours}
 pub use Rattle.solve_core.specs.steps.Counts.{IsFirstHighest, IsUnknownIn, count_across, count_beside, set_count, two_of}
 pub use Rattle.solve_core.specs.steps.Endings.{Ending, ending}
-pub use Rattle.solve_core.specs.steps.GridLines.{AreLinesOf}
+pub use Rattle.solve_core.specs.steps.GridLines.{AreLinesOf, CanReplace, line_in, with_line}
 pub use Rattle.solve_core.specs.steps.Guesses.{AreFound, FindsNext, GoesOn, Guesses, HasRoom, IsUnderWay, TakesGuess, owed, owed_by}
-pub use Rattle.solve_core.specs.steps.CrossingWrites.{CanAssignAcross, CanWriteIn, IsIn}
+pub use Rattle.solve_core.specs.steps.CrossingWrites.{CanWriteIn, IsIn}
 pub use Rattle.solve_core.specs.steps.LineMasks.{IsMaskWithin, IsEmptyMask, IsInMask, IsEmptyOn, LineMasks, mask_on}
 pub use Rattle.solve_core.specs.steps.Worklist.{IsWorklist, IsDeduced, IsPropagated, IsWritten, WorklistAfter, AddsToWorklist, StepsTowards}
 pub use Rattle.solve_core.specs.steps.ConsistentColours.{AreBothRecorded, AreConsistent}

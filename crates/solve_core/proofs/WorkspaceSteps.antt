@@ -1,9 +1,8 @@
 -- Effects of the steps of propagation on the state of a workspace.
-use Rattle.solve_core.proofs.Names.{true≢false, ◌≡◌, ◌≢◌, ◌∙◌, ◌+◌, ◌*◌, ◌<◌, ◌≤◌, ◌⊎◌, inl, inr, ℕ, Bool, false, true, List, [], None, Option, Some, length, get_or, drop, take, set, refl, sym, ap, arith, append-nil, length-take, Cell, Unknown, Axis, Rows, Columns, Nonogram, IsNonogram, TrailedGrid, ColourMasks, LineMasks, IsBoardOf, IsTrailed, mask_on, IsInMask, IsEmptyMask, cells_at, cells_along, crossing, line_on, lines_of, line_count, cell_index_on, Has, IsMaskOf, IsWithBit, IsChanged, deduced, same_cells, length-cells_at, get_or-cells_at, length-line_indices, get_or-line_indices, deduced-above, IsWritten, IsPropagated, AddsToWorklist, StepsTowards, WorklistAfter, Dead, Unchanged, Changed, closure, with_cells, Deduces, Propagates, PropagatesLines, PropagatesOn, Closes, Enqueues, HasWorklist, IsLater, IsWorkspace, WorkspaceState, clue_index, puzzle_of, state_of}
+use Rattle.solve_core.proofs.Names.{true≢false, ◌≡◌, ◌≢◌, ◌∙◌, ◌+◌, ◌*◌, ◌<◌, ◌≤◌, ◌⊎◌, inl, inr, ℕ, Bool, false, true, List, [], None, Option, Some, length, get_or, drop, take, set, refl, sym, ap, arith, append-nil, length-take, Cell, Unknown, Axis, Rows, Columns, Nonogram, IsNonogram, TrailedGrid, ColourMasks, LineMasks, IsBoardOf, IsTrailed, mask_on, IsInMask, IsEmptyMask, cells_at, cells_along, crossing, line_on, lines_of, line_count, cell_index_on, Has, IsMaskOf, IsWithBit, IsChanged, deduced, same_cells, length-cells_at, get_or-cells_at, length-line_indices, get_or-line_indices, deduced-above, IsWritten, IsPropagated, AddsToWorklist, StepsTowards, WorklistAfter, Dead, Unchanged, Changed, closure, with_cells, Deduces, Propagates, PropagatesLines, PropagatesOn, Closes, Enqueues, HasWorklist, IsLater, IsWorkspace, WorkspaceState, clue_index, puzzle_of, state_of, nat_eq, same_without_change, length-deduced, CanAssignLine}
 use Rattle.std.proofs.lemmas.List.{get_or-drop, get_or-take, length-drop}
 use Rattle.solve_core.specs.declared.solving.propagation.Effect.{Effect}
 use Rattle.solve_core.proofs.TrailSteps.{length-undone, trailed_trans}
-use Rattle.solve_core.proofs.AssignedLines.{AssignsLine, change_in}
 use Rattle.solve_core.proofs.AxisLines.{below_indices, crossing_twice, distinct_indices, line_is_one}
 use Rattle.solve_core.proofs.GridSteps.{assigned-effect, dirty-after, none_dirty_closed, place_worklist}
 use Rattle.solve_core.proofs.LineSteps.{written-fewer, written-read}
@@ -65,6 +64,20 @@ module _ (clues : List (List ℕ)) (g : TrailedGrid) (is : IsNonogram (puzzle_of
       → deduced line (get_or clues k []) ≡ deduced (cells_along g axis i) (line_on axis (puzzle_of clues g) i).clue
   line-deduced axis i k line l at along = rw (at, along, clue-is axis i l) refl
 
+-- a line can be assigned what is deduced of it, if that is more
+pub deduced_assigns : (g : TrailedGrid) (axis : Axis) (i m : ℕ) (certain line : List Cell) (clue : List ℕ)
+    → i < line_count axis g.width g.height
+    → line ≡ cells_along g axis i → Some certain ≡ deduced line clue → IsMaskOf (IsChanged line certain) m → nat_eq m 0 ≡ false
+    → CanAssignLine g axis i certain m
+deduced_assigns g axis i m certain line clue l along given changes some = record {
+  line = l;
+  more = rw along at (rw (← given) at (deduced-above line clue));
+  changes_are = rw along at changes;
+  some = λ e.
+      let same = same_without_change line certain m (length-deduced line certain clue given) changes in
+      true≢false (sym (same.1 (along ∙ sym e)) ∙ some);
+}
+
 -- nothing is added to a worklist if nothing changed
 nothing_added : (p : Nonogram) (axis : Axis) (i : ℕ) (cells : List Cell) (dirty : LineMasks)
     → AddsToWorklist p axis i cells cells dirty dirty
@@ -119,13 +132,6 @@ deduces-line s new axis i m certain is size l given changes some later cells add
     let line = line_on axis p i in
     let positive : 0 < p.width = omega (arith, is.size.width_from) in
     let w : IsWritten line old new.board.cells = record { certain = certain; is_certain = given; written = cells } in
-    let assigns : AssignsLine axis p.width p.height i m old certain = record {
-      some = positive;
-      line = l;
-      count = size.2;
-      more = rw given at (deduced-above (cells_at Unknown old line.indices) line.clue);
-      changes = changes;
-    } in
     record {
       later = later;
       assigned = (
@@ -136,7 +142,15 @@ deduces-line s new axis i m certain is size l given changes some later cells add
       worklist = record {
         own = rw crossing_twice at other;
         kept = λ k h. added.from k (inl h);
-        crossing_it = λ k h. elim (added.to k h) [ inl before ↦ inl before | inr cell ↦ inr (change_in _ _ _ _ _ _ _ assigns k cell) ];
+        crossing_it = λ k h. elim (added.to k h) [
+          | inl before ↦ inl before
+          | inr cell ↦ inr (omega (
+            arith,
+            changes.to k cell,
+            length-cells_at Unknown old line.indices,
+            length-line_indices axis p.width p.height i,
+          ))
+        ];
         same = λ k lk n. unchanged p old new.board.cells certain axis i k m positive l size.2 w refl changes lk
             (λ h. n (added.from k (inr h)));
       };

@@ -1,7 +1,6 @@
 -- The definitions that only the contracts of private functions use.
 pub mod AnyWorkspaces
 pub mod Boards
-pub mod ClueLists
 pub mod Branches
 pub mod Propagation
 pub mod ColourMasks

@@ -42,16 +42,12 @@ impl Model for AnyWorkspace {
 }
 
 impl AnyWorkspace {
-    /// Allocates a workspace for `puzzle`. Fails with `NoMemory` if an allocation fails.
-    pub fn new(alloc: Global, puzzle: &Puzzle) -> Result<AnyWorkspace, NoMemory>
-        ensures { IfOk result (IsPreparedFor puzzle.now) }
-    {
-        let sized = match width_for(puzzle) {
-            SetWidth::Narrow => SizedWorkspace::Narrow(Workspace::new(alloc, puzzle)?),
-            SetWidth::Middle => SizedWorkspace::Middle(Workspace::new(alloc, puzzle)?),
-            SetWidth::Wide => SizedWorkspace::Wide(Workspace::new(alloc, puzzle)?),
-        };
-        Ok(AnyWorkspace { sized })
+    /// Allocates a workspace for a puzzle of one blank cell. Fails with `NoMemory` if an allocation
+    /// fails.
+    pub fn new(alloc: Global) -> Result<AnyWorkspace, NoMemory> {
+        Ok(AnyWorkspace {
+            sized: SizedWorkspace::Narrow(Workspace::new(alloc)?),
+        })
     }
 
     /// Returns a workspace for `puzzle`: this one, prepared for it, or a new one if the puzzle
@@ -60,7 +56,7 @@ impl AnyWorkspace {
         ensures { IfOk result (IsPreparedFor puzzle.now) }
     {
         let AnyWorkspace { sized } = self;
-        let sized = match (width_for(puzzle), sized) {
+        let sized = match (width_for(puzzle.rows(), puzzle.columns()), sized) {
             (SetWidth::Narrow, SizedWorkspace::Narrow(workspace)) => {
                 SizedWorkspace::Narrow(workspace.reset(alloc, puzzle)?)
             }
@@ -70,7 +66,15 @@ impl AnyWorkspace {
             (SetWidth::Wide, SizedWorkspace::Wide(workspace)) => {
                 SizedWorkspace::Wide(workspace.reset(alloc, puzzle)?)
             }
-            _ => return AnyWorkspace::new(alloc, puzzle),
+            (SetWidth::Narrow, _) => {
+                SizedWorkspace::Narrow(Workspace::new(alloc)?.reset(alloc, puzzle)?)
+            }
+            (SetWidth::Middle, _) => {
+                SizedWorkspace::Middle(Workspace::new(alloc)?.reset(alloc, puzzle)?)
+            }
+            (SetWidth::Wide, _) => {
+                SizedWorkspace::Wide(Workspace::new(alloc)?.reset(alloc, puzzle)?)
+            }
         };
         Ok(AnyWorkspace { sized })
     }

@@ -1,6 +1,5 @@
 //! Deducing the lines of a puzzle, with what is kept of it.
 
-pub mod clue_list;
 pub mod deducer;
 pub mod deduction_cache;
 pub mod lookahead_tables;

@@ -45,15 +45,16 @@ impl Reporter {
             Holds (picked pick puzzle.now.width) puzzle.now guesses findings.verdict) }
         ensures spent { IfOk result (λ findings. findings.spent ≤ guesses) }
     {
-        let (mut workspace, mut branches) = match self.kept.take() {
+        let (workspace, mut branches) = match self.kept.take() {
             Some(
                 ReportBuffers {
                     workspace,
                     branches,
                 },
-            ) => { (workspace.reset(alloc, puzzle)?, branches) }
-            None => (AnyWorkspace::new(alloc, puzzle)?, Vec::new(alloc)),
+            ) => { (workspace, branches) }
+            None => (AnyWorkspace::new(alloc)?, Vec::new(alloc)),
         };
+        let mut workspace = workspace.reset(alloc, puzzle)?;
         let findings = workspace.report(alloc, &mut branches, guesses, pick)?;
         self.kept = Some(ReportBuffers {
             workspace,

@@ -47,7 +47,7 @@ impl<'p> Solver<'p> {
     {
         Ok(Solver {
             puzzle,
-            workspace: AnyWorkspace::new(alloc, puzzle)?,
+            workspace: AnyWorkspace::new(alloc)?.reset(alloc, puzzle)?,
         })
     }
 

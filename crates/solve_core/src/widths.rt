@@ -1,11 +1,11 @@
 //! The set width that a puzzle is solved in.
-ghost use Rattle.std.specs.Prelude.{◌≤◌, All, ℕ};
+ghost use Rattle.std.specs.Prelude.{◌≤◌, All, length, ℕ};
 ghost use Rattle.grid_core.specs.declared.limits.TheConstants.{MAX_SIDE};
 ghost use Rattle.line_core.specs.Widths.{bits_of_width};
 ghost use Rattle.line_core.specs.declared.widths.SetWidth.{SetWidth};
 ghost use Rattle.solve_core.specs.steps.Widths.{FitsIn};
 
-use grid_core::{Clue, Puzzle};
+use grid_core::Clue;
 use line_core::{SetWidth, bits_needed};
 
 /// Returns how many indices sets need to have at least `least`, and to fit each number of `clues`.
@@ -24,13 +24,15 @@ fn places_for_clues(clues: &[Clue], least: u16) -> u16
     needed
 }
 
-/// Returns the least set width that fits the lines of `puzzle` and the numbers of its clues.
-pub fn width_for(puzzle: &Puzzle) -> SetWidth
-    ensures fits { FitsIn (bits_of_width result) puzzle.now }
-    ensures least { (width : SetWidth) → FitsIn (bits_of_width width) puzzle.now
+/// Returns the least set width that fits the lines of the puzzle with the clues `rows` and
+/// `columns`, and the numbers of these.
+pub fn width_for(rows: &[Clue], columns: &[Clue]) -> SetWidth
+    requires { (length rows.now ≤ MAX_SIDE) × (length columns.now ≤ MAX_SIDE) }
+    ensures fits { FitsIn (bits_of_width result) rows.now columns.now }
+    ensures least { (width : SetWidth) → FitsIn (bits_of_width width) rows.now columns.now
         → bits_of_width result ≤ bits_of_width width }
 {
-    let sides = puzzle.width().max(puzzle.height());
-    let rows = places_for_clues(puzzle.rows(), sides);
-    SetWidth::of(places_for_clues(puzzle.columns(), rows))
+    let sides = rows.len().max(columns.len()) as u16;
+    let needed = places_for_clues(rows, sides);
+    SetWidth::of(places_for_clues(columns, needed))
 }

@@ -1,10 +1,14 @@
 -- Boards: grids with a trail of the assignments made in them.
-use Rattle.std.specs.Prelude.{◌≡◌, ℕ, ◌+◌, ◌*◌, ◌≤◌, List, [], drop, length, map, replicate}
+use Rattle.std.specs.Prelude.{◌≡◌, ◌≢◌, ℕ, ◌+◌, ◌*◌, ◌<◌, ◌≤◌, List, [], drop, length, map, replicate}
 use Rattle.std.specs.List.{AllByRecursion}
 use Rattle.grid_core.specs.declared.cells.Cell.{Cell}
 use Rattle.grid_core.specs.declared.cells.Cell.TheVariants.{Unknown}
 use Rattle.grid_core.specs.declared.axes.Axis.{Axis}
+use Rattle.grid_core.specs.Cells.{Extends}
+use Rattle.grid_core.specs.Lines.{IsChanged}
 use Rattle.grid_core.specs.Nonogram.{Nonogram, cells_at, line_indices}
+use Rattle.grid_core.specs.steps.Axes.{line_count}
+use Rattle.bit_sets.specs.Masks.{IsMaskOf}
 use Rattle.grid_core.specs.PartialGrid.{PartialGrid, IsSize}
 use Rattle.solve_core.specs.steps.Trails.{LineEntry, TrailedGrid, IsEntryOf, undone, entry_on, unknown_count}
 
@@ -64,3 +68,12 @@ IsWhole g = IsSize g.width g.height × (length g.cells ≡ g.width * g.height)
 -- the cells of `g` along line `i` of an axis
 abbrev pub cells_along : TrailedGrid → Axis → ℕ → List Cell
 cells_along g axis i = cells_at Unknown g.cells (line_indices axis g.width g.height i)
+
+-- the cells of line `i` of an axis can become `new` by assigning those at the indices `changes`, at
+-- least one
+pub record CanAssignLine (g : TrailedGrid) (axis : Axis) (i : ℕ) (new : List Cell) (changes : ℕ)
+    : Type 0 where
+  pub line : i < line_count axis g.width g.height
+  pub more : Extends (cells_along g axis i) new
+  pub changes_are : IsMaskOf (IsChanged (cells_along g axis i) new) changes
+  pub some : new ≢ cells_along g axis i

@@ -13,16 +13,6 @@ pub record CanWriteIn (lines : List (List Cell)) (i : ℕ) (cell : Cell) (k : �
   pub unknown :
       is_known cell ≡ true → slice_index_or (slice_index_or lines k []) i Unknown ≡ Unknown
 
--- cell `k` of the line `new` can be assigned to cell `i` of the crossing line `k`: it is known, and
--- the cell of the crossing line is unknown
-pub record CanAssignAcross (lines : List (List Cell)) (i : ℕ) (new : List Cell) (k : ℕ)
-    : Type 0 where
-  pub line : k < length lines
-  pub within : i < length (slice_index_or lines k [])
-  pub unknown : slice_index_or (slice_index_or lines k []) i Unknown ≡ Unknown
-  pub cell : k < length new
-  pub known : is_known (slice_index_or new k Unknown) ≡ true
-
--- `k` is in the set `places` and in the 64-bit word that starts at index `from`
+-- `k` is in the set `indices` and in the 64-bit word that starts at index `from`
 abbrev pub IsIn : ℕ → ℕ → ℕ → Type 0
 IsIn indices from k = Has indices k × (from ≤ k) × (k < from + 64)

@@ -1,13 +1,14 @@
 //! Deduces the lines of a puzzle.
-ghost use Rattle.std.specs.Prelude.{◌≡◌, ◌++◌, ◌<◌, [], ◌∷◌, length, slice_index_or, IfOk};
+ghost use Rattle.std.specs.Prelude.{◌≡◌, ◌++◌, ◌<◌, [], ◌∷◌, length, slice_index_or, true, IfOk, OnOk};
+ghost use Rattle.std.specs.List.{AllByRecursion};
+ghost use Rattle.grid_core.specs.Clues.{is_clue};
+ghost use Rattle.grid_core.specs.PartialGrid.{IsSize};
 ghost use Rattle.line_core.specs.Deduction.{deduced};
 ghost use Rattle.line_core.specs.Lookahead.{AreInert};
-ghost use Rattle.solve_core.specs.steps.Widths.{FitsIn};
 
-use crate::deducing::clue_list::ClueList;
 use crate::deducing::deduction_cache::{CachedDeduction, DeductionCache};
 use crate::deducing::lookahead_tables::LookaheadTables;
-use grid_core::{MAX_SIDE, NoMemory, Puzzle};
+use grid_core::{Clue, MAX_SIDE, NoMemory};
 use line_core::{BitLine, LineBits, Tables};
 use std::alloc::Global;
 use std::marker::Model;
@@ -15,7 +16,7 @@ use std::marker::Model;
 /// The clues of a puzzle's lines, and all that is kept of deducing these: a cache, once it is
 /// enabled, and lookahead tables. Each line is given by the index of its clue and by its cells.
 pub struct Deducer<W: LineBits> {
-    clues: ClueList,
+    clues: Vec<Clue>,
     tables: Tables,
     cache: DeductionCache<W>,
     lookahead: LookaheadTables<W>,
@@ -40,9 +41,9 @@ impl<W: LineBits> Model for Deducer<W> {
 
     ghost Value = { List (List ℕ) };
 
-    ghost view = { λ d. d.clues };
+    ghost view = { λ d. d.clues.items };
 
-    ghost invariant = { λ d. AreDeductionsOf W.WIDTH d.clues d.cache d.lookahead };
+    ghost invariant = { λ d. AreDeductionsOf W.WIDTH d.clues.items d.cache d.lookahead };
 }
 
 /// Returns a copy of `answer`.
@@ -55,15 +56,25 @@ fn copy_answer<W: LineBits>(answer: &Option<BitLine<W>>) -> Option<BitLine<W>>
     }
 }
 
+/// Appends copies of `clues` to `list`. Fails with `NoMemory` if an allocation fails.
+fn append_clues(alloc: Global, list: &mut Vec<Clue>, clues: &[Clue]) -> Result<(), NoMemory>
+    ensures { OnOk result (list.new.items ≡ list.old.items ++ clues.now) }
+{
+    for clue in clues {
+        list.push(clue.copy(alloc)?)?;
+    }
+    Ok(())
+}
+
 impl<W: LineBits> Deducer<W> {
     /// Returns a deducer for the two lines of a puzzle of one blank cell. Fails with `NoMemory` if
     /// an allocation fails.
     pub fn new(alloc: Global) -> Result<Deducer<W>, NoMemory>
         ensures { IfOk result (λ deducer. deducer ≡ [] ∷ [] ∷ []) }
     {
-        let mut clues = ClueList::new(alloc);
-        clues.push(&[])?;
-        clues.push(&[])?;
+        let mut clues = Vec::new(alloc);
+        clues.push(Clue::empty(alloc))?;
+        clues.push(Clue::empty(alloc))?;
         Ok(Deducer {
             clues,
             tables: Tables::new(alloc, MAX_SIDE)?,
@@ -72,11 +83,18 @@ impl<W: LineBits> Deducer<W> {
         })
     }
 
-    /// Returns the deducer, prepared for the lines of `puzzle`: its rows, and then its columns.
-    /// Fails with `NoMemory` if an allocation fails.
-    pub fn reset(self, alloc: Global, puzzle: &Puzzle) -> Result<Deducer<W>, NoMemory>
-        requires { FitsIn W.WIDTH puzzle.now }
-        ensures { IfOk result (λ deducer. deducer ≡ puzzle.now.rows ++ puzzle.now.columns) }
+    /// Returns the deducer, prepared for the lines of the puzzle with the clues `rows` and
+    /// `columns`. Fails with `NoMemory` if an allocation fails.
+    pub fn reset(
+        self,
+        alloc: Global,
+        rows: &[Clue],
+        columns: &[Clue],
+    ) -> Result<Deducer<W>, NoMemory>
+        requires size { IsSize (length columns.now) (length rows.now) }
+        requires clues { AllByRecursion (λ clue. is_clue W.WIDTH clue ≡ true)
+            (rows.now ++ columns.now) }
+        ensures { IfOk result (λ deducer. deducer ≡ rows.now ++ columns.now) }
     {
         let Deducer {
             mut clues,
@@ -84,12 +102,12 @@ impl<W: LineBits> Deducer<W> {
             cache,
             mut lookahead,
         } = self;
-        let (width, height) = (puzzle.width(), puzzle.height());
         clues.clear();
-        clues.push_all(puzzle.rows())?;
-        clues.push_all(puzzle.columns())?;
-        let cache = cache.reset(alloc, usize::from(width) * usize::from(height))?;
-        lookahead.reset(alloc, width, height)?;
+        append_clues(alloc, &mut clues, rows)?;
+        append_clues(alloc, &mut clues, columns)?;
+        let (width, height) = (columns.len(), rows.len());
+        let cache = cache.reset(alloc, width * height)?;
+        lookahead.reset(alloc, width as u16, height as u16)?;
         Ok(Deducer {
             clues,
             tables,
@@ -120,7 +138,7 @@ impl<W: LineBits> Deducer<W> {
         ensures inert { AreInert (slice_index_or self.old k []) line.now filled (W.bits result) }
         ensures clues { self.new ≡ self.old }
     {
-        let clue = self.clues.get(k);
+        let clue = self.clues[usize::from(k)].numbers();
         self.lookahead.ensure(&mut self.tables, k, clue, line);
         self.lookahead.inert_cells(k, line, filled)
     }
@@ -138,13 +156,13 @@ impl<W: LineBits> Deducer<W> {
             return support.deduced_from(line.len());
         }
         if !self.cache.is_enabled() {
-            return W::deduce(&mut self.tables, line, self.clues.get(k));
+            return W::deduce(&mut self.tables, line, self.clues[usize::from(k)].numbers());
         }
         let slot = self.cache.slot_of(k, line);
         if let Some(deduction) = self.cache.get(slot, k, line) {
             return copy_answer(&deduction.answer);
         }
-        let answer = W::deduce(&mut self.tables, line, self.clues.get(k));
+        let answer = W::deduce(&mut self.tables, line, self.clues[usize::from(k)].numbers());
         self.cache.insert(
             slot,
             CachedDeduction {

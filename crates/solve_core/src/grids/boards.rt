@@ -1,14 +1,13 @@
 //! The board of a search: a grid as rows and columns, with a trail by which assignments are undone.
-ghost use Rattle.std.specs.Prelude.{◌≡◌, ◌≢◌, ℕ, ◌+◌, ◌-◌, ◌*◌, ◌<◌, ◌≤◌, length, replicate, take, slice_index_or, slice_set, true, IfOk};
-ghost use Rattle.grid_core.specs.Cells.{Extends, is_known};
-ghost use Rattle.grid_core.specs.Lines.{IsChanged};
+ghost use Rattle.std.specs.Prelude.{◌≡◌, ℕ, ◌+◌, ◌-◌, ◌*◌, ◌<◌, ◌≤◌, length, replicate, take, slice_index_or, slice_set, true, IfOk};
+ghost use Rattle.grid_core.specs.Cells.{is_known};
 ghost use Rattle.grid_core.specs.Nonogram.{line_indices};
 ghost use Rattle.grid_core.specs.steps.Axes.{line_count};
-ghost use Rattle.bit_sets.specs.Masks.{Has, IsMaskOf};
+ghost use Rattle.bit_sets.specs.Masks.{Has};
 ghost use Rattle.solve_core.specs.Closure.{with_cells};
 ghost use Rattle.grid_core.specs.PartialGrid.{IsSize};
 ghost use Rattle.grid_core.specs.declared.cells.Cell.TheVariants.{Unknown};
-ghost use Rattle.solve_core.specs.steps.Boards.{board_without_trail, cells_along, grid_of_board, unknown_board, IsWhole};
+ghost use Rattle.solve_core.specs.steps.Boards.{board_without_trail, cells_along, grid_of_board, unknown_board, CanAssignLine, IsWhole};
 ghost use Rattle.solve_core.specs.steps.Branches.{cells_before};
 ghost use Rattle.solve_core.specs.steps.Trails.{IsTrailed, unknown_count};
 
@@ -113,20 +112,15 @@ impl<W: LineBits> Board<W> {
         self.lines.line(axis, i)
     }
 
-    /// Replaces line `i` of an axis by `new`, in which the cells in `changes`, at least one and all
-    /// unknown before, have a colour, and appends an entry to the trail.
+    /// Assigns the cells in `changes` of line `i` of an axis, so that it becomes `new`, and appends
+    /// an entry to the trail.
     pub fn assign_line(&mut self, axis: Axis, i: u16, new: &BitLine<W>, changes: W)
-        requires i { i < line_count axis self.old.width self.old.height }
-        requires fits { length new.now ≤ W.WIDTH }
-        requires more { Extends (cells_along self.old axis i) new.now }
-        requires changes { IsMaskOf (IsChanged (cells_along self.old axis i) new.now)
-            (W.bits changes) }
-        requires some { new.now ≢ cells_along self.old axis i }
+        requires { CanAssignLine self.old axis i new.now (W.bits changes) }
         ensures cells { self.new.cells ≡ with_cells self.old.cells
             (line_indices axis self.old.width self.old.height i) new.now }
         ensures trail { IsTrailed self.old self.new }
     {
-        self.lines.assign_line(axis, i, new, changes);
+        self.lines.replace_line(axis, i, new, changes);
         // The capacity suffices: it is one entry for each cell, and each entry assigned at least
         // one unknown cell.
         self.trail.push_reserved(TrailEntry {
@@ -163,7 +157,10 @@ impl<W: LineBits> Board<W> {
         let Some(entry) = self.trail.pop() else {
             return;
         };
-        self.lines.unassign(entry.axis, entry.line, entry.changes);
+        let line = self.lines.line(entry.axis, entry.line);
+        let line = line.with_unknown(entry.changes);
+        self.lines
+            .replace_line(entry.axis, entry.line, &line, entry.changes);
     }
 
     /// Undoes all assignments since the trail had `checkpoint` entries, the last one first. Does

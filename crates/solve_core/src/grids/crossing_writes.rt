@@ -4,7 +4,7 @@ ghost use Rattle.std.specs.Prelude.{◌≡◌, ℕ, ◌<◌, ◌≤◌, [], leng
 ghost use Rattle.grid_core.specs.declared.cells.Cell.TheVariants.{Unknown};
 ghost use Rattle.grid_core.specs.Cells.{is_known};
 ghost use Rattle.bit_sets.specs.Masks.{Has};
-ghost use Rattle.solve_core.specs.steps.CrossingWrites.{CanAssignAcross, CanWriteIn, IsIn};
+ghost use Rattle.solve_core.specs.steps.CrossingWrites.{CanWriteIn, IsIn};
 
 use crate::grids::words::{WORD, without_first, word_from};
 use bit_sets::BitSet;
@@ -25,7 +25,7 @@ fn write_cell<W: LineBits>(line: &mut BitLine<W>, i: u16, colour: Cell)
     }
 }
 
-/// Writes `colour`, which may be unknown, into cell `i` of each line whose number is in `places`
+/// Writes `colour`, which may be unknown, into cell `i` of each line whose number is in `indices`
 /// and among the 64 from `from` on.
 fn write_word<W: LineBits>(lines: &mut [BitLine<W>], i: u16, indices: W, from: u16, colour: Cell)
     requires from { from < W.WIDTH }
@@ -44,8 +44,8 @@ fn write_word<W: LineBits>(lines: &mut [BitLine<W>], i: u16, indices: W, from: u
     }
 }
 
-/// Writes `colour`, which may be unknown, into cell `i` of each line whose number is in `places`.
-pub fn write_each<W: LineBits>(lines: &mut [BitLine<W>], i: u16, indices: W, colour: Cell)
+/// Writes `colour`, which may be unknown, into cell `i` of each line whose number is in `indices`.
+fn write_each<W: LineBits>(lines: &mut [BitLine<W>], i: u16, indices: W, colour: Cell)
     requires within { (k : ℕ) → Has (W.bits indices) k → k < W.WIDTH }
     requires cells { (k : ℕ) → Has (W.bits indices) k → CanWriteIn lines.old i colour k }
     ensures changed { (k : ℕ) → Has (W.bits indices) k →
@@ -61,21 +61,22 @@ pub fn write_each<W: LineBits>(lines: &mut [BitLine<W>], i: u16, indices: W, col
     }
 }
 
-/// Assigns to cell `i` of each line whose number is in `changes` the colour that `new` has at that
+/// Writes into cell `i` of each line whose number is in `changes` the cell that `new` has at that
 /// number.
-pub fn assign_across<W: LineBits>(lines: &mut [BitLine<W>], i: u16, new: &BitLine<W>, changes: W)
-    requires fits { length new.now ≤ W.WIDTH }
-    requires changes { (k : ℕ) → Has (W.bits changes) k → CanAssignAcross lines.old i new.now k }
+pub fn write_changes<W: LineBits>(lines: &mut [BitLine<W>], i: u16, new: &BitLine<W>, changes: W)
+    requires within { (k : ℕ) → Has (W.bits changes) k → k < W.WIDTH }
+    requires cells { (k : ℕ) → Has (W.bits changes) k
+        → CanWriteIn lines.old i (slice_index_or new.now k Unknown) k }
     ensures changed { (k : ℕ) → Has (W.bits changes) k → slice_index_or lines.new k []
         ≡ slice_set (slice_index_or lines.old k []) i (slice_index_or new.now k Unknown) }
     ensures others { (k : ℕ) → (Has (W.bits changes) k → ⊥)
         → slice_index_or lines.new k [] ≡ slice_index_or lines.old k [] }
     ensures len { length lines.new ≡ length lines.old }
 {
-    // Two passes over sets, each with one colour, are faster than one that looks up each
-    // colour.
     let filled = changes.intersection(new.filled());
-    let blank = changes.difference(filled);
+    let blank = changes.intersection(new.blank());
     write_each(lines, i, filled, Cell::Filled);
     write_each(lines, i, blank, Cell::Blank);
+    let unknown = changes.difference(filled.union(blank));
+    write_each(lines, i, unknown, Cell::Unknown);
 }

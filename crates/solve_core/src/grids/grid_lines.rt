@@ -1,22 +1,19 @@
 //! A grid as rows and columns.
 ghost use Rattle.std.specs.Prelude.{◌≡◌, ◌+◌, ◌-◌, ◌*◌, ◌<◌, ◌≤◌, ℕ, [], count_by, length, replicate, slice_index_or, slice_set, vec_capacity, IfOk};
-ghost use Rattle.grid_core.specs.Cells.{Extends, is_known};
-ghost use Rattle.grid_core.specs.Nonogram.{crossing, line_indices};
+ghost use Rattle.grid_core.specs.Cells.{is_known};
 ghost use Rattle.grid_core.specs.steps.Axes.{line_count};
 ghost use Rattle.grid_core.specs.PartialGrid.{IsSize};
 ghost use Rattle.grid_core.specs.Rows.{cells_of_rows, row_of};
 ghost use Rattle.grid_core.specs.declared.cells.Cell.TheVariants.{Unknown};
 ghost use Rattle.grid_core.specs.declared.axes.Axis.TheVariants.{Rows, Columns};
-ghost use Rattle.grid_core.specs.Lines.{IsChanged, IsUnknownCell, IsUnknownFrom};
-ghost use Rattle.solve_core.specs.steps.GridLines.{AreLinesOf};
-ghost use Rattle.bit_sets.specs.Masks.{Has, IsMaskOf};
-ghost use Rattle.solve_core.specs.Closure.{with_cells};
+ghost use Rattle.grid_core.specs.Lines.{IsUnknownCell, IsUnknownFrom};
+ghost use Rattle.solve_core.specs.steps.GridLines.{with_line, AreLinesOf, CanReplace};
+ghost use Rattle.bit_sets.specs.Masks.{Has};
 ghost use Rattle.solve_core.specs.steps.Boards.{board_without_trail, cells_along, IsWhole};
-ghost use Rattle.solve_core.specs.steps.Trails.{entry_on, undo_entry};
 ghost use Rattle.solve_core.specs.Picks.{most_known};
 
 use crate::buffers::cleared_with_capacity;
-use crate::grids::crossing_writes::{assign_across, write_each};
+use crate::grids::crossing_writes::write_changes;
 use crate::picks::{RowSets, in_at_least, known_across, known_beside, most_known};
 use bit_sets::next_index;
 use grid_core::{Axis, Cell, Grid, NoMemory};
@@ -292,57 +289,26 @@ impl<W: LineBits> GridLines<W> {
         }
     }
 
-    /// Replaces line `i` of an axis by `new`, in which the cells in `changes`, all unknown before,
-    /// have a colour. Writes them into the crossing lines too.
+    /// Replaces line `i` of an axis by `new`, which differs from it at most in the cells in
+    /// `changes`, each of which is unknown before or afterwards. Writes these into the crossing
+    /// lines too.
     // Inlined, since a call would pass the new line in memory, and the processor would wait for its
     // fields.
     #[inline(always)]
-    pub fn assign_line(&mut self, axis: Axis, i: u16, new: &BitLine<W>, changes: W)
-        requires i { i < line_count axis self.old.width self.old.height }
+    pub fn replace_line(&mut self, axis: Axis, i: u16, new: &BitLine<W>, changes: W)
         requires fits { length new.now ≤ W.WIDTH }
-        requires more { Extends (cells_along (board_without_trail self.old) axis i) new.now }
-        requires changes { IsMaskOf
-            (IsChanged (cells_along (board_without_trail self.old) axis i) new.now)
-            (W.bits changes) }
-        ensures cells { self.new.cells ≡ with_cells self.old.cells
-            (line_indices axis self.old.width self.old.height i) new.now }
-        ensures width { self.new.width ≡ self.old.width }
-        ensures height { self.new.height ≡ self.old.height }
+        requires can { CanReplace self.old axis i new.now (W.bits changes) }
+        ensures { self.new ≡ with_line self.old axis i new.now }
     {
         let place = usize::from(i);
         match axis {
             Axis::Rows => {
                 self.rows[place].copy_from(new);
-                assign_across(&mut self.columns, i, new, changes);
+                write_changes(&mut self.columns, i, new, changes);
             }
             Axis::Columns => {
                 self.columns[place].copy_from(new);
-                assign_across(&mut self.rows, i, new, changes);
-            }
-        }
-    }
-
-    /// Makes the cells in `changes` of line `i` of an axis unknown.
-    pub fn unassign(&mut self, axis: Axis, i: u16, changes: W)
-        requires i { i < line_count axis self.old.width self.old.height }
-        requires within { (k : ℕ) → Has (W.bits changes) k
-            → k < line_count (crossing axis) self.old.width self.old.height }
-        ensures { self.new ≡ record self.old {
-          cells = undo_entry self.old.cells
-              (entry_on self.old.width self.old.height
-              (record { axis = axis; line = i; changes = W.bits changes }));
-        } }
-    {
-        let place = usize::from(i);
-        let new = self.line(axis, i).with_unknown(changes);
-        match axis {
-            Axis::Rows => {
-                self.rows[place].copy_from(&new);
-                write_each(&mut self.columns, i, changes, Cell::Unknown);
-            }
-            Axis::Columns => {
-                self.columns[place].copy_from(&new);
-                write_each(&mut self.rows, i, changes, Cell::Unknown);
+                write_changes(&mut self.rows, i, new, changes);
             }
         }
     }

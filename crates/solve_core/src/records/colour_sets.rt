@@ -71,6 +71,14 @@ impl<W: BitSet> ColourSets<W> {
         }
     }
 
+    /// Returns the indices that are in the sets of either.
+    pub fn joined(&self, other: &ColourSets<W>) -> ColourSets<W> {
+        ColourSets {
+            filled: self.filled.union(other.filled),
+            blank: self.blank.union(other.blank),
+        }
+    }
+
     /// Adds the known cells of `line`, each to the set of its colour.
     pub fn add_line(&mut self, line: &BitLine<W>)
         ensures only { (c : CellValue) (i : ℕ) → i < length line.now → Has (mask_of c self.new) i →
@@ -78,6 +86,15 @@ impl<W: BitSet> ColourSets<W> {
     {
         self.filled = self.filled.union(line.filled());
         self.blank = self.blank.union(line.blank());
+    }
+}
+
+/// Adds to each of `sets` the indices of the one with the same number in `others`.
+pub fn join_each<W: BitSet>(sets: &mut [ColourSets<W>], others: &[ColourSets<W>]) {
+    for i in 0..sets.len() {
+        if let Some(other) = others.get(i) {
+            sets[i] = sets[i].joined(other);
+        }
     }
 }
 

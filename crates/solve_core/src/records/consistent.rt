@@ -10,7 +10,7 @@ ghost use Rattle.solve_core.specs.Trials.{is_refuted};
 ghost use Rattle.solve_core.specs.steps.ConsistentColours.{AreBothRecorded, AreConsistent, AreRecordedFrom, IsRecorded};
 
 use crate::grids::grid_lines::GridLines;
-use crate::records::colour_sets::{ColourSets, fill_with_none, with_sets};
+use crate::records::colour_sets::{ColourSets, fill_with_none, join_each, with_sets};
 use bit_sets::next_index;
 use grid_core::{Axis, Cell, NoMemory};
 use line_core::LineBits;
@@ -18,10 +18,13 @@ use std::alloc::Global;
 use std::marker::Model;
 
 /// For each row of a grid, the cells at which filled is recorded as consistent, and those at which
-/// blank is, in a buffer that is allocated once.
+/// blank is, in buffers that are allocated once.
 #[derive(Drop)]
 pub struct ConsistentColours<W: LineBits> {
     rows: Vec<ColourSets<W>>,
+    /// For each row, the colours that were recorded before more cells became known. Most of these
+    /// still aren't refuted, so trials of them are postponed.
+    postponed: Vec<ColourSets<W>>,
 }
 
 impl<W: LineBits> Model for ConsistentColours<W> {
@@ -40,6 +43,7 @@ impl<W: LineBits> ConsistentColours<W> {
     {
         Ok(ConsistentColours {
             rows: with_sets(alloc, Vec::new(alloc), 1)?,
+            postponed: with_sets(alloc, Vec::new(alloc), 1)?,
         })
     }
 
@@ -48,20 +52,45 @@ impl<W: LineBits> ConsistentColours<W> {
     pub fn reset(self, alloc: Global, height: u16) -> Result<ConsistentColours<W>, NoMemory>
         ensures { IfOk result (λ colours. length colours ≡ height) }
     {
-        let ConsistentColours { rows } = self;
+        let ConsistentColours { rows, postponed } = self;
         Ok(ConsistentColours {
             rows: with_sets(alloc, rows, usize::from(height))?,
+            postponed: with_sets(alloc, postponed, usize::from(height))?,
         })
     }
 
-    /// Clears the record, which is then correct for any grid.
+    /// Clears the record, which is then correct for any grid. No colour is postponed.
     pub fn clear(&mut self)
         ensures consistent { (p : Nonogram) (cells : List CellValue)
             → AreConsistent p self.new cells }
         ensures rows { length self.new ≡ length self.old }
     {
+        let count = self.postponed.len();
+        fill_with_none(&mut self.postponed, count);
         let count = self.rows.len();
         fill_with_none(&mut self.rows, count);
+    }
+
+    /// Postpones the colours that are recorded, and clears the record, which is then correct for
+    /// any grid.
+    pub fn postpone(&mut self)
+        ensures consistent { (p : Nonogram) (cells : List CellValue)
+            → AreConsistent p self.new cells }
+        ensures rows { length self.new ≡ length self.old }
+    {
+        join_each(&mut self.postponed, &self.rows);
+        let count = self.rows.len();
+        fill_with_none(&mut self.rows, count);
+    }
+
+    /// Reports whether `colour` is postponed at column `x` of row `y`.
+    pub fn is_postponed(&self, x: u16, y: usize, colour: Cell) -> bool
+        requires { x < W.WIDTH }
+    {
+        match self.postponed.get(y) {
+            None => false,
+            Some(row) => row.contains(x, colour),
+        }
     }
 
     /// Reports whether `colour` is recorded as consistent at column `x` of row `y`.
@@ -73,12 +102,20 @@ impl<W: LineBits> ConsistentColours<W> {
         self.rows[y].contains(x, colour)
     }
 
-    /// Returns the columns at which both colours are recorded as consistent in row `y`.
-    pub fn both_consistent(&self, y: usize) -> W
+    /// Returns the columns at which no colour is left to try in row `y`: both are recorded as
+    /// consistent or, unless `all`, postponed.
+    fn settled(&self, y: usize, all: bool) -> W
         requires { y < length self.now }
-        ensures { IsMaskOf (λ x. AreBothRecorded self.now x y) (W.bits result) }
+        ensures { IsTrue all → IsMaskOf (λ x. AreBothRecorded self.now x y) (W.bits result) }
     {
-        self.rows[y].in_both()
+        let row = &self.rows[y];
+        if all {
+            return row.in_both();
+        }
+        match self.postponed.get(y) {
+            None => row.in_both(),
+            Some(postponed) => row.joined(postponed).in_both(),
+        }
     }
 
     /// Records `colour`, which must not be refuted there, as consistent at column `x` of row `y`.
@@ -113,15 +150,21 @@ impl<W: LineBits> ConsistentColours<W> {
     }
 
     /// Returns the index of the first unknown cell in row order from index `from` on at which not
-    /// both colours are recorded as consistent, and that has at least `least`, 0 to 4, neighbours
-    /// that are known or outside the grid. `None` if there is none.
-    pub fn next_untried(&self, lines: &GridLines<W>, from: usize, least: usize) -> Option<usize>
+    /// both colours are recorded as consistent or, unless `all`, postponed, and that has at least
+    /// `least`, 0 to 4, neighbours that are known or outside the grid. `None` if there is none.
+    pub fn next_untried(
+        &self,
+        lines: &GridLines<W>,
+        from: usize,
+        least: usize,
+        all: bool,
+    ) -> Option<usize>
         requires height { lines.now.height ≡ length self.now }
         requires from { from ≤ length lines.now.cells }
         requires least { least ≤ 4 }
         ensures found { IfSome result (λ place.
             (from ≤ place) × IsUnknownCell lines.now.cells place) }
-        ensures passed { least ≡ 0
+        ensures passed { IsTrue all → least ≡ 0
             → AreRecordedFrom self.now lines.now.width lines.now.cells from result }
     {
         let width = lines.width();
@@ -129,7 +172,7 @@ impl<W: LineBits> ConsistentColours<W> {
         for y in from / width..lines.height() {
             let untried = lines
                 .cells_by_known_neighbours(y, least)
-                .difference(self.both_consistent(y));
+                .difference(self.settled(y, all));
             if let Some(x) = next_index(untried, column as u16) {
                 return Some(y * width + usize::from(x));
             }

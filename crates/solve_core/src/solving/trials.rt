@@ -1,5 +1,5 @@
 //! Trials of single cells, in one colour at a time.
-ghost use Rattle.std.specs.Prelude.{◌≡◌, ◌≢◌, false, ℕ, ◌<◌, ◌≤◌, Some, length, slice_set, slice_index_or, IsTrue};
+ghost use Rattle.std.specs.Prelude.{◌≡◌, ◌≢◌, false, true, ℕ, ◌<◌, ◌≤◌, Some, length, slice_set, slice_index_or, IsTrue};
 ghost use Rattle.grid_core.specs.Lines.{IsUnknownCell};
 ghost use Rattle.grid_core.specs.Nonogram.{lines_of};
 ghost use Rattle.line_core.specs.Order.{AtMost};
@@ -18,8 +18,8 @@ use line_core::LineBits;
 const TABLES_AFTER: u8 = 16;
 
 impl<W: LineBits> Workspace<W> {
-    /// Assigns `colour` to a cell whose other colour is refuted, and propagates. Clears the record
-    /// of consistent colours.
+    /// Assigns `colour` to a cell whose other colour is refuted, and propagates. Postpones the
+    /// colours that are recorded as consistent.
     fn assign_other_colour(&mut self, place: usize, colour: Cell) -> Effect
         requires can { CanTry self.old place colour }
         requires below { AtMost (Some (slice_set self.old.board.cells place colour))
@@ -31,7 +31,7 @@ impl<W: LineBits> Workspace<W> {
             return Effect::Dead;
         }
         // Colours that were consistent may be refuted now that more cells are known.
-        self.consistent.clear();
+        self.consistent.postpone();
         Effect::Changed
     }
 
@@ -75,45 +75,53 @@ impl<W: LineBits> Workspace<W> {
     }
 
     /// Reports whether `colour` is refuted at the unknown cell with index `place`. Runs no trial if
-    /// the colour is recorded as consistent, or inert on the cell's row and column.
-    fn is_refuted(&mut self, place: usize, colour: Cell) -> bool
+    /// the colour is recorded as consistent, or inert on the cell's row and column. Unless `all`, a
+    /// postponed colour isn't tried: false, though it may be refuted.
+    fn is_refuted(&mut self, place: usize, colour: Cell, all: bool) -> bool
         requires { CanTry self.old place colour }
-        ensures refuted { result
-            ≡ is_refuted (lines_of self.old.puzzle) self.old.board.cells place colour }
+        ensures refuted { IsTrue result
+            → is_refuted (lines_of self.old.puzzle) self.old.board.cells place colour ≡ true }
+        ensures all { IsTrue all
+            → result ≡ is_refuted (lines_of self.old.puzzle) self.old.board.cells place colour }
         ensures board { LeavesBoard self.old self.new }
     {
         let (x, y) = self.column_and_row(place);
-        if self.consistent.contains(x, usize::from(y), colour) {
+        let y = usize::from(y);
+        if self.consistent.contains(x, y, colour) {
+            return false;
+        }
+        if !all && self.consistent.is_postponed(x, y, colour) {
             return false;
         }
         !self.look(place, colour) && self.run_trial(place, colour)
     }
 
-    /// Tries both colours at an unknown cell. If one is refuted, assigns the other one and
-    /// propagates.
-    fn try_cell(&mut self, place: usize) -> Effect
+    /// Tries both colours at an unknown cell, but, unless `all`, no postponed one. If one is
+    /// refuted, assigns the other one and propagates.
+    fn try_cell(&mut self, place: usize, all: bool) -> Effect
         requires ready { IsReadyForTrial self.old }
         requires unknown { IsUnknownCell self.old.board.cells place }
         ensures step { Tries result self.old self.new }
-        ensures tried { result ≡ Unchanged
+        ensures tried { IsTrue all → result ≡ Unchanged
             → HasNoRefutedColour (lines_of self.old.puzzle) self.new.board.cells place }
     {
-        if self.is_refuted(place, Cell::Filled) {
+        if self.is_refuted(place, Cell::Filled, all) {
             return self.assign_other_colour(place, Cell::Blank);
         }
-        if self.is_refuted(place, Cell::Blank) {
+        if self.is_refuted(place, Cell::Blank, all) {
             return self.assign_other_colour(place, Cell::Filled);
         }
         Effect::Unchanged
     }
 
     /// Tries once, in row order, each unknown cell that has at least `least`, 0 to 4, neighbours
-    /// that are known or outside the grid, unless both of its colours are recorded as consistent.
-    fn try_each_cell(&mut self, least: usize) -> Effect
+    /// that are known or outside the grid, unless both of its colours are recorded as consistent
+    /// or, unless `all`, postponed.
+    fn try_each_cell(&mut self, least: usize, all: bool) -> Effect
         requires least { least ≤ 4 }
         requires ready { IsReadyForTrial self.old }
         ensures step { Tries result self.old self.new }
-        ensures tried { least ≡ 0 → result ≡ Unchanged →
+        ensures tried { IsTrue all → least ≡ 0 → result ≡ Unchanged →
             (k : ℕ) → k < length self.new.board.cells
             → HasNoRefutedColour (lines_of self.old.puzzle) self.new.board.cells k }
     {
@@ -121,9 +129,9 @@ impl<W: LineBits> Workspace<W> {
         let mut from = 0;
         while let Some(place) = self
             .consistent
-            .next_untried(self.board.lines(), from, least)
+            .next_untried(self.board.lines(), from, least, all)
         {
-            match self.try_cell(place) {
+            match self.try_cell(place, all) {
                 Effect::Dead => return Effect::Dead,
                 Effect::Unchanged => {}
                 Effect::Changed => effect = Effect::Changed,
@@ -134,23 +142,29 @@ impl<W: LineBits> Workspace<W> {
     }
 
     /// Runs trials until a pass over all unknown cells changes nothing. Returns whether the board
-    /// is alive. Each pass tries the cells with at least 3 known neighbours, since most refuted
-    /// colours are found there; a pass that changes nothing lowers that number by 1, down to 0.
+    /// is alive. Passes try the cells with at least 3 known neighbours, since most refuted colours
+    /// are found there. After one that changes nothing the next also tries postponed colours; if
+    /// that changes nothing either, the number of neighbours is lowered by 1, down to 0.
     fn try_to_fixpoint(&mut self) -> bool
         requires { IsReadyForTrial self.old }
         ensures { ClosesUnderTrials result self.old self.new }
     {
         let mut least = 3;
+        let mut all = false;
         loop {
-            match self.try_each_cell(least) {
+            match self.try_each_cell(least, all) {
                 Effect::Dead => return false,
+                Effect::Changed => all = false,
                 Effect::Unchanged => {
-                    if least == 0 {
+                    if !all {
+                        all = true;
+                    } else if least > 0 {
+                        least -= 1;
+                        all = false;
+                    } else {
                         return true;
                     }
-                    least -= 1;
                 }
-                Effect::Changed => {}
             }
         }
     }

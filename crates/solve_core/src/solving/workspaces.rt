@@ -58,26 +58,23 @@ impl<W: LineBits> Model for Workspace<W> {
 }
 
 impl<W: LineBits> Workspace<W> {
-    /// Allocates a workspace for `puzzle`. Fails with `NoMemory` if an allocation fails.
-    pub fn new(alloc: Global, puzzle: &Puzzle) -> Result<Workspace<W>, NoMemory>
-        requires { FitsIn W.WIDTH puzzle.now }
-        ensures { IfOk result (IsPreparedFor puzzle.now) }
-    {
-        Workspace {
+    /// Allocates a workspace for a puzzle of one blank cell. Fails with `NoMemory` if an allocation
+    /// fails.
+    pub fn new(alloc: Global) -> Result<Workspace<W>, NoMemory> {
+        Ok(Workspace {
             deducer: Deducer::new(alloc)?,
             board: Board::new(alloc)?,
             dirty: LineMask::none(),
             conflict_hints: ConflictHints::new(alloc),
             consistent: ConsistentColours::new(alloc)?,
             live_streak: 0,
-        }
-        .reset(alloc, puzzle)
+        })
     }
 
     /// Returns the workspace, prepared for `puzzle`, with a board whose cells are all unknown.
     /// Fails with `NoMemory` if an allocation fails.
     pub fn reset(self, alloc: Global, puzzle: &Puzzle) -> Result<Workspace<W>, NoMemory>
-        requires { FitsIn W.WIDTH puzzle.now }
+        requires { FitsIn W.WIDTH puzzle.now.rows puzzle.now.columns }
         ensures { IfOk result (IsPreparedFor puzzle.now) }
     {
         let Workspace {
@@ -91,7 +88,7 @@ impl<W: LineBits> Workspace<W> {
         let (width, height) = (puzzle.width(), puzzle.height());
         conflict_hints.reset(alloc, usize::from(width) * usize::from(height))?;
         Ok(Workspace {
-            deducer: deducer.reset(alloc, puzzle)?,
+            deducer: deducer.reset(alloc, puzzle.rows(), puzzle.columns())?,
             board: board.reset(alloc, width, height)?,
             dirty: LineMask::none(),
             conflict_hints,

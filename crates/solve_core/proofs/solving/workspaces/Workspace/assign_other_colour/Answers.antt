@@ -10,5 +10,6 @@ returns-then-not-assign_and_propagate-clause-step g c =
 pub returns-clause-step : goal.returns-clause-step
 returns-clause-step g c =
     let b = c.self.inside in
-    assigns-other c.args.self.now (state_of b.deducer b.board b.dirty b.consistent) c.args.place c.args.colour c.clear.new.self
-    c.requires.can.cell c.requires.below (rw (← c.self.view_is) at c.if-not-assign_and_propagate.ensures) (c.clear.ensures.consistent _ _)
+    assigns-other c.args.self.now (state_of b.deducer b.board b.dirty b.consistent) c.args.place c.args.colour c.postpone.new.self
+    c.requires.can.cell c.requires.below (rw (← c.self.view_is) at c.if-not-assign_and_propagate.ensures)
+    (c.postpone.ensures.consistent _ _)

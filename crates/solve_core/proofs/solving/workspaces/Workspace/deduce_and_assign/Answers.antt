@@ -1,7 +1,7 @@
 -- `Workspace::deduce_and_assign`: the deduced line is written, and the lines that cross it at a change are added to the
 -- worklist.
-use Rattle.solve_core.proofs.Names.{true≢false, ◌≡◌, ◌∙◌, ◌⊎◌, sym, refl, ap, subst, List, Cell, Axis, IsMaskOf, Has, IsChanged, mask_on, Some, same_without_change, deduced-above, length-deduced, state_of, rules}
-use Rattle.solve_core.proofs.WorkspaceSteps.{clue-within, deduces-line, deduces-nothing, line-deduced, workspace-later}
+use Rattle.solve_core.proofs.Names.{true≢false, ◌≡◌, ◌∙◌, ◌⊎◌, sym, refl, ap, subst, List, Cell, Axis, IsMaskOf, Has, IsChanged, mask_on, Some, same_without_change, length-deduced, state_of, rules}
+use Rattle.solve_core.proofs.WorkspaceSteps.{clue-within, deduced_assigns, deduces-line, deduces-nothing, line-deduced, workspace-later}
 use Rattle.solve_core.proofs.solving.workspaces.Workspace.deduce_and_assign.Goals as goal
 
 pub deduce-requires : goal.deduce-requires
@@ -35,17 +35,11 @@ returns-then-is_empty g c =
     ∙ sym given ∙ ap Some (sym same ∙ c.line-old.ensures.cells) in
     rw (← c.self.view_is, c.deduce.ensures.clues) (deduces-nothing (state_of b.deducer b.board b.dirty b.consistent) _ _ _ (refl, known))
 
-pub assign_line-requires-clause-fits : goal.assign_line-requires-clause-fits
-assign_line-requires-clause-fits g c = search (rules, length-deduced)
-
-pub assign_line-requires-clause-more : goal.assign_line-requires-clause-more
-assign_line-requires-clause-more g c = search (rules, deduced-above)
-
-pub assign_line-requires-clause-some : goal.assign_line-requires-clause-some
-assign_line-requires-clause-some g c = λ e.
-    let same = same_without_change c.line-old.result.now c.in-Some.new _
-    (length-deduced c.line-old.result.now c.in-Some.new _ (sym c.in-Some.is ∙ c.deduce.ensures.answer)) c.diff-changes.ensures.changes in
-    true≢false (sym (same.1 (c.line-old.ensures.cells ∙ sym e)) ∙ sym c.is_empty.ensures ∙ c.if-is_empty.false)
+pub assign_line-requires : goal.assign_line-requires
+assign_line-requires g c =
+    let l = rw (← c.self.view_is) at c.requires in
+    deduced_assigns c.self.inside.board _ _ _ _ _ _ l c.line-old.ensures.cells (sym c.in-Some.is ∙ c.deduce.ensures.answer)
+    c.diff-changes.ensures.changes (sym c.is_empty.ensures ∙ c.if-is_empty.false)
 
 pub invariant_of-self-2 : goal.invariant_of-self-2
 invariant_of-self-2 g c = rw c.deduce.ensures.clues (workspace-later _ _ _ _ _ _ _ c.self.invariant c.assign_line.ensures.trail)

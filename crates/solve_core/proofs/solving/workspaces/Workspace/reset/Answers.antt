@@ -1,6 +1,7 @@
 -- `Workspace::reset`: the parts, each prepared for the puzzle, are a workspace for it.
 use Rattle.solve_core.proofs.Names.{◌≡◌, ◌≤◌, ◌++◌, ℕ, List, drop, drop-append_seam, length, length-replicate, refl, subst, sym, take, take-append_seam, ColourMasks, IsNonogram, IsPreparedFor, IsWorkspace, LineMasks, Nonogram, TrailedGrid, clues_only, state_of, unknown_board, rules}
 use Rattle.grid_core.specs.Nonogram.{plain}
+use Rattle.solve_core.proofs.CacheLaws.{clues_fit}
 use Rattle.solve_core.proofs.solving.workspaces.Workspace.reset.Goals as goal
 
 module _ (p : Nonogram) (is : IsNonogram p) (clues : List (List ℕ)) (board : TrailedGrid) (dirty : LineMasks)
@@ -29,12 +30,22 @@ module _ (p : Nonogram) (is : IsNonogram p) (clues : List (List ℕ)) (board : T
         rows = rw board_is long;
       }
 
+pub reset-requires-2-clause-size : goal.reset-requires-2-clause-size
+reset-requires-2-clause-size g c =
+    let is = c.width-width.ensures.puzzle in
+    rw (c.rows.ensures.rows, c.columns.ensures.columns, is.clues.0, is.clues.1) is.size
+
+pub reset-requires-2-clause-clues : goal.reset-requires-2-clause-clues
+reset-requires-2-clause-clues g c =
+    rw (c.rows.ensures.rows, c.columns.ensures.columns) (clues_fit _ c.args.puzzle.now c.width-width.ensures.puzzle c.requires)
+
 pub invariant_of-result : goal.invariant_of-result
 invariant_of-result g c =
     let p = c.args.puzzle.now in
     workspace p c.width-width.ensures.puzzle _ _ _ _ (search (rules, c.in_ok-reset-2.ensures))
-    (search (rules, c.in_ok-reset-3.ensures, c.width-width.ensures.width, c.height-height.ensures)) _ c.requires.rows_short
-    c.requires.columns_short (search (rules, c.in_ok-reset-4.ensures, c.height-height.ensures))
+    (search (rules, c.in_ok-reset-3.ensures, c.width-width.ensures.width, c.height-height.ensures))
+    _ (rw c.width-width.ensures.puzzle.clues.1 at c.requires.width_fits)
+    (rw c.width-width.ensures.puzzle.clues.0 at c.requires.height_fits) (search (rules, c.in_ok-reset-4.ensures, c.height-height.ensures))
 
 pub returns : goal.returns
 returns g c =

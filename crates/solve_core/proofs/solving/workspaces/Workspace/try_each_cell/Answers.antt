@@ -26,9 +26,9 @@ loop-place-preserved g c =
             step = rw w.effect-is (tries-then _ _ _ _ _ kept.alive kept.step step);
             alive = rw w.effect-is kept.alive;
             from = rw step.effect_is (omega (arith, place.0));
-            tried = λ e u. rw (step.puzzle, step.effect_is) (tried-more s c.loop-place.from c.in-Some.place ready place.0
-                (kept.tried e (sym w.effect-is ∙ u)) (rw (lines, consistent, wide) at (c.in-Some.ensures.passed e))
-                (rw step.effect_is at (w.in-Unchanged.ensures.tried refl)));
+            tried = λ a e u. rw (step.puzzle, step.effect_is) (tried-more s c.loop-place.from c.in-Some.place ready place.0
+                (kept.tried a e (sym w.effect-is ∙ u)) (rw (lines, consistent, wide) at (c.in-Some.ensures.passed a e))
+                (rw step.effect_is at (w.in-Unchanged.ensures.tried a refl)));
           })
       | in-Changed w ↦ (
           let step = w.in-Changed.ensures.step in
@@ -39,17 +39,17 @@ loop-place-preserved g c =
             step = rw w.effect-is (tries-then _ _ _ _ _ kept.alive kept.step step);
             alive = λ e. cc;
             from = omega (arith, place.0, long);
-            tried = λ e u. absurd (not_unchanged (sym w.effect-is ∙ u));
+            tried = λ a e u. absurd (not_unchanged (sym w.effect-is ∙ u));
           })
     ]
 
 pub returns-clause-tried : goal.returns-clause-tried
-returns-clause-tried g c = λ e u.
+returns-clause-tried g c = λ a e u.
     let kept = c.loop-place.invariant in
     let s = c.loop-place.self in
     let lines = c.lines.ensures.lines ∙ ap (λ (t : WorkspaceState). grid_of_board t.board) c.self.view_is in
     let consistent = ap (λ (t : WorkspaceState). t.consistent) c.self.view_is in
     let wide : s.board.width ≡ s.puzzle.width =
     sym (ap (λ (t : WorkspaceState). t.board.width) c.self.view_is) ∙ ap (λ (t : WorkspaceState). t.puzzle.width) c.self.view_is in
-    rw (← kept.step.puzzle) (tried-rest s c.loop-place.from (kept.step.ready kept.alive) (kept.tried e u)
-    (rw (lines, consistent, wide) at (c.in_default.ensures.passed e)))
+    rw (← kept.step.puzzle) (tried-rest s c.loop-place.from (kept.step.ready kept.alive) (kept.tried a e u)
+    (rw (lines, consistent, wide) at (c.in_default.ensures.passed a e)))
