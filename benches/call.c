@@ -1,9 +1,11 @@
-/* Solves the puzzle of a file a number of times by the library, and prints the mean wall time of a call in seconds.
+/* Solves the puzzle of a file, or closes its grid of 10 by 10 unknown cells by lines, a number of times by the library, and
+ * prints the mean wall time of a call in seconds.
  *
- * Usage: call FILE TIMES */
+ * Usage: call FILE TIMES solve|close */
 #define _POSIX_C_SOURCE 199309L
 #include "nonograde.h"
 
+#include <stdbool.h>
 #include <stdio.h>
 #include <stdlib.h>
 #include <string.h>
@@ -16,21 +18,25 @@ static double now(void) {
 }
 
 int main(int count, char **words) {
-    static uint8_t text[65536], room[65536];
-    FILE *file = count == 3 ? fopen(words[1], "rb") : NULL;
+    static uint8_t text[65536], cells[100], buffer[65536];
+    FILE *file = count == 4 ? fopen(words[1], "rb") : NULL;
     if (!file) {
-        fputs("usage: call FILE TIMES\n", stderr);
+        fputs("usage: call FILE TIMES solve|close\n", stderr);
         return 2;
     }
+    bool closes = strcmp(words[3], "close") == 0;
+    memset(cells, '?', sizeof cells);
     size_t length = fread(text, 1, sizeof text, file);
     fclose(file);
     long times = atol(words[2]);
     double begun = now();
     for (long k = 0; k < times; k++) {
-        nonograde_reply reply = nonograde_solve((const uint8_t *)words[1], strlen(words[1]), text, length, 1000,
-                                                NONOGRADE_FIRST, room, sizeof room);
+        nonograde_reply reply =
+            closes ? nonograde_close(text, length, NONOGRADE_NON, cells, sizeof cells, NONOGRADE_BY_LINES, buffer, sizeof buffer)
+                   : nonograde_solve((const uint8_t *)words[1], strlen(words[1]), text, length, NONOGRADE_NON, 1000,
+                                     NONOGRADE_FIRST, buffer, sizeof buffer);
         if (reply.status != NONOGRADE_OK) {
-            fprintf(stderr, "call: %.*s\n", (int)reply.length, (const char *)room);
+            fprintf(stderr, "call: %.*s\n", (int)reply.length, (const char *)buffer);
             return 1;
         }
     }

@@ -80,22 +80,34 @@ def start(program):
 
 
 def library(program, made):
-    """A call of the library beside a process that does the same."""
+    """Calls of the library beside a process that solves, and beside a start of the program."""
     with tempfile.TemporaryDirectory() as folder:
         caller, puzzle = Path(folder) / "call", small_puzzle(folder)
         sources = [TOP / "benches/call.c", f"{made}/{ARCHIVE}", "-lpthread"]
         subprocess.run(["cc", "-std=c11", "-O1", "-I", TOP / "include", "-o", caller, *sources], check=True)
 
-        def call(times):
-            return [caller, puzzle, str(times)]
+        def call(times, what):
+            return [caller, puzzle, str(times), what]
 
-        [taken] = least(ROUNDS, lambda: float(printed(call(CALLS))))
-        instructions = (count(call(1001)) - count(call(1))) / 1000
-        words = [program, "solve", puzzle]
-        process, instructions_of_process = time_of(words), count(words)
-    rows = [
-        ["a call of `nonograde_solve`", microseconds(taken), f"{instructions:,.0f}"],
-        ["a process, `nonograde solve`", microseconds(process), f"{instructions_of_process:,}"],
-        ["ratio", figure(process / taken), figure(instructions_of_process / instructions)],
-    ]
+        def measured(what):
+            [taken] = least(ROUNDS, lambda: float(printed(call(CALLS, what))))
+            return taken, (count(call(1001, what)) - count(call(1, what))) / 1000
+
+        def process(*words):
+            return time_of([program, *words]), count([program, *words])
+
+        costs = {
+            "a call of `nonograde_solve`": measured("solve"),
+            "a process, `nonograde solve`": process("solve", puzzle),
+            "a call of `nonograde_close` by lines, no cell known": measured("close"),
+            "a start, `nonograde --version`": process("--version"),
+        }
+    rows = [[name, microseconds(taken), f"{instructions:,.0f}"] for name, (taken, instructions) in costs.items()]
+    solved, solving, closed, started = costs.values()
+    ratios = {
+        "the process over the call that solves": (solving, solved),
+        "the start over the call that closes": (started, closed),
+    }
+    for name, (dear, cheap) in ratios.items():
+        rows.append([name, *(figure(more / less) for more, less in zip(dear, cheap))])
     return [Table(["a picture of 10 by 10", "microseconds", "instructions"], rows)]

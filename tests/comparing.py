@@ -10,11 +10,10 @@ MAX_FAILURES = 20
 TIME_LIMIT = 600  # seconds for one run of the program
 FORMATS = ("non", "mk", "nin")  # in the order of the numbers of nonograde.h
 PICKS = ("first", "most")
-ROOM_TOO_SMALL = 1
+BUFFER_TOO_SMALL = 1
 
 # The status that nonograde.h has for each fault.
 STATUSES = {
-    "UnknownFormat": 3,
     "TooLong": 4,
     "NoSize": 5,
     "BadSize": 6,
@@ -89,13 +88,27 @@ class Reply(ctypes.Structure):
     _fields_ = [("status", ctypes.c_uint32), ("length", ctypes.c_size_t)]
 
 
+def format_of(name):
+    """Returns the number of the format that a name's ending determines, or None if it is that of no format."""
+    dot, ending = name.rpartition(b".")[1:]
+    word = ending.lower().decode("latin-1")
+    return FORMATS.index(word) if dot and word in FORMATS else None
+
+
 class Library:
-    """The shared library in a folder. Names and texts are bytes. Each call returns its answer, or as a str the fault."""
+    """The shared library in a folder. Names and texts are bytes. Each call returns its answer, or as a str the fault. The
+    library takes formats as numbers: a name without the ending of a format is refused here, as the program does."""
 
     def __init__(self, folder):
         library = ctypes.CDLL(os.path.abspath(os.path.join(folder, "libnonograde.so")))
         text, number = [ctypes.c_char_p, ctypes.c_size_t], ctypes.c_uint32
-        calls = {"solve": [*text, *text, number, number], "lines": [*text, *text], "convert": [*text, *text, number], "version": []}
+        calls = {
+            "solve": [*text, *text, number, number, number],
+            "report": [*text, *text, number, number, number],
+            "lines": [*text, number],
+            "convert": [*text, number, number],
+            "version": [],
+        }
         self._calls = {}
         for name, words in calls.items():
             call = getattr(library, f"nonograde_{name}")
@@ -105,15 +118,19 @@ class Library:
 
     def solve(self, name, text, guesses, pick):
         """Returns what `nonograde_solve` answers."""
-        return self._answer("solve", name, len(name), text, len(text), guesses, PICKS.index(pick))
+        return self._answer_on(name, "solve", name, len(name), text, len(text), format_of(name), guesses, PICKS.index(pick))
+
+    def report(self, name, text, guesses, pick):
+        """Returns what `nonograde_report` answers."""
+        return self._answer_on(name, "report", name, len(name), text, len(text), format_of(name), guesses, PICKS.index(pick))
 
     def lines(self, name, text):
         """Returns what `nonograde_lines` answers."""
-        return self._answer("lines", name, len(name), text, len(text))
+        return self._answer_on(name, "lines", text, len(text), format_of(name))
 
-    def convert(self, name, text, format):
+    def convert(self, name, text, to):
         """Returns what `nonograde_convert` answers."""
-        return self._answer("convert", name, len(name), text, len(text), FORMATS.index(format))
+        return self._answer_on(name, "convert", text, len(text), format_of(name), FORMATS.index(to))
 
     def version(self):
         """Returns what `nonograde_version` answers."""
@@ -122,9 +139,12 @@ class Library:
     def _resize(self, capacity):
         self._capacity, self._buffer = capacity, ctypes.create_string_buffer(capacity)
 
+    def _answer_on(self, name, call, *words):
+        return "UnknownFormat" if format_of(name) is None else self._answer(call, *words)
+
     def _answer(self, call, *words):
         reply = self._calls[call](*words, self._buffer, self._capacity)
-        if reply.status == ROOM_TOO_SMALL and reply.length > self._capacity:
+        if reply.status == BUFFER_TOO_SMALL and reply.length > self._capacity:
             self._resize(reply.length)
             reply = self._calls[call](*words, self._buffer, self._capacity)
         if reply.length > self._capacity:

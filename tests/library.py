@@ -4,7 +4,8 @@
 Usage: library.py PROGRAM TOP
 
 PROGRAM is the program, TOP the top of the repository. Compares each field of each result for the puzzles of `puzzles/`, in
-each format, and for 500 puzzles made here; `nonograde.h` with the crate; and what wrong arguments raise. The package is the
+each format, and for 500 puzzles made here; `close` with the second implementation in `solving.py` on 3,000 made grids;
+`nonograde.h` with the crate; and what wrong arguments raise. The package is the
 one that Python imports. Its last line is `N passed, M failed`.
 """
 
@@ -29,11 +30,15 @@ from pathlib import Path
 from xml.etree import ElementTree
 
 import nonograde
+import solving
 from comparing import Program, Results, TooManyFailures
-from header import compare_header, status_comments
+from header import compare_header, enum_of_header, status_comments
 
 MADE = 500
+CLOSED = 3000
 TWO = "2 2\n1\n1\n1\n1\n"
+ENDS = ("\n", "\r\n")
+NO_FORMAT = "format is 'txt', and has to be one of non, mk, nin"
 LATIN_1 = b'title "Caf\xe9"\nwidth 1\nheight 1\n\nrows\n1\n\ncolumns\n1\n'
 
 
@@ -113,12 +118,28 @@ def compare_solved(results, name, wanted, given):
     results.compare("str", name, "\n\n".join("\n".join(rows) for rows in solutions), str(given))
 
 
+def compare_graded(results, name, wanted, given):
+    """Compares a result of `grade` with what the program prints for `solve`."""
+    wanted = solved_of(wanted)
+    if isinstance(wanted, dict):
+        del wanted["solutions"]
+    results.compare("grade", name, wanted, given._asdict() if isinstance(given, nonograde.Graded) else given)
+
+
 def compare_lines(results, name, wanted, given):
     """Compares a result of `lines` with what the program prints."""
     if isinstance(wanted, bytes) and isinstance(given, nonograde.Lines):
         wanted = wanted.decode()
         given = f"{given.word} {given.known}\n{given}\n".replace("\n\n", "\n")
     results.compare("lines", name, wanted, given)
+
+
+def report_of(printed):
+    """What `survey --format json` prints of its only entry, as the result of `report`: a fault if that is refused."""
+    members = json.loads(printed.splitlines()[0])
+    if members["fault"] is None:
+        return members
+    return members["fault"] if members["fault_line"] is None else f"{members['fault']}:{members['fault_line']}"
 
 
 class Compared:
@@ -132,8 +153,17 @@ class Compared:
         options = [word for key, value in settings.items() for word in (f"--{key}", str(value))]
         given = given_by(nonograde.solve, text, Path(name).suffix, **settings)
         body = text.encode() if isinstance(text, str) else text
-        compare_solved(self.results, f"{name} {settings}", self.program.printed_of(name, body, "solve", *options), given)
+        printed = self.program.printed_of(name, body, "solve", *options)
+        compare_solved(self.results, f"{name} {settings}", printed, given)
+        compare_graded(self.results, f"{name} {settings}", printed, given_by(nonograde.grade, text, Path(name).suffix, **settings))
+        self.report(name, text, options, **settings)
         return given
+
+    def report(self, name, text, options, **settings):
+        """Compares `report` on a file that was written."""
+        wanted = report_of(self.program.printed("survey", "--format", "json", *options, name))
+        given = given_by(nonograde.report, text, Path(name).suffix, name=name, **settings)
+        self.results.compare("report", f"{name} {settings}", wanted, given)
 
     def all_calls(self, name, body):
         """Compares each call on a file of this name, and returns its conversions by format."""
@@ -170,6 +200,56 @@ def compare_made(compared):
         compared.results.compare("solve_clues", text_of(rows, columns), found, nonograde.solve_clues(rows, columns))
 
 
+def made_grid(source, rows):
+    """A grid of the size of a solution: cells of the solution, one of them perhaps changed, or any cells."""
+    if source.random() < 0.2:
+        return ["".join(source.choice("#.???") for _ in row) for row in rows]
+    share = source.choice((0, 0.3, 0.6, 0.9, 1))
+    grid = ["".join("?" if source.random() < share else cell for cell in row) for row in rows]
+    if source.random() < 0.3:
+        y, x = source.randrange(len(rows)), source.randrange(len(rows[0]))
+        grid[y] = grid[y][:x] + source.choice("#.") + grid[y][x + 1 :]
+    return grid
+
+
+def closed_of(grid):
+    """A grid that the second implementation closed, None if it is dead, as the result of `close`."""
+    if grid is None:
+        return nonograde.Lines("none", ())
+    return nonograde.Lines("one" if solving.is_full(grid) else "open", grid)
+
+
+def compare_closed(results):
+    """Compares `close` with the second implementation on made grids, which are given in each form, and checks that each of
+    its answers is seen."""
+    source, seen = random.Random(83), set()
+    closures = {"lines": solving.closure, "trials": solving.trials}
+    for _ in range(CLOSED):
+        width, height = source.randint(1, 5), source.randint(1, 5)
+        share = source.choice((0.3, 0.5, 0.7))
+        rows = ["".join("#" if source.random() < share else "." for _ in range(width)) for _ in range(height)]
+        puzzle = solving.Puzzle(width, height, *(tuple(map(solving.runs, lines)) for lines in (rows, solving.transposed(rows))))
+        grid = made_grid(source, rows)
+        forms = [grid, "".join(grid), "\n".join(grid), "\r\n".join(grid), "".join(row + source.choice(ENDS) for row in grid)]
+        text, given = solving.mk(puzzle), source.choice(forms)
+        wanted = {by: closed_of(close(puzzle, tuple(grid))) for by, close in closures.items()}
+        found = {by: given_by(nonograde.close, text, "mk", given, by) for by in closures}
+        results.compare("close", (text, given), wanted, found)
+        seen |= {(by, closed.word) for by, closed in wanted.items()} | {wanted["lines"] == wanted["trials"]}
+    words = {(by, word) for by in closures for word in ("one", "open", "none")}
+    results.compare("the closed grids", "seen", words | {True, False}, seen)
+
+
+def check_cells(results):
+    """Checks that cells that don't fit a puzzle are refused."""
+    for rows in (["?"], ["???", "?"], ["?", "???"], ["??", "??", "??"], ["??", "??", ""], ["??", "", "??"], ["??", "?x"], []):
+        results.compare("close", rows, "BadCells", given_by(nonograde.close, TWO, "nin", rows))
+    for grid in ("", "?", "?????", "???x", "??\r??", "??\n??\n\n", "\n??\n??", "??\n??\r", "??\n\r??", "?\n???", b"\xff???"):
+        results.compare("close", grid, "BadCells", given_by(nonograde.close, TWO, "nin", grid))
+    for grid in (iter(["#?", "??"]), b"#???", bytearray(b"#???"), memoryview(b"#?\n??")):
+        results.compare("close", type(grid), ("#.", ".#"), nonograde.close(TWO, "nin", grid).rows)
+
+
 def compare_settings(compared):
     """Compares `solve` under each setting, and checks that each does something."""
     source = random.Random(5)
@@ -188,26 +268,64 @@ def compare_settings(compared):
     compared.results.compare("settings that do nothing", f"of {len(puzzles)} puzzles", [], idle)
 
 
+def many_rows(width, height):
+    """A puzzle in .nin with two solutions, whose first two rows have a filled cell."""
+    return text_of([[1], [1]] + [[]] * (height - 2), [[1], [1]] + [[]] * (width - 2))
+
+
+def long_texts():
+    """A puzzle in .non whose texts are too long for the first buffer."""
+    notes = "".join(f'{key} "{key[0] * 60000}"\n' for key in ("catalogue", "title", "by", "copyright"))
+    return f"{notes}width 1\nheight 1\n\nrows\n1\n\ncolumns\n1\n"
+
+
 def compare_buffers(compared):
-    """Compares calls whose first buffer has each size around the answer's, and on a puzzle whose answer is long."""
-    usual = nonograde.FIRST_BUFFER
+    """Compares calls whose first buffer has each size around the answer's, that grids take one call, and that long texts take
+    two."""
+    usual = nonograde._first_buffer
     calls = [(nonograde.solve, TWO, "nin"), (nonograde.convert, TWO, "nin", "mk"), (nonograde.version,)]
     wanted = [given_by(*call) for call in calls]
     for size in (1, 2, 4, 5, 6, *range(50, 70)):
-        nonograde.FIRST_BUFFER = size
+        nonograde._first_buffer = size
         given = [given_by(*call) for call in calls]
         compared.results.compare("a first buffer of", size, wanted, given)
-    nonograde.FIRST_BUFFER = usual
-    wide = text_of([[100]] * 90, [[90]] * 100)
-    compared.solve("wide.nin", wide)
-    compare_lines(compared.results, "wide.nin", compared.program.printed("lines", "wide.nin"), nonograde.lines(wide, "nin"))
+    nonograde._first_buffer = usual
+    for size in ((256, 256), (2, 256), (256, 2)):
+        text = many_rows(*size)
+        compared.solve("wide.nin", text)
+        compare_lines(compared.results, "wide.nin", compared.program.printed("lines", "wide.nin"), nonograde.lines(text, "nin"))
+        nonograde._first_buffer = nonograde._library.nonograde_buffer_size(*size)
+        for call in (nonograde.solve, nonograde.lines):
+            compared.results.compare("how often the library is called", (call.__name__, size), 1, times_called(call, text, "nin"))
+        nonograde._first_buffer = usual
+    text = long_texts()
+    wanted = compared.program.printed_of("long.non", text.encode(), "convert", "--to", "non").decode()
+    compared.results.compare("convert", "long.non", wanted, nonograde.convert(text, "non", "non"))
+    compared.results.compare("how often the library is called", "long.non", 2, times_called(nonograde.convert, text, "non", "non"))
+
+
+def times_called(call, *words):
+    """How often a call of the package calls the library."""
+    count, name = 0, f"nonograde_{call.__name__}"
+    of_library = getattr(nonograde._library, name)
+
+    def counted(*arguments):
+        nonlocal count
+        count += 1
+        return of_library(*arguments)
+
+    setattr(nonograde._library, name, counted)
+    try:
+        call(*words)
+    finally:
+        setattr(nonograde._library, name, of_library)
+    return count
 
 
 def compare_faults(compared):
     """Compares the faults of texts with those of the program, and their sentences with `nonograde.h`."""
     clues = "rows\n1\ncolumns\n1\n"
     texts = {
-        "a.txt": TWO,
         "b.nin": "",
         "c.nin": "1 257\n",
         "d.non": "width 1\nheight 1\n",
@@ -223,18 +341,23 @@ def compare_faults(compared):
         compared.solve(name, text)
         wanted = given_by(nonograde.solve, text, Path(name).suffix)
         compared.results.compare("lines", name, wanted, given_by(nonograde.lines, text, Path(name).suffix))
+        compared.results.compare("close", name, wanted, given_by(nonograde.close, text, Path(name).suffix, "x"))
         words.add(str(wanted).partition(":")[0])
+    words.add(given_by(nonograde.close, TWO, "nin", "x"))
     flat = "1 2\n1\n#\n1\n2\n"
     compared.program.write("flat.mk", flat.encode())
     wanted = compared.program.printed("convert", "--to", "nin", "flat.mk")
     compared.results.compare("convert", "flat.mk", wanted, given_by(nonograde.convert, flat, "mk", "nin"))
-    others = {"RoomTooSmall", "BadSetting", "NoMemory"}
+    others = {"BufferTooSmall", "BadSetting", "UnknownFormat", "NoMemory"}
     compared.results.compare("the faults", "seen", set(nonograde.SENTENCES) - others, words | {wanted})
 
 
 def check_faults(results, header):
     """Checks what a fault says, and what wrong arguments raise."""
-    results.compare("the sentences", "of nonograde.h", status_comments(header), nonograde.SENTENCES)
+    results.compare("the sentences", "of nonograde.h", [*status_comments(header).items()], [*nonograde.SENTENCES.items()])
+    for name, words in (("verdict", nonograde.VERDICTS), ("grade", nonograde.GRADES), ("goal", nonograde.GOALS)):
+        numbers = {word.upper(): number for number, word in enumerate(words)}
+        results.compare("the words", f"of the {name}s of nonograde.h", enum_of_header(header, name), numbers)
     fault = nonograde.Fault("BadNumber", 3)
     results.compare("a fault", "is a ValueError", True, isinstance(fault, ValueError))
     for one in (fault, nonograde.Fault("NoSize"), nonograde.Fault("BadGoal", 7), nonograde.Fault("BadSetting", None, "x is odd")):
@@ -244,23 +367,36 @@ def check_faults(results, header):
         results.compare("a fault", "pickled", facts, again)
     results.compare("a fault", "of a line", "line 7: the goal doesn't fit the size", nonograde.Fault("BadGoal", 7).sentence)
     solve, lines, convert, solve_clues = nonograde.solve, nonograde.lines, nonograde.convert, nonograde.solve_clues
+    grade, report, close = nonograde.grade, nonograde.report, nonograde.close
     wrong_types = {
         "text": [
             *((solve, text, "nin") for text in (5, [1], None, Path("a.nin"))),
+            (grade, 5, "nin"),
+            (report, 5, "nin"),
             (lines, None, "nin"),
+            (close, 5, "nin", "????"),
             (convert, 5, "nin", "mk"),
         ],
-        "format": [(solve, TWO, 5), (lines, TWO, None), (convert, TWO, b"nin", "mk")],
+        "format": [(solve, TWO, 5), (lines, TWO, None), (close, TWO, 5, "????"), (convert, TWO, b"nin", "mk")],
+        "grid": [(close, TWO, "nin", grid) for grid in (5, None, [1], ["??", None], [b"??", b"??"])],
+        "by": [(close, TWO, "nin", "????", by) for by in (0, None)],
         "to": [(convert, TWO, "nin", 1)],
         "guesses": [(solve, TWO, "nin", limit) for limit in (1.5, "5", None)],
         "pick": [(solve, TWO, "nin", 9, rule) for rule in (0, None)],
+        "name": [(report, TWO, "nin", 9, "first", name) for name in (0, None)],
         "rows": [(solve_clues, clues, [[1]]) for clues in (5, [1], ["1"], [[1.5]])],
         "columns": [(solve_clues, [[1]], clues) for clues in (None, [[None]])],
     }
     limits = (-1, nonograde.MAX_GUESSES + 1, 2**32, 2**32 + 1, 2**64, -(2**32))
     wrong_values = {
-        "guesses": [(solve, TWO, "nin", limit) for limit in limits],
-        "pick": [(solve, TWO, "nin", 9, rule) for rule in ("last", "")],
+        "guesses": [(call, TWO, "nin", limit) for call in (solve, grade, report) for limit in limits],
+        "pick": [(call, TWO, "nin", 9, rule) for call in (solve, grade, report) for rule in ("last", "")],
+        "format": [
+            *((call, TWO, format) for call in (solve, grade, report, lines) for format in ("txt", "", "a.nin")),
+            (convert, TWO, "txt", "mk"),
+            (close, TWO, "txt", "????"),
+        ],
+        "by": [(close, TWO, "nin", "????", by) for by in ("search", "", "line")],
         "to": [(convert, TWO, "nin", format) for format in ("txt", "")],
     }
     for type, cases in ((TypeError, wrong_types), (nonograde.Fault, wrong_values)):
@@ -302,7 +438,7 @@ def check_bytes(compared):
 
 def check_results(results):
     """Checks that results can't be changed, and have the hash of their fields."""
-    for call, field in ((nonograde.solve, "verdict"), (nonograde.lines, "word")):
+    for call, field in ((nonograde.solve, "verdict"), (nonograde.grade, "verdict"), (nonograde.lines, "word")):
         one, same = call(TWO, "nin"), call(TWO, "nin")
         results.compare("results", call.__name__, (True, 1), (one == same, len({one, same})))
         raised = raised_by(setattr, one, field, "none")[0]
@@ -382,7 +518,7 @@ def check_server(results, handler):
         for path, text, wanted in (
             ("nin", TWO, (200, {"verdict": "several", "grade": "search", "solutions": [["#.", ".#"], [".#", "#."]]})),
             ("nin", "1 1\n1\nx\n", (400, {"word": "BadNumber", "line": 3, "sentence": "line 3 is no clue"})),
-            ("txt", TWO, (400, {"word": "UnknownFormat", "line": None, "sentence": nonograde.SENTENCES["UnknownFormat"]})),
+            ("txt", TWO, (400, {"word": "BadSetting", "line": None, "sentence": NO_FORMAT})),
         ):
             results.compare("the server", path, wanted, answer_of(f"http://127.0.0.1:{server.server_port}/puzzle.{path}", text))
     finally:
@@ -413,6 +549,8 @@ def main(program, top):
         check_faults(results, header)
         check_words(results)
         check_results(results)
+        check_cells(results)
+        compare_closed(results)
         check_pictures(results)
         check_bytes(compared)
         compare_buffers(compared)

@@ -20,6 +20,7 @@ import io
 import json
 import os
 import random
+import re
 import sqlite3
 import subprocess
 import sys
@@ -195,6 +196,9 @@ class Surveys:
             answer = library.solve(name, text, options.guesses, options.pick)
             wanted = text_of({**members, "number": 1}) if members["verdict"] else fault_of(members)
             self.results.compare("solve by the library", name, wanted, decoded(answer))
+            answer = library.report(name, text, options.guesses, options.pick)
+            wanted = first_entry(line.decode()) if members["verdict"] else fault_of(members)
+            self.results.compare("report by the library", name, wanted, decoded(answer))
             answer = library.convert(name, text, "non")
             wanted = non_of(members) if members["verdict"] else fault_of(members)
             self.results.compare("convert by the library", name, wanted, decoded(answer))
@@ -250,6 +254,15 @@ def imported(results, what, printed):
 def decoded(answer):
     """Returns an answer of the library as text, in which bytes that aren't UTF-8 are replaced. A fault is a text already."""
     return answer.decode("utf-8", "replace") if isinstance(answer, bytes) else answer
+
+
+def first_entry(line):
+    """Returns the line of JSON of an entry as if that were the first.
+
+    >>> first_entry('{"name":"number","number":12,"rows":[[1]]}')
+    '{"name":"number","number":1,"rows":[[1]]}\\n'
+    """
+    return re.sub(r'(?<=,"number":)\d+(?=,"rows":)', "1", line) + "\n"
 
 
 def fault_of(members):

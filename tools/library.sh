@@ -63,7 +63,7 @@ call_from_c() {
 # Compares what the shared library exports and is called with what its header declares.
 check_exports() {
     local declared exported
-    declared=$(grep -oE '\<nonograde_[a-z]+\(' "$folder/nonograde.h" | tr -d '(' | sort -u)
+    declared=$(grep -oE '\<nonograde_[a-z_]+\(' "$folder/nonograde.h" | tr -d '(' | sort -u)
     exported=$(nm -D --defined-only "$folder/libnonograde.so.0" | awk '{ print $3 }' | sort)
     count 'the exports of the shared library' "$(diff <(echo "$declared") <(echo "$exported"))"
     count 'the SONAME' "$(objdump -p "$folder/libnonograde.so.0" | grep -q '^ *SONAME *libnonograde.so.0$' || echo 'it is another')"

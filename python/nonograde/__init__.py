@@ -1,4 +1,4 @@
-"""nonograde for Python: black-and-white nonograms solved, closed by line logic, and converted.
+"""nonograde for Python: black-and-white nonograms graded and solved, closed by line logic, and converted.
 
 The shared library `libnonograde.so` is looked for in the folder that NONOGRADE_LIBRARY names, else beside this file.
 
@@ -16,6 +16,7 @@ The shared library `libnonograde.so` is looked for in the folder that NONOGRADE_
 from __future__ import annotations
 
 import ctypes
+import json
 import operator
 import os
 from collections.abc import Callable, Collection, Iterable
@@ -24,20 +25,27 @@ from pathlib import Path
 from typing import Any, NamedTuple, NoReturn, SupportsIndex, TypeVar
 
 __all__ = [
-    "FORMATS", "MAX_GUESSES", "PICKS", "Fault", "Lines", "Solved", "Text",
-    "convert", "lines", "read", "solve", "solve_clues", "version",
+    "CLOSINGS", "FORMATS", "MAX_GUESSES", "PICKS", "Fault", "Graded", "Lines", "Solved", "Text",
+    "close", "convert", "grade", "lines", "read", "report", "solve", "solve_clues", "version",
 ]
 
 FORMATS = ("non", "mk", "nin")
 PICKS = ("first", "most")
+CLOSINGS = ("lines", "trials")
 MAX_GUESSES = 1_000_000
-ROOM_TOO_SMALL = 1
-FIRST_BUFFER = 4096
+MAX_SIDE = 256
+BUFFER_TOO_SMALL = 1
 
+# The words of the library's numbers.
+VERDICTS = ("none", "one", "several", "unsettled")
+GRADES = ("line", "trials", "search")
+GOALS = ("absent", "meets", "misses")
+
+# The faults in the order of the numbers of their statuses, from 1 on, each with its sentence.
 SENTENCES = {
-    "RoomTooSmall": "the answer has more bytes than the buffer",
+    "BufferTooSmall": "the answer has more bytes than the buffer",
     "BadSetting": "a setting is out of its range",
-    "UnknownFormat": "the name doesn't end in .non, .mk or .nin",
+    "UnknownFormat": "not returned: another format is a bad setting",
     "TooLong": "the text has more than 1,048,576 bytes",
     "NoSize": "the text has no size",
     "BadSize": "the width or the height is no number from 1 to 256",
@@ -49,7 +57,10 @@ SENTENCES = {
     "BadGoal": "the goal doesn't fit the size",
     "Ambiguous": "in .nin the text would be read with width and height exchanged",
     "NoMemory": "an allocation failed",
+    "BadCells": "the cells don't fit the puzzle",
 }
+
+STATUSES = ("Ok", *SENTENCES)
 
 AnyText = TypeVar("AnyText", str, bytes)
 Row = Iterable[SupportsIndex]
@@ -129,10 +140,23 @@ class Solved:
         return _svg(self.rows, self.differing)
 
 
-class Lines(NamedTuple):
-    """What line logic knows of a puzzle. `str` gives the rows, a line for each."""
+class Graded(NamedTuple):
+    """What grading finds of a puzzle, without its solutions. The fields are those of `Solved`."""
 
-    word: str  # one if all cells are known, open if not, none if line logic finds a contradiction
+    width: int
+    height: int
+    verdict: str  # none, one, several or unsettled
+    grade: str  # line, trials or search
+    known_by_lines: int
+    known_by_trials: int
+    guesses: int
+    goal: str  # absent, meets or misses
+
+
+class Lines(NamedTuple):
+    """What line logic or trials know of a puzzle's grid. `str` gives the rows, a line for each."""
+
+    word: str  # one if all cells are known, open if not, none if there is a contradiction
     rows: tuple[str, ...]  # `#` for filled, `.` for blank and `?` for unknown; without rows if there is a contradiction
 
     @property
@@ -190,6 +214,22 @@ class _Reply(ctypes.Structure):
     length: int
 
 
+class _Facts(ctypes.Structure):
+    _fields_ = [
+        (name, ctypes.c_uint32)
+        for name in ("width", "height", "verdict", "grade", "line_cells", "trial_cells", "guesses", "goal", "fault_line")
+    ]
+    width: int
+    height: int
+    verdict: int
+    grade: int
+    line_cells: int
+    trial_cells: int
+    guesses: int
+    goal: int
+    fault_line: int
+
+
 def _load() -> ctypes.CDLL:
     folder = os.environ.get("NONOGRADE_LIBRARY") or Path(__file__).resolve().parent
     path = Path(folder) / "libnonograde.so"
@@ -198,12 +238,21 @@ def _load() -> ctypes.CDLL:
         text: list[Any] = [ctypes.c_char_p, ctypes.c_size_t]
         number = ctypes.c_uint32
         calls: dict[str, list[Any]] = {
-            "solve": [*text, *text, number, number], "lines": [*text, *text], "convert": [*text, *text, number], "version": [],
+            "solve": [*text, *text, number, number, number],
+            "report": [*text, *text, number, number, number],
+            "lines": [*text, number],
+            "close": [*text, number, *text, number],
+            "convert": [*text, number, number],
+            "version": [],
         }
         for name, words in calls.items():
             call = getattr(library, f"nonograde_{name}")
             call.argtypes = words + text
             call.restype = _Reply
+        library.nonograde_grade.argtypes = [*text, number, number, number, ctypes.POINTER(_Facts)]
+        library.nonograde_grade.restype = number
+        library.nonograde_buffer_size.argtypes = [number, number]
+        library.nonograde_buffer_size.restype = ctypes.c_size_t
     except (OSError, AttributeError) as error:
         raise ImportError(
             f"{error}: `make library` in nonograde's repository builds libnonograde.so in out/library; "
@@ -213,20 +262,21 @@ def _load() -> ctypes.CDLL:
 
 
 _library = _load()
+_first_buffer = int(_library.nonograde_buffer_size(MAX_SIDE, MAX_SIDE))
 
 
 def _answer(call: Callable[..., _Reply], *words: bytes | int) -> bytes:
-    """The answer of a call, in a buffer that is made larger once if it is too small."""
-    size = FIRST_BUFFER
+    """The answer of a call. The first buffer holds any grids; it is made larger once if texts make the answer longer."""
+    size = _first_buffer
     buffer = ctypes.create_string_buffer(size)
     reply = call(*words, buffer, size)
-    if reply.status == ROOM_TOO_SMALL:
+    if reply.status == BUFFER_TOO_SMALL:
         size = reply.length
         buffer = ctypes.create_string_buffer(size)
         reply = call(*words, buffer, size)
     said = ctypes.string_at(buffer, min(reply.length, size))
-    if reply.status == ROOM_TOO_SMALL:
-        raise Fault("RoomTooSmall")
+    if reply.status == BUFFER_TOO_SMALL:
+        raise Fault("BufferTooSmall")
     if reply.status:
         word, _, line = said.decode().partition(":")
         raise Fault(word, int(line) if line else None)
@@ -238,13 +288,13 @@ def _refuse(name: str, value: object, wanted: str) -> NoReturn:
     raise TypeError(f"{name} is of type {type(value).__name__}, and has to be {wanted}")
 
 
-def _body(text: str | bytes) -> bytes:
-    """The bytes of a text."""
+def _bytes(name: str, text: str | bytes) -> bytes:
+    """The bytes of an argument that is a text."""
     if isinstance(text, str):
         return text.encode()
     if isinstance(text, (bytes, bytearray, memoryview)):
         return bytes(text)
-    _refuse("text", text, "str or bytes")
+    _refuse(name, text, "str or bytes")
 
 
 def _word(name: str, value: str, words: Collection[str]) -> str:
@@ -263,10 +313,15 @@ def _ending(name: str, format: str) -> str:
     return format.lower().removeprefix(".")
 
 
-def _words(text: str | bytes, format: str) -> tuple[bytes, int, bytes, int]:
-    """A name and a text, as a call takes them."""
-    name, body = f"puzzle.{_ending('format', format)}".encode(), _body(text)
-    return name, len(name), body, len(body)
+def _number(name: str, format: str) -> int:
+    """The number of a format. Raises `Fault` if there is no such format."""
+    return FORMATS.index(_word(name, _ending(name, format), FORMATS))
+
+
+def _words(text: str | bytes, format: str) -> tuple[bytes, int, int]:
+    """A text and its format, as a call takes them."""
+    body = _bytes("text", text)
+    return body, len(body), _number("format", format)
 
 
 def _guesses(guesses: SupportsIndex) -> int:
@@ -294,12 +349,48 @@ def solve(text: str | bytes, format: str, guesses: SupportsIndex = 1000, pick: s
     nonograde.Fault: BadSetting: guesses is -1, and has to be from 0 to 1000000
     """
     limit, rule = _guesses(guesses), PICKS.index(_word("pick", pick, PICKS))
-    said = _answer(_library.nonograde_solve, *_words(text, format), limit, rule).decode()
+    said = _answer(_library.nonograde_solve, b"", 0, *_words(text, format), limit, rule).decode()
     head, _, rows = said.partition("\n")
     _, sizes, verdict, grade, by_lines, by_trials, spent, goal, _ = head.split(" ", 8)
     width, height = map(int, sizes.split("x"))
     solutions = tuple(tuple(grid.split("\n")) for grid in rows.split("\n\n") if grid)
     return Solved(width, height, verdict, grade, int(by_lines), int(by_trials), int(spent), goal, solutions)
+
+
+def grade(text: str | bytes, format: str, guesses: SupportsIndex = 1000, pick: str = "first") -> Graded:
+    """Grades the puzzle of a text as `solve` does, without its solutions.
+
+    >>> found = grade("2 2\\n1\\n1\\n1\\n1\\n", "nin")
+    >>> found.verdict, found.grade, found.guesses
+    ('several', 'search', 2)
+    """
+    limit, rule = _guesses(guesses), PICKS.index(_word("pick", pick, PICKS))
+    facts = _Facts()
+    status = _library.nonograde_grade(*_words(text, format), limit, rule, ctypes.byref(facts))
+    if status:
+        raise Fault(STATUSES[status], facts.fault_line or None)
+    words = VERDICTS[facts.verdict], GRADES[facts.grade]
+    counts = facts.line_cells, facts.trial_cells, facts.guesses
+    return Graded(facts.width, facts.height, *words, *counts, GOALS[facts.goal])
+
+
+def report(
+    text: str | bytes, format: str, guesses: SupportsIndex = 1000, pick: str = "first", name: str | bytes = ""
+) -> dict[str, Any]:
+    """All that is known of the puzzle of a text: the object that `nonograde survey --format json` prints of it as entry 1
+    with this name. The other arguments are those of `solve`.
+
+    >>> found = report("2 2\\n1\\n1\\n1\\n1\\n", "nin")
+    >>> found["verdict"], found["rows"], found["differing"]
+    ('several', [[1], [1]], ['**', '**'])
+    >>> found["message"]
+    'at least two solutions, which differ in 4 of 4 cells'
+    """
+    limit, rule = _guesses(guesses), PICKS.index(_word("pick", pick, PICKS))
+    label = _bytes("name", name)
+    said = _answer(_library.nonograde_report, label, len(label), *_words(text, format), limit, rule)
+    members: dict[str, Any] = json.loads(said)
+    return members
 
 
 def _clue(name: str, place: int, clue: Row) -> str:
@@ -345,6 +436,12 @@ def solve_clues(
         raise Fault(fault.word, None, fault.sentence.replace(f"line {fault.line}", name)) from None
 
 
+def _lines_of(said: bytes) -> Lines:
+    """What a call says of a closed grid."""
+    head, *rows = said.decode().split("\n")
+    return Lines(head.split(" ")[0], tuple(rows[:-1]))
+
+
 def lines(text: str | bytes, format: str) -> Lines:
     """What line logic knows of a puzzle: the word `one`, `open` or `none`, and the rows, `?` for unknown.
 
@@ -352,8 +449,41 @@ def lines(text: str | bytes, format: str) -> Lines:
     >>> word, rows
     ('open', ('??', '??'))
     """
-    head, *rows = _answer(_library.nonograde_lines, *_words(text, format)).decode().split("\n")
-    return Lines(head.split(" ")[0], tuple(rows[:-1]))
+    return _lines_of(_answer(_library.nonograde_lines, *_words(text, format)))
+
+
+def _row(name: str, row: object) -> str:
+    """A row of a grid that is given as a sequence."""
+    if not isinstance(row, str):
+        _refuse(name, row, "str")
+    return row
+
+
+def _cells(grid: str | bytes | Iterable[str]) -> bytes:
+    """The cells of a grid as a call takes them."""
+    if isinstance(grid, (str, bytes, bytearray, memoryview)):
+        return _bytes("grid", grid)
+    if not isinstance(grid, Iterable):
+        _refuse("grid", grid, "str or a sequence of str")
+    return "\n".join(_row(f"grid[{place}]", row) for place, row in enumerate(grid)).encode()
+
+
+def close(text: str | bytes, format: str, grid: str | bytes | Iterable[str], by: str = "lines") -> Lines:
+    """What line logic, or with `by="trials"` trials of single cells, make of a grid of a puzzle, as `lines` returns it: for a
+    hint, or to see that a player went wrong. The grid is a string, with or without line ends, or a sequence of rows, with `#`
+    for filled, `.` for blank and `?` for unknown.
+
+    >>> print(close("2 2\\n1\\n1\\n1\\n1\\n", "nin", ["#?", "??"]))
+    #.
+    .#
+    >>> close("2 2\\n1\\n1\\n1\\n1\\n", "nin", "#?#?").word
+    'none'
+    >>> close("2 2\\n1\\n1\\n1\\n1\\n", "nin", "#?")
+    Traceback (most recent call last):
+    nonograde.Fault: BadCells: the cells don't fit the puzzle
+    """
+    way, cells = CLOSINGS.index(_word("by", by, CLOSINGS)), _cells(grid)
+    return _lines_of(_answer(_library.nonograde_close, *_words(text, format), cells, len(cells), way))
 
 
 def convert(text: AnyText, format: str, to: str) -> AnyText:
@@ -364,8 +494,7 @@ def convert(text: AnyText, format: str, to: str) -> AnyText:
     >>> convert(b"1 1\\n1\\n1\\n", ".NIN", "mk")
     b'1 1\\n1\\n#\\n1\\n'
     """
-    number = FORMATS.index(_word("to", _ending("to", to), FORMATS))
-    said = _answer(_library.nonograde_convert, *_words(text, format), number)
+    said = _answer(_library.nonograde_convert, *_words(text, format), _number("to", to))
     return said.decode() if isinstance(text, str) else said
 
 

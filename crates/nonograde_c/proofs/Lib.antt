@@ -1,3 +1,7 @@
--- Lemmas about the answers of calls and about what they write to a buffer.
+-- Lemmas about the answers of calls: what they are, how long they are, and what they write to a buffer.
 mod AnswerLemmas
 mod BufferLemmas
+mod FactLemmas
+mod FullLemmas
+mod GivenLemmas
+mod LengthLemmas

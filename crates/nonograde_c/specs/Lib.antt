@@ -1,3 +1,8 @@
 -- The definitions that the contracts of the calls rest on.
 pub mod Calls
+pub mod Closing
+pub mod Facts
+pub mod GivenCells
+pub mod JsonReports
+pub mod Lengths
 pub mod steps

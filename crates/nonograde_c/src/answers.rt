@@ -1,91 +1,186 @@
 //! The answers of the calls for C, before they are written to the caller's buffer.
 
-ghost use Rattle.std.specs.Prelude.{◌≡◌, ◌<◌, true, false, length, None, Err, IsSome};
+ghost use Rattle.std.specs.Prelude.{◌≡◌, ℕ, ◌+◌, ◌<◌, ◌≤◌, length, None, Err, IfOk, IsSome};
+ghost use Rattle.grid_core.specs.Nonogram.{IsNonogram};
 ghost use Rattle.puzzle_text.specs.Answers.{Gives};
-ghost use Rattle.puzzle_text.specs.Formats.{is_format};
-ghost use Rattle.nonograde_c.specs.Calls.{convert_answer, fault_of_convert, format_from_number, lines_answer, no_memory, pick_within, solve_answer};
+ghost use Rattle.puzzle_text.specs.Formats.{text_as};
+ghost use Rattle.nonograde_c.specs.Calls.{convert_answer, format_from_number, lines_answer, no_memory, of_writer, pick_within, puzzle_of, solve_answer};
+ghost use Rattle.nonograde_c.specs.Closing.{close_answer, closing_from_number};
+ghost use Rattle.nonograde_c.specs.Facts.{facts_answer};
+ghost use Rattle.nonograde_c.specs.JsonReports.{report_answer};
+ghost use Rattle.nonograde_c.specs.Lengths.{FitsIn, buffer_size};
 ghost use Rattle.nonograde_c.specs.steps.Answers.{shown};
 
+use crate::closing::close_text;
+use crate::facts::{Facts, grade_facts};
 use crate::faults::Fault;
-use crate::settings::{format_from_number, pick_within};
-use puzzle_text::{EntryFault, MAX_PUZZLE_LEN, TextFault};
-use reports::{ConvertFault, convert, lines_report, solve_report};
+use crate::given_cells::given_grid;
+use crate::json_reports::report_text;
+use crate::settings::{closing_from_number, format_from_number, pick_within};
+use grid_core::Puzzle;
+use puzzle_text::{Format, MAX_PUZZLE_LEN, TextFault, WriteFault};
+use reports::{lines_text, solve_text};
 use std::alloc::Global;
 
-/// Returns what `lines` prints for a puzzle's text: a line, and the grid that line logic reaches.
-pub fn lines_answer(alloc: Global, name: &[u8], text: &[u8]) -> Result<Vec<u8>, Fault>
-    ensures answer { Gives no_memory (λ text. text) (shown result)
-        (lines_answer name.now text.now) }
-    ensures unknown { is_format name.now ≡ false →
-        result ≡ Err (Fault.Entry EntryFault.UnknownFormat) }
-    ensures too_long { is_format name.now ≡ true → MAX_PUZZLE_LEN < length text.now →
-        result ≡ Err (Fault.Entry (EntryFault.Text TextFault.TooLong)) }
-{
-    match lines_report(alloc, name, text) {
-        Ok(report) => Ok(report),
-        Err(fault) => Err(Fault::Entry(fault)),
-    }
-}
-
-/// Returns what `solve` prints for a puzzle's text: its line in a survey, and its solutions. `pick`
-/// is the number of a guess rule.
-pub fn solve_answer(
-    alloc: Global,
-    name: &[u8],
-    text: &[u8],
-    guesses: u32,
-    pick: u32,
-) -> Result<Vec<u8>, Fault>
-    ensures answer { Gives no_memory (λ text. text) (shown result)
-        (solve_answer guesses pick name.now text.now) }
-    ensures setting { pick_within guesses pick ≡ None → result ≡ Err Fault.Setting }
-    ensures unknown { IsSome (pick_within guesses pick) → is_format name.now ≡ false →
-        result ≡ Err (Fault.Entry EntryFault.UnknownFormat) }
-    ensures too_long { IsSome (pick_within guesses pick) → is_format name.now ≡ true →
-        MAX_PUZZLE_LEN < length text.now →
-        result ≡ Err (Fault.Entry (EntryFault.Text TextFault.TooLong)) }
-{
-    let Some(pick) = pick_within(guesses, pick) else {
-        return Err(Fault::Setting);
-    };
-    match solve_report(alloc, name, text, guesses, pick) {
-        Ok(report) => Ok(report),
-        Err(fault) => Err(Fault::Entry(fault)),
-    }
-}
-
-/// Returns the fault of a call whose conversion failed.
-fn fault_of_convert(fault: ConvertFault) -> Fault
-    ensures { result ≡ fault_of_convert fault }
-{
-    match fault {
-        ConvertFault::Entry(fault) => Fault::Entry(fault),
-        ConvertFault::Ambiguous => Fault::Ambiguous,
-        ConvertFault::NoMemory => Fault::Entry(EntryFault::Text(TextFault::NoMemory)),
-    }
-}
-
-/// Returns a puzzle's text in another format. `format` is the number of a format.
-pub fn convert_answer(
-    alloc: Global,
-    name: &[u8],
-    text: &[u8],
-    format: u32,
-) -> Result<Vec<u8>, Fault>
-    ensures answer { Gives no_memory (λ text. text) (shown result)
-        (convert_answer format name.now text.now) }
-    ensures setting { format_from_number format ≡ None → result ≡ Err Fault.Setting }
-    ensures unknown { IsSome (format_from_number format) → is_format name.now ≡ false →
-        result ≡ Err (Fault.Entry EntryFault.UnknownFormat) }
-    ensures too_long { IsSome (format_from_number format) → is_format name.now ≡ true →
-        MAX_PUZZLE_LEN < length text.now →
-        result ≡ Err (Fault.Entry (EntryFault.Text TextFault.TooLong)) }
+/// Returns the puzzle of a text. `format` is the number of its format.
+fn read_puzzle(alloc: Global, text: &[u8], format: u32) -> Result<Puzzle, Fault>
+    ensures answer { Gives no_memory (λ p. p) result (puzzle_of format text.now) }
+    ensures format { format_from_number format ≡ None → result ≡ Err Fault.Setting }
+    ensures too_long { IsSome (format_from_number format) → MAX_PUZZLE_LEN < length text.now →
+        result ≡ Err (Fault.Text TextFault.TooLong) }
+    ensures puzzle { IfOk result (λ p. IsNonogram p) }
 {
     let Some(format) = format_from_number(format) else {
         return Err(Fault::Setting);
     };
-    match convert(alloc, name, text, format) {
-        Ok(converted) => Ok(converted),
-        Err(fault) => Err(fault_of_convert(fault)),
+    match format.read(alloc, text) {
+        Ok(puzzle) => {
+            // Called for its contract, which states the invariant of the puzzle.
+            puzzle.width();
+            Ok(puzzle)
+        }
+        Err(fault) => Err(Fault::Text(fault)),
     }
+}
+
+/// Returns what `lines` prints for a puzzle's text: a line, and the grid that line logic reaches.
+/// `format` is the number of the text's format.
+pub fn lines_answer(alloc: Global, text: &[u8], format: u32) -> Result<Vec<u8>, Fault>
+    ensures answer { Gives no_memory (λ text. text) (shown result)
+        (lines_answer format text.now) }
+    ensures format { format_from_number format ≡ None → result ≡ Err Fault.Setting }
+    ensures too_long { IsSome (format_from_number format) → MAX_PUZZLE_LEN < length text.now →
+        result ≡ Err (Fault.Text TextFault.TooLong) }
+    ensures within { (width height : ℕ) → FitsIn width height (puzzle_of format text.now) →
+        IfOk result (λ answer. length answer.items ≤ buffer_size width height) }
+{
+    let puzzle = read_puzzle(alloc, text, format)?;
+    Ok(lines_text(alloc, &puzzle)?)
+}
+
+/// Returns what `solve` prints for a puzzle's text: its line in a survey, with `name`, and its
+/// solutions. `format` is the number of the text's format, `pick` that of a guess rule.
+pub fn solve_answer(
+    alloc: Global,
+    name: &[u8],
+    text: &[u8],
+    format: u32,
+    guesses: u32,
+    pick: u32,
+) -> Result<Vec<u8>, Fault>
+    ensures answer { Gives no_memory (λ text. text) (shown result)
+        (solve_answer guesses pick name.now format text.now) }
+    ensures setting { pick_within guesses pick ≡ None → result ≡ Err Fault.Setting }
+    ensures format { format_from_number format ≡ None → result ≡ Err Fault.Setting }
+    ensures too_long { IsSome (pick_within guesses pick) → IsSome (format_from_number format) →
+        MAX_PUZZLE_LEN < length text.now → result ≡ Err (Fault.Text TextFault.TooLong) }
+    ensures within { (width height : ℕ) → FitsIn width height (puzzle_of format text.now) →
+        IfOk result (λ answer. length answer.items ≤ buffer_size width height + length name.now) }
+{
+    let Some(pick) = pick_within(guesses, pick) else {
+        return Err(Fault::Setting);
+    };
+    let puzzle = read_puzzle(alloc, text, format)?;
+    Ok(solve_text(alloc, name, puzzle, guesses, pick)?)
+}
+
+/// Returns the line of JSON that a survey prints for a puzzle's text, as its first entry with the
+/// name `name`. `format` is the number of the text's format, `pick` that of a guess rule.
+pub fn report_answer(
+    alloc: Global,
+    name: &[u8],
+    text: &[u8],
+    format: u32,
+    guesses: u32,
+    pick: u32,
+) -> Result<Vec<u8>, Fault>
+    ensures answer { Gives no_memory (λ text. text) (shown result)
+        (report_answer guesses pick name.now format text.now) }
+    ensures setting { pick_within guesses pick ≡ None → result ≡ Err Fault.Setting }
+    ensures format { format_from_number format ≡ None → result ≡ Err Fault.Setting }
+    ensures too_long { IsSome (pick_within guesses pick) → IsSome (format_from_number format) →
+        MAX_PUZZLE_LEN < length text.now → result ≡ Err (Fault.Text TextFault.TooLong) }
+{
+    let Some(pick) = pick_within(guesses, pick) else {
+        return Err(Fault::Setting);
+    };
+    let puzzle = read_puzzle(alloc, text, format)?;
+    Ok(report_text(alloc, name, text, puzzle, guesses, pick)?)
+}
+
+/// Returns the facts that grading finds about a puzzle's text. `format` is the number of the text's
+/// format, `pick` that of a guess rule.
+pub fn facts_answer(
+    alloc: Global,
+    text: &[u8],
+    format: u32,
+    guesses: u32,
+    pick: u32,
+) -> Result<Facts, Fault>
+    ensures answer { Gives no_memory (λ facts. facts) result
+        (facts_answer guesses pick format text.now) }
+    ensures setting { pick_within guesses pick ≡ None → result ≡ Err Fault.Setting }
+    ensures format { format_from_number format ≡ None → result ≡ Err Fault.Setting }
+    ensures too_long { IsSome (pick_within guesses pick) → IsSome (format_from_number format) →
+        MAX_PUZZLE_LEN < length text.now → result ≡ Err (Fault.Text TextFault.TooLong) }
+{
+    let Some(pick) = pick_within(guesses, pick) else {
+        return Err(Fault::Setting);
+    };
+    let puzzle = read_puzzle(alloc, text, format)?;
+    Ok(grade_facts(alloc, puzzle, guesses, pick)?)
+}
+
+/// Returns the report on the grid of a puzzle's text that has the cells `cells`, once it is closed.
+/// `format` is the number of the text's format, `by` that of the way of closing.
+pub fn close_answer(
+    alloc: Global,
+    text: &[u8],
+    format: u32,
+    cells: &[u8],
+    by: u32,
+) -> Result<Vec<u8>, Fault>
+    ensures answer { Gives no_memory (λ text. text) (shown result)
+        (close_answer by format text.now cells.now) }
+    ensures setting { closing_from_number by ≡ None → result ≡ Err Fault.Setting }
+    ensures format { format_from_number format ≡ None → result ≡ Err Fault.Setting }
+    ensures too_long { IsSome (closing_from_number by) → IsSome (format_from_number format) →
+        MAX_PUZZLE_LEN < length text.now → result ≡ Err (Fault.Text TextFault.TooLong) }
+{
+    let Some(by) = closing_from_number(by) else {
+        return Err(Fault::Setting);
+    };
+    let puzzle = read_puzzle(alloc, text, format)?;
+    match given_grid(alloc, &puzzle, cells)? {
+        Some(grid) => Ok(close_text(alloc, &puzzle, grid, by)?),
+        None => Err(Fault::Cells),
+    }
+}
+
+/// Returns the text of `puzzle` in a format.
+fn written(alloc: Global, puzzle: &Puzzle, to: Format) -> Result<Vec<u8>, Fault>
+    ensures { Gives no_memory (λ text. text) (shown result) (of_writer (text_as to puzzle.now)) }
+{
+    match to.write(alloc, puzzle) {
+        Ok(text) => Ok(text),
+        Err(WriteFault::Ambiguous) => Err(Fault::Ambiguous),
+        Err(WriteFault::NoMemory) => Err(Fault::Text(TextFault::NoMemory)),
+    }
+}
+
+/// Returns a puzzle's text in another format. `format` is the number of the text's format, `to`
+/// that of the other one.
+pub fn convert_answer(alloc: Global, text: &[u8], format: u32, to: u32) -> Result<Vec<u8>, Fault>
+    ensures answer { Gives no_memory (λ text. text) (shown result)
+        (convert_answer to format text.now) }
+    ensures setting { format_from_number to ≡ None → result ≡ Err Fault.Setting }
+    ensures format { format_from_number format ≡ None → result ≡ Err Fault.Setting }
+    ensures too_long { IsSome (format_from_number to) → IsSome (format_from_number format) →
+        MAX_PUZZLE_LEN < length text.now → result ≡ Err (Fault.Text TextFault.TooLong) }
+{
+    let Some(to) = format_from_number(to) else {
+        return Err(Fault::Setting);
+    };
+    let puzzle = read_puzzle(alloc, text, format)?;
+    written(alloc, &puzzle, to)
 }

@@ -1,87 +1,181 @@
 //! The functions that C programs call. `include/nonograde.h` documents them for those.
 
-ghost use Rattle.std.specs.Prelude.{◌≡◌, ◌<◌, true, false, length, None, Err, IsSome, Ok};
-ghost use Rattle.puzzle_text.specs.Formats.{is_format};
-ghost use Rattle.nonograde_c.specs.Calls.{Answers, Fills, convert_answer, format_from_number, lines_answer, pick_within, solve_answer};
+ghost use Rattle.std.specs.Prelude.{◌≡◌, ℕ, ◌+◌, ◌<◌, ◌≤◌, length, None, Err, IsSome, Ok};
+ghost use Rattle.nonograde_c.specs.Calls.{Answers, Fills, convert_answer, format_from_number, lines_answer, pick_within, puzzle_of, solve_answer};
+ghost use Rattle.nonograde_c.specs.Closing.{close_answer, closing_from_number};
+ghost use Rattle.nonograde_c.specs.Facts.{AnswersFacts, FillsFacts, facts_answer};
+ghost use Rattle.nonograde_c.specs.JsonReports.{report_answer};
+ghost use Rattle.nonograde_c.specs.Lengths.{FitsIn, buffer_size};
 
-use crate::answers::{convert_answer, lines_answer, solve_answer};
+use crate::answers::{
+    close_answer, convert_answer, facts_answer, lines_answer, report_answer, solve_answer,
+};
+use crate::facts::{Facts, fill_facts};
 use crate::faults::Fault;
+use crate::lengths::buffer_size;
 use crate::replies::{Reply, fill_answer, fill_text};
-use puzzle_text::{EntryFault, MAX_PUZZLE_LEN, TextFault};
+use puzzle_text::{MAX_PUZZLE_LEN, TextFault};
 use reports::VERSION;
 use std::alloc::Global;
 
-/// Grades and solves a puzzle's text. The answer is its line in a survey, as entry 1, and its
-/// solutions, each followed by an empty line. The ending of `name` is the format. The search makes
-/// at most `guesses` guesses, from 0 to 1,000,000, by the rule `pick`: 0 guesses the first unknown
-/// cell, 1 the one with the most known neighbours.
+/// Grades and solves a puzzle's text. The answer is its line in a survey, as entry 1 with the name
+/// `name`, and its solutions, each followed by an empty line. `format` is the text's format: 0 is
+/// `.non`, 1 `.mk`, 2 `.nin`. The search makes at most `guesses` guesses, from 0 to 1,000,000, by
+/// the rule `pick`: 0 guesses the first unknown cell, 1 the one with the most known neighbours.
 #[unsafe(no_mangle)]
 pub extern "C" fn nonograde_solve(
     alloc: Global,
     name: &[u8],
     text: &[u8],
+    format: u32,
     guesses: u32,
     pick: u32,
     buffer: &mut [u8],
 ) -> Reply
-    ensures answer { Answers (solve_answer guesses pick name.now text.now) result
+    ensures answer { Answers (solve_answer guesses pick name.now format text.now) result
         buffer.old buffer.new }
     // These faults are found before anything is allocated, so `NoMemory` never hides them.
     ensures setting { pick_within guesses pick ≡ None →
         Fills (Err Fault.Setting) result buffer.old buffer.new }
-    ensures unknown { IsSome (pick_within guesses pick) → is_format name.now ≡ false →
-        Fills (Err (Fault.Entry EntryFault.UnknownFormat)) result buffer.old buffer.new }
-    ensures too_long { IsSome (pick_within guesses pick) → is_format name.now ≡ true →
+    ensures format { format_from_number format ≡ None →
+        Fills (Err Fault.Setting) result buffer.old buffer.new }
+    ensures too_long { IsSome (pick_within guesses pick) → IsSome (format_from_number format) →
         MAX_PUZZLE_LEN < length text.now →
-        Fills (Err (Fault.Entry (EntryFault.Text TextFault.TooLong))) result buffer.old buffer.new }
+        Fills (Err (Fault.Text TextFault.TooLong)) result buffer.old buffer.new }
+    ensures within { (width height : ℕ) → FitsIn width height (puzzle_of format text.now) →
+        result.length ≤ buffer_size width height + length name.now }
 {
-    let answer = solve_answer(alloc, name, text, guesses, pick);
+    let answer = solve_answer(alloc, name, text, format, guesses, pick);
     fill_answer(buffer, &answer)
 }
 
-/// Applies line logic to a puzzle's text. The answer is `one K` if all cells are known and `open K`
-/// if not, with K the number of known cells, and then the rows; or `none 0` if there is a
-/// contradiction. The ending of `name` is the format.
+/// Grades a puzzle's text. The answer is its line in a survey as JSON, as entry 1 with the name
+/// `name`. The other arguments are those of `nonograde_solve`.
 #[unsafe(no_mangle)]
-pub extern "C" fn nonograde_lines(
-    alloc: Global,
-    name: &[u8],
-    text: &[u8],
-    buffer: &mut [u8],
-) -> Reply
-    ensures answer { Answers (lines_answer name.now text.now) result buffer.old buffer.new }
-    // These faults are found before anything is allocated, so `NoMemory` never hides them.
-    ensures unknown { is_format name.now ≡ false →
-        Fills (Err (Fault.Entry EntryFault.UnknownFormat)) result buffer.old buffer.new }
-    ensures too_long { is_format name.now ≡ true → MAX_PUZZLE_LEN < length text.now →
-        Fills (Err (Fault.Entry (EntryFault.Text TextFault.TooLong))) result buffer.old buffer.new }
-{
-    let answer = lines_answer(alloc, name, text);
-    fill_answer(buffer, &answer)
-}
-
-/// Converts a puzzle's text to another format: 0 is `.non`, 1 `.mk`, 2 `.nin`. The ending of `name`
-/// is the format of `text`.
-#[unsafe(no_mangle)]
-pub extern "C" fn nonograde_convert(
+pub extern "C" fn nonograde_report(
     alloc: Global,
     name: &[u8],
     text: &[u8],
     format: u32,
+    guesses: u32,
+    pick: u32,
     buffer: &mut [u8],
 ) -> Reply
-    ensures answer { Answers (convert_answer format name.now text.now) result buffer.old
-        buffer.new }
+    ensures answer { Answers (report_answer guesses pick name.now format text.now) result
+        buffer.old buffer.new }
     // These faults are found before anything is allocated, so `NoMemory` never hides them.
-    ensures setting { format_from_number format ≡ None →
+    ensures setting { pick_within guesses pick ≡ None →
         Fills (Err Fault.Setting) result buffer.old buffer.new }
-    ensures unknown { IsSome (format_from_number format) → is_format name.now ≡ false →
-        Fills (Err (Fault.Entry EntryFault.UnknownFormat)) result buffer.old buffer.new }
-    ensures too_long { IsSome (format_from_number format) → is_format name.now ≡ true →
+    ensures format { format_from_number format ≡ None →
+        Fills (Err Fault.Setting) result buffer.old buffer.new }
+    ensures too_long { IsSome (pick_within guesses pick) → IsSome (format_from_number format) →
         MAX_PUZZLE_LEN < length text.now →
-        Fills (Err (Fault.Entry (EntryFault.Text TextFault.TooLong))) result buffer.old buffer.new }
+        Fills (Err (Fault.Text TextFault.TooLong)) result buffer.old buffer.new }
 {
-    let answer = convert_answer(alloc, name, text, format);
+    let answer = report_answer(alloc, name, text, format, guesses, pick);
+    fill_answer(buffer, &answer)
+}
+
+/// Grades a puzzle's text, writes what that finds to `facts`, and returns the number of the status.
+/// If it is a fault, the facts are 0 but for the line that it is about. The other arguments are
+/// those of `nonograde_solve`.
+#[unsafe(no_mangle)]
+pub extern "C" fn nonograde_grade(
+    alloc: Global,
+    text: &[u8],
+    format: u32,
+    guesses: u32,
+    pick: u32,
+    facts: &mut Facts,
+) -> u32
+    ensures answer { AnswersFacts (facts_answer guesses pick format text.now) result facts.new }
+    // These faults are found before anything is allocated, so `NoMemory` never hides them.
+    ensures setting { pick_within guesses pick ≡ None →
+        FillsFacts (Err Fault.Setting) result facts.new }
+    ensures format { format_from_number format ≡ None →
+        FillsFacts (Err Fault.Setting) result facts.new }
+    ensures too_long { IsSome (pick_within guesses pick) → IsSome (format_from_number format) →
+        MAX_PUZZLE_LEN < length text.now →
+        FillsFacts (Err (Fault.Text TextFault.TooLong)) result facts.new }
+{
+    let answer = facts_answer(alloc, text, format, guesses, pick);
+    fill_facts(facts, answer)
+}
+
+/// Applies line logic to a puzzle's text. The answer is `one K` if all cells are known and `open K`
+/// if not, with K the number of known cells, and then the rows; or `none 0` if there is a
+/// contradiction. `format` is the text's format: 0 is `.non`, 1 `.mk`, 2 `.nin`.
+#[unsafe(no_mangle)]
+pub extern "C" fn nonograde_lines(
+    alloc: Global,
+    text: &[u8],
+    format: u32,
+    buffer: &mut [u8],
+) -> Reply
+    ensures answer { Answers (lines_answer format text.now) result buffer.old buffer.new }
+    // These faults are found before anything is allocated, so `NoMemory` never hides them.
+    ensures format { format_from_number format ≡ None →
+        Fills (Err Fault.Setting) result buffer.old buffer.new }
+    ensures too_long { IsSome (format_from_number format) → MAX_PUZZLE_LEN < length text.now →
+        Fills (Err (Fault.Text TextFault.TooLong)) result buffer.old buffer.new }
+    ensures within { (width height : ℕ) → FitsIn width height (puzzle_of format text.now) →
+        result.length ≤ buffer_size width height }
+{
+    let answer = lines_answer(alloc, text, format);
+    fill_answer(buffer, &answer)
+}
+
+/// Closes a grid of a puzzle's text whose cells may be partly known. `cells` has them row by row:
+/// `#` for a filled cell, `.` for a blank one, `?` for an unknown one; either without line ends, or
+/// with LF or CR LF after each row, where the last one may be missing. `by` is 0 to close the grid
+/// under line deduction, 1 under trials. The answer is `one K` if all cells are then known and
+/// `open K` if not, with K the number of known cells, and then the rows; or `none 0` if the grid is
+/// dead. `format` is the text's format: 0 is `.non`, 1 `.mk`, 2 `.nin`.
+#[unsafe(no_mangle)]
+pub extern "C" fn nonograde_close(
+    alloc: Global,
+    text: &[u8],
+    format: u32,
+    cells: &[u8],
+    by: u32,
+    buffer: &mut [u8],
+) -> Reply
+    ensures answer { Answers (close_answer by format text.now cells.now) result
+        buffer.old buffer.new }
+    // These faults are found before anything is allocated, so `NoMemory` never hides them.
+    ensures setting { closing_from_number by ≡ None →
+        Fills (Err Fault.Setting) result buffer.old buffer.new }
+    ensures format { format_from_number format ≡ None →
+        Fills (Err Fault.Setting) result buffer.old buffer.new }
+    ensures too_long { IsSome (closing_from_number by) → IsSome (format_from_number format) →
+        MAX_PUZZLE_LEN < length text.now →
+        Fills (Err (Fault.Text TextFault.TooLong)) result buffer.old buffer.new }
+{
+    let answer = close_answer(alloc, text, format, cells, by);
+    fill_answer(buffer, &answer)
+}
+
+/// Converts a puzzle's text from the format `format` to the format `to`: 0 is `.non`, 1 `.mk`,
+/// 2 `.nin`.
+#[unsafe(no_mangle)]
+pub extern "C" fn nonograde_convert(
+    alloc: Global,
+    text: &[u8],
+    format: u32,
+    to: u32,
+    buffer: &mut [u8],
+) -> Reply
+    ensures answer { Answers (convert_answer to format text.now) result buffer.old buffer.new }
+    // These faults are found before anything is allocated, so `NoMemory` never hides them.
+    ensures setting { format_from_number to ≡ None →
+        Fills (Err Fault.Setting) result buffer.old buffer.new }
+    ensures format { format_from_number format ≡ None →
+        Fills (Err Fault.Setting) result buffer.old buffer.new }
+    ensures too_long { IsSome (format_from_number to) → IsSome (format_from_number format) →
+        MAX_PUZZLE_LEN < length text.now →
+        Fills (Err (Fault.Text TextFault.TooLong)) result buffer.old buffer.new }
+{
+    let answer = convert_answer(alloc, text, format, to);
     fill_answer(buffer, &answer)
 }
 
@@ -91,4 +185,13 @@ pub extern "C" fn nonograde_version(buffer: &mut [u8]) -> Reply
     ensures { Fills (Ok VERSION.now) result buffer.old buffer.new }
 {
     fill_text(buffer, VERSION.as_bytes())
+}
+
+/// Returns the length of a buffer that holds each answer of `nonograde_lines`, and with the length
+/// of the name added each one of `nonograde_solve`, on puzzles of at most this width and height.
+#[unsafe(no_mangle)]
+pub extern "C" fn nonograde_buffer_size(width: u32, height: u32) -> usize
+    ensures { result ≡ buffer_size width height }
+{
+    buffer_size(width, height)
 }

@@ -1,10 +1,13 @@
 //! The faults of calls, and the numbers of their statuses.
 
-ghost use Rattle.std.specs.Prelude.{◌≡◌};
+ghost use Rattle.std.specs.Prelude.{◌≡◌, ◌^◌, ◌<◌, ◌≤◌, length};
 ghost use Rattle.puzzle_text.specs.Words.{word_text};
-ghost use Rattle.nonograde_c.specs.Calls.{fault_word, status_number, status_of, status_of_text};
+ghost use Rattle.puzzle_text.specs.declared.faults.TextFault.TheVariants.{NoMemory as text_memory};
+ghost use Rattle.nonograde_c.specs.Calls.{fault_word, line_of, status_number, status_of, status_of_text};
+ghost use Rattle.nonograde_c.specs.declared.faults.Fault.TheVariants.{Text as fault_of_text};
 
-use puzzle_text::{EntryFault, FaultWord, TextFault};
+use grid_core::NoMemory;
+use puzzle_text::{FaultWord, TextFault};
 
 /// How a call ended. The numbers, from 0 in this order, are those of `nonograde.h`.
 #[derive(Clone, Copy, Debug, PartialEq, Eq)]
@@ -12,10 +15,11 @@ pub enum Status {
     /// The answer is the text that was asked for.
     Answered,
     /// The answer has more bytes than the caller's buffer.
-    RoomTooSmall,
+    BufferTooSmall,
     /// A setting is out of its range.
     BadSetting,
-    /// The name's ending is no format.
+    /// Not used: a format that isn't one is a bad setting. Earlier versions took the ending of a
+    /// name, and the numbers of the other statuses stay.
     UnknownFormat,
     /// The text has more than 1,048,576 bytes.
     TooLong,
@@ -39,6 +43,8 @@ pub enum Status {
     Ambiguous,
     /// An allocation failed.
     NoMemory,
+    /// The cells that were given don't fit the puzzle.
+    BadCells,
 }
 
 impl Status {
@@ -56,9 +62,11 @@ pub enum Fault {
     /// A setting is out of its range.
     Setting,
     /// The text is refused, or an allocation failed.
-    Entry(EntryFault),
+    Text(TextFault),
     /// In `.nin` the text would be read with the sizes the other way round.
     Ambiguous,
+    /// The cells that were given don't fit the puzzle.
+    Cells,
 }
 
 /// Returns the status of a fault of a puzzle's text.
@@ -86,9 +94,9 @@ impl Fault {
     {
         match self {
             Fault::Setting => Status::BadSetting,
-            Fault::Entry(EntryFault::UnknownFormat) => Status::UnknownFormat,
-            Fault::Entry(EntryFault::Text(fault)) => status_of_text(fault),
+            Fault::Text(fault) => status_of_text(fault),
             Fault::Ambiguous => Status::Ambiguous,
+            Fault::Cells => Status::BadCells,
         }
     }
 
@@ -98,8 +106,51 @@ impl Fault {
     {
         match self {
             Fault::Setting => FaultWord::alone("BadSetting"),
-            Fault::Entry(fault) => fault.word(),
+            Fault::Text(fault) => fault.word(),
             Fault::Ambiguous => FaultWord::alone("Ambiguous"),
+            Fault::Cells => FaultWord::alone("BadCells"),
         }
+    }
+
+    /// Returns the number of the line that a fault is about, if it is about one.
+    pub fn line(self) -> Option<u32>
+        ensures { result ≡ line_of self }
+    {
+        match self {
+            Fault::Text(fault) => fault.line_number(),
+            Fault::Setting | Fault::Ambiguous | Fault::Cells => None,
+        }
+    }
+
+    /// Brings into the caller's proof that the fault word has at most 20 bytes. It has no other
+    /// effect.
+    pub fn recall_length(self)
+        ensures { length (fault_word self) ≤ 20 }
+    {
+        match self.line() {
+            Some(number) => recall_range(number),
+            None => {}
+        }
+    }
+}
+
+/// Brings the range of `number` into the caller's proof. It has no other effect.
+fn recall_range(number: u32)
+    ensures { number < 2 ^ 32 }
+{}
+
+impl From<NoMemory> for Fault {
+    ghost from_gives = { λ _ fault. fault ≡ fault_of_text text_memory };
+
+    fn from(_refused: NoMemory) -> Fault {
+        Fault::Text(TextFault::NoMemory)
+    }
+}
+
+impl From<TextFault> for Fault {
+    ghost from_gives = { λ text fault. fault ≡ fault_of_text text };
+
+    fn from(text: TextFault) -> Fault {
+        Fault::Text(text)
     }
 }

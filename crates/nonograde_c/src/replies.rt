@@ -1,6 +1,6 @@
 //! Writing an answer to the caller's buffer, and the reply that goes with it.
 
-ghost use Rattle.std.specs.Prelude.{◌≡◌, ◌+◌, ◌++◌, ◌≤◌, length, take, drop, Ok, Err};
+ghost use Rattle.std.specs.Prelude.{◌≡◌, ◌+◌, ◌++◌, ◌≤◌, length, take, drop, Ok, Err, IfErr};
 ghost use Rattle.puzzle_text.specs.Words.{at_line};
 ghost use Rattle.nonograde_c.specs.Calls.{Fills, FillsBuffer, status_number};
 ghost use Rattle.nonograde_c.specs.steps.Answers.{shown};
@@ -33,9 +33,10 @@ impl Reply {
     /// Returns the reply for an answer of `length` bytes that doesn't fit into the caller's
     /// buffer.
     fn too_small(length: usize) -> Reply
-        ensures { result ≡ record { status = status_number Status.RoomTooSmall; length = length } }
+        ensures { result
+            ≡ record { status = status_number Status.BufferTooSmall; length = length } }
     {
-        let status = Status::RoomTooSmall.number();
+        let status = Status::BufferTooSmall.number();
         Reply { status, length }
     }
 }
@@ -100,10 +101,14 @@ fn fill_word(buffer: &mut [u8], fault: Fault) -> Reply
 
 /// Writes an answer to the buffer: the text, or the fault word.
 pub fn fill_answer(buffer: &mut [u8], answer: &Result<Vec<u8>, Fault>) -> Reply
-    ensures { Fills (shown answer.now) result buffer.old buffer.new }
+    ensures answer { Fills (shown answer.now) result buffer.old buffer.new }
+    ensures short { IfErr answer.now (λ _. result.length ≤ 20) }
 {
     match answer {
         Ok(text) => fill_text(buffer, text),
-        Err(fault) => fill_word(buffer, *fault),
+        Err(fault) => {
+            fault.recall_length();
+            fill_word(buffer, *fault)
+        }
     }
 }

@@ -53,9 +53,10 @@ fn push_closed(text: &mut Vec<u8>, closed: &Option<Grid>) -> Result<(), NoMemory
     }
 }
 
-/// Returns the report on the closure of `puzzle` under line deduction. Fails with `NoMemory` if an
-/// allocation does.
-fn lines_text(alloc: Global, puzzle: &Puzzle) -> Result<Vec<u8>, NoMemory>
+/// Returns the report on the closure of `puzzle` under line deduction: `one K` if that is full, or
+/// `open K` if not, with K the number of known cells, and then its rows; or `none 0` if it is dead.
+/// Fails with `NoMemory` if an allocation does.
+pub fn lines_text(alloc: Global, puzzle: &Puzzle) -> Result<Vec<u8>, NoMemory>
     ensures { IfOk result (λ text. text.items ≡ lines_text puzzle.now) }
 {
     let mut text = Vec::new(alloc);
@@ -86,9 +87,8 @@ fn lines_answer(alloc: Global, puzzle: &Puzzle) -> Result<Vec<u8>, EntryFault>
 }
 
 /// Reads the puzzle in the text `body`, whose format the ending of `name` determines, and returns
-/// the report on its closure under line deduction: `one K` if that is full, or `open K` if not,
-/// with K the number of known cells, and then its rows; or `none 0` if it is dead. Fails with the
-/// fault of the text, or with `Text(NoMemory)` if an allocation fails.
+/// the report on its closure under line deduction (`lines_text`). Fails with the fault of the text,
+/// or with `Text(NoMemory)` if an allocation fails.
 pub fn lines_report(alloc: Global, name: &[u8], body: &[u8]) -> Result<Vec<u8>, EntryFault>
     ensures answer { Gives (EntryFault.Text TextFault.NoMemory) (λ text. text.items) result
         (text_or_fault lines_text (parsed name.now body.now)) }
@@ -103,9 +103,11 @@ pub fn lines_report(alloc: Global, name: &[u8], body: &[u8]) -> Result<Vec<u8>, 
     }
 }
 
-/// Grades `puzzle` and returns the report on its grade and solutions. Fails with `NoMemory` if an
-/// allocation does, in grading or in printing.
-fn solve_text(
+/// Grades `puzzle` and returns its line in a survey, numbered 1 and with this name, and its
+/// solutions, each followed by an empty line. The search spends at most `guesses` guesses, 0 to
+/// 1,000,000, on cells that `pick` chooses. Fails with `NoMemory` if an allocation does, in grading
+/// or in printing.
+pub fn solve_text(
     alloc: Global,
     name: &[u8],
     puzzle: Puzzle,
@@ -121,9 +123,8 @@ fn solve_text(
 }
 
 /// Reads the puzzle in the text `body`, whose format the ending of `name` determines, grades it,
-/// and returns its line in a survey, numbered 1, and its solutions, each followed by an empty line.
-/// The search spends at most `guesses` guesses, 0 to 1,000,000, on cells that `pick` chooses. Fails
-/// with the fault of the text, or with `Text(NoMemory)` if an allocation fails.
+/// and returns the report on its grade and solutions (`solve_text`). Fails with the fault of the
+/// text, or with `Text(NoMemory)` if an allocation fails.
 pub fn solve_report(
     alloc: Global,
     name: &[u8],
