@@ -465,7 +465,7 @@ def _cells(grid: str | bytes | Iterable[str]) -> bytes:
         return _bytes("grid", grid)
     if not isinstance(grid, Iterable):
         _refuse("grid", grid, "str or a sequence of str")
-    return "\n".join(_row(f"grid[{place}]", row) for place, row in enumerate(grid)).encode()
+    return "".join(_row(f"grid[{place}]", row) + "\n" for place, row in enumerate(grid)).encode()
 
 
 def close(text: str | bytes, format: str, grid: str | bytes | Iterable[str], by: str = "lines") -> Lines:

@@ -145,7 +145,7 @@ static void check_close(void) {
         {"????", "open 0\n??\n??\n", NONOGRADE_BY_LINES, NONOGRADE_OK},
         {"????", "open 0\n??\n??\n", NONOGRADE_BY_TRIALS, NONOGRADE_OK},
         {"#???", "one 4\n#.\n.#\n", NONOGRADE_BY_LINES, NONOGRADE_OK},
-        {"??\n.?", "one 4\n.#\n#.\n", NONOGRADE_BY_LINES, NONOGRADE_OK},
+        {"??\n?.", "one 4\n.#\n#.\n", NONOGRADE_BY_LINES, NONOGRADE_OK},
         {"?#\n??\n", "one 4\n.#\n#.\n", NONOGRADE_BY_TRIALS, NONOGRADE_OK},
         {"#?\r\n??\n", "one 4\n#.\n.#\n", NONOGRADE_BY_LINES, NONOGRADE_OK},
         {"#.\r\n.#\r\n", "one 4\n#.\n.#\n", NONOGRADE_BY_LINES, NONOGRADE_OK},
