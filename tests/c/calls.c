@@ -172,7 +172,7 @@ static void check_close(void) {
           "a fault of the text before one of the cells");
 }
 
-/* NULL with the length 0 stands for an empty name, text and buffer. */
+/* NULL with the length 0 stands for an empty name, an empty buffer and no cells. */
 static void check_null(void) {
     uint8_t buffer[BUFFER];
     const uint8_t *text = (const uint8_t *)TWO;
@@ -196,10 +196,23 @@ static void check_null(void) {
     reply = nonograde_version(NULL, 0);
     check(reply.status == NONOGRADE_BUFFER_TOO_SMALL && reply.length == strlen(NONOGRADE_VERSION),
           "NULL as that of version");
-    for (uint32_t format = NONOGRADE_NON; format <= NONOGRADE_NIN; format++) {
-        reply = nonograde_lines(NULL, 0, format, buffer, sizeof buffer);
-        check(is(reply, NONOGRADE_NO_SIZE, buffer, "NoSize"), "NULL as the text");
-    }
+}
+
+/* NULL with the length 0 stands for an empty text, which has no size. */
+static void check_null_text(uint32_t format) {
+    uint8_t buffer[BUFFER];
+    nonograde_reply reply = solve(format, NULL, 0, 1000, NONOGRADE_FIRST, buffer, sizeof buffer);
+    check(is(reply, NONOGRADE_NO_SIZE, buffer, "NoSize"), "NULL as the text of solve");
+    reply = nonograde_report(NULL, 0, NULL, 0, format, 1000, NONOGRADE_FIRST, buffer, sizeof buffer);
+    check(is(reply, NONOGRADE_NO_SIZE, buffer, "NoSize"), "NULL as the text of report");
+    reply = nonograde_lines(NULL, 0, format, buffer, sizeof buffer);
+    check(is(reply, NONOGRADE_NO_SIZE, buffer, "NoSize"), "NULL as the text of lines");
+    reply = nonograde_close(NULL, 0, format, NULL, 0, NONOGRADE_BY_LINES, buffer, sizeof buffer);
+    check(is(reply, NONOGRADE_NO_SIZE, buffer, "NoSize"), "NULL as the text of close");
+    reply = nonograde_convert(NULL, 0, format, NONOGRADE_NON, buffer, sizeof buffer);
+    check(is(reply, NONOGRADE_NO_SIZE, buffer, "NoSize"), "NULL as the text of convert");
+    nonograde_facts facts;
+    check(nonograde_grade(NULL, 0, format, 1000, NONOGRADE_FIRST, &facts) == NONOGRADE_NO_SIZE, "NULL as the text of grade");
 }
 
 /* Whether facts are these. */
@@ -240,24 +253,6 @@ static void check_facts(void) {
           "no such rule");
 }
 
-static void check_buffers(void) {
-    size_t need = strlen(TWO_SOLVED);
-    for (size_t size = 0; size <= need + 1; size++) {
-        uint8_t *buffer = malloc(size + 1);
-        memset(buffer, 7, size + 1);
-        nonograde_reply reply = solve(NONOGRADE_NIN, TWO, strlen(TWO), 1000, 0, buffer, size);
-        int fits = size >= need;
-        size_t written = fits ? need : 0;
-        int holds = reply.length == need && reply.status == (fits ? NONOGRADE_OK : NONOGRADE_BUFFER_TOO_SMALL);
-        holds = holds && memcmp(buffer, TWO_SOLVED, written) == 0;
-        for (size_t place = written; place <= size; place++) {
-            holds = holds && buffer[place] == 7;
-        }
-        check(holds, "a buffer of some size");
-        free(buffer);
-    }
-}
-
 /* A puzzle of 2 by 200 with two solutions, whose first two rows have a filled cell: two grids and a line fit into a
  * buffer of the length that the library says. */
 static void check_buffer_size(void) {
@@ -288,7 +283,7 @@ static void check_buffer_size(void) {
 #define DEMO_GRID ".##..\n.##.#\n..#.#\n.###.\n#.#..\n#.#..\n..##.\n.#.#.\n.#.##\n##...\n"
 #define PAIR "2 4\n2\n1 1\n#\n1\n1\n1\n1\n"
 
-enum kind { SOLVE, REPORT, GRADE, LINES, CLOSE, CONVERT };
+enum kind { SOLVE, REPORT, GRADE, LINES, CLOSE, CONVERT, VERSION };
 
 /* A call with its settings, and its answer if no allocation fails. */
 struct call {
@@ -315,60 +310,104 @@ static nonograde_reply reply_of_facts(uint32_t status, const nonograde_facts *fa
     return reply;
 }
 
-static nonograde_reply reply_to(const struct call *call, uint8_t *buffer) {
+static nonograde_reply reply_to(const struct call *call, uint8_t *buffer, size_t size) {
     const uint8_t *name = (const uint8_t *)"puzzle", *text = (const uint8_t *)call->text;
     size_t length = strlen(call->text);
     nonograde_facts facts;
     switch (call->kind) {
     case SOLVE:
-        return nonograde_solve(name, 6, text, length, call->format, call->setting, NONOGRADE_FIRST, buffer, BUFFER);
+        return nonograde_solve(name, 6, text, length, call->format, call->setting, NONOGRADE_FIRST, buffer, size);
     case REPORT:
-        return nonograde_report(name, 6, text, length, call->format, call->setting, NONOGRADE_FIRST, buffer, BUFFER);
+        return nonograde_report(name, 6, text, length, call->format, call->setting, NONOGRADE_FIRST, buffer, size);
     case GRADE:
         return reply_of_facts(grade(call->text, call->format, call->setting, NONOGRADE_FIRST, &facts), &facts, buffer);
     case LINES:
-        return nonograde_lines(text, length, call->format, buffer, BUFFER);
+        return nonograde_lines(text, length, call->format, buffer, size);
     case CLOSE:
-        return nonograde_close(text, length, call->format, (const uint8_t *)"?.\n??", 5, call->setting, buffer, BUFFER);
+        return nonograde_close(text, length, call->format, (const uint8_t *)"?.\n??", 5, call->setting, buffer, size);
+    case CONVERT:
+        return nonograde_convert(text, length, call->format, call->setting, buffer, size);
     default:
-        return nonograde_convert(text, length, call->format, call->setting, buffer, BUFFER);
+        return nonograde_version(buffer, size);
     }
 }
+
+/* Calls that allocate, at least one of each kind. */
+static const struct call answered[] = {
+    {LINES, NONOGRADE_NON, 0, DEMO, "one 50\n" DEMO_GRID, NONOGRADE_OK},
+    {SOLVE, NONOGRADE_NON, 1000, DEMO, "1 5x10 one line 50 50 0 meets puzzle\n" DEMO_GRID "\n", NONOGRADE_OK},
+    {SOLVE, NONOGRADE_NIN, 2, TWO, "1 2x2 several search 0 0 2 absent puzzle\n#.\n.#\n\n.#\n#.\n\n", NONOGRADE_OK},
+    {REPORT, NONOGRADE_NIN, 2, TWO, TWO_REPORT("puzzle"), NONOGRADE_OK},
+    {GRADE, NONOGRADE_NIN, 2, TWO, "2 2 2 2 0 0 2 0", NONOGRADE_OK},
+    {GRADE, NONOGRADE_NON, 1000, DEMO, "5 10 1 0 50 50 0 1", NONOGRADE_OK},
+    {CLOSE, NONOGRADE_NIN, NONOGRADE_BY_LINES, TWO, "one 4\n#.\n.#\n", NONOGRADE_OK},
+    {CLOSE, NONOGRADE_NIN, NONOGRADE_BY_TRIALS, TWO, "one 4\n#.\n.#\n", NONOGRADE_OK},
+    {CLOSE, NONOGRADE_NON, NONOGRADE_BY_LINES, DEMO, "BadCells", NONOGRADE_BAD_CELLS},
+    {CONVERT, NONOGRADE_NON, NONOGRADE_NON, DEMO, DEMO, NONOGRADE_OK},
+    {CONVERT, NONOGRADE_NON, NONOGRADE_NIN, DEMO,
+     "5 10\n2\n2 1\n1 1\n3\n1 1\n1 1\n2\n1 1\n1 2\n2\n2 1\n2 1 3\n7\n1 3\n2 1\n", NONOGRADE_OK},
+    {CONVERT, NONOGRADE_MK, NONOGRADE_MK, PAIR, PAIR, NONOGRADE_OK},
+    {CONVERT, NONOGRADE_MK, NONOGRADE_NIN, "1 2\n1\n#\n1\n2\n", "Ambiguous", NONOGRADE_AMBIGUOUS},
+};
 
 /* Each allocation of a call fails in turn. Each time the answer is NoMemory or the usual one, and the next call has the
  * usual answer. */
 static void check_failures(void) {
-    static const struct call calls[] = {
-        {LINES, NONOGRADE_NON, 0, DEMO, "one 50\n" DEMO_GRID, NONOGRADE_OK},
-        {SOLVE, NONOGRADE_NON, 1000, DEMO, "1 5x10 one line 50 50 0 meets puzzle\n" DEMO_GRID "\n", NONOGRADE_OK},
-        {SOLVE, NONOGRADE_NIN, 2, TWO, "1 2x2 several search 0 0 2 absent puzzle\n#.\n.#\n\n.#\n#.\n\n", NONOGRADE_OK},
-        {REPORT, NONOGRADE_NIN, 2, TWO, TWO_REPORT("puzzle"), NONOGRADE_OK},
-        {GRADE, NONOGRADE_NIN, 2, TWO, "2 2 2 2 0 0 2 0", NONOGRADE_OK},
-        {GRADE, NONOGRADE_NON, 1000, DEMO, "5 10 1 0 50 50 0 1", NONOGRADE_OK},
-        {CLOSE, NONOGRADE_NIN, NONOGRADE_BY_LINES, TWO, "one 4\n#.\n.#\n", NONOGRADE_OK},
-        {CLOSE, NONOGRADE_NIN, NONOGRADE_BY_TRIALS, TWO, "one 4\n#.\n.#\n", NONOGRADE_OK},
-        {CLOSE, NONOGRADE_NON, NONOGRADE_BY_LINES, DEMO, "BadCells", NONOGRADE_BAD_CELLS},
-        {CONVERT, NONOGRADE_NON, NONOGRADE_NON, DEMO, DEMO, NONOGRADE_OK},
-        {CONVERT, NONOGRADE_NON, NONOGRADE_NIN, DEMO,
-         "5 10\n2\n2 1\n1 1\n3\n1 1\n1 1\n2\n1 1\n1 2\n2\n2 1\n2 1 3\n7\n1 3\n2 1\n", NONOGRADE_OK},
-        {CONVERT, NONOGRADE_MK, NONOGRADE_MK, PAIR, PAIR, NONOGRADE_OK},
-        {CONVERT, NONOGRADE_MK, NONOGRADE_NIN, "1 2\n1\n#\n1\n2\n", "Ambiguous", NONOGRADE_AMBIGUOUS},
-    };
     uint8_t buffer[BUFFER];
-    for (size_t i = 0; i < sizeof calls / sizeof *calls; i++) {
-        const struct call *call = &calls[i];
+    for (size_t i = 0; i < sizeof answered / sizeof *answered; i++) {
+        const struct call *call = &answered[i];
         int holds = 1, failures = -1, failed_allocation;
         do {
             failures++;
             until_failure = failures + 1;
-            nonograde_reply reply = reply_to(call, buffer);
+            nonograde_reply reply = reply_to(call, buffer, sizeof buffer);
             failed_allocation = until_failure == 0;
             until_failure = 0;
             holds = holds && (is(reply, call->status, buffer, call->wanted) ||
                               (failed_allocation && is(reply, NONOGRADE_NO_MEMORY, buffer, "NoMemory")));
-            holds = holds && is(reply_to(call, buffer), call->status, buffer, call->wanted);
+            holds = holds && is(reply_to(call, buffer, sizeof buffer), call->status, buffer, call->wanted);
         } while (failed_allocation);
         check(holds && failures > 1, call->wanted);
+    }
+}
+
+/* Whether a call writes its answer to a buffer of some size, or nothing if that is too small, and no other byte. */
+static int keeps_to_buffer(const struct call *call, size_t size) {
+    size_t need = strlen(call->wanted), written = size < need ? 0 : need;
+    uint8_t *buffer = malloc(size + 1);
+    memset(buffer, 7, size + 1);
+    nonograde_reply reply = reply_to(call, buffer, size);
+    int holds = reply.length == need && reply.status == (size < need ? NONOGRADE_BUFFER_TOO_SMALL : call->status);
+    holds = holds && memcmp(buffer, call->wanted, written) == 0;
+    for (size_t place = written; place <= size; place++) {
+        holds = holds && buffer[place] == 7;
+    }
+    free(buffer);
+    return holds;
+}
+
+/* Buffers of each size up to one that is longer than the answer. */
+static void check_sizes(const struct call *call) {
+    for (size_t size = 0; size <= strlen(call->wanted) + 1; size++) {
+        check(keeps_to_buffer(call, size), call->wanted);
+    }
+}
+
+/* Each call that has a buffer, with answers and with faults. */
+static void check_buffers(void) {
+    static const struct call others[] = {
+        {SOLVE, NONOGRADE_NIN, 9, "1 1\n1\nx\n", "BadNumber:3", NONOGRADE_BAD_NUMBER},
+        {REPORT, NONOGRADE_NIN, 9, "1 1\n1\nx\n", "BadNumber:3", NONOGRADE_BAD_NUMBER},
+        {LINES, 3, 0, TWO, "BadSetting", NONOGRADE_BAD_SETTING},
+        {VERSION, 0, 0, "", NONOGRADE_VERSION, NONOGRADE_OK},
+    };
+    for (size_t i = 0; i < sizeof answered / sizeof *answered; i++) {
+        if (answered[i].kind != GRADE) {
+            check_sizes(&answered[i]);
+        }
+    }
+    for (size_t i = 0; i < sizeof others / sizeof *others; i++) {
+        check_sizes(&others[i]);
     }
 }
 
@@ -398,7 +437,7 @@ static void check_faults_without_memory(void) {
     uint8_t buffer[BUFFER];
     for (size_t i = 0; i < sizeof calls / sizeof *calls; i++) {
         refuses = 1;
-        nonograde_reply reply = reply_to(&calls[i], buffer);
+        nonograde_reply reply = reply_to(&calls[i], buffer, sizeof buffer);
         refuses = 0;
         check(is(reply, calls[i].status, buffer, calls[i].wanted), "a fault without memory");
     }
@@ -432,6 +471,9 @@ int main(void) {
     check_facts();
     check_close();
     check_null();
+    for (uint32_t format = NONOGRADE_NON; format <= NONOGRADE_NIN; format++) {
+        check_null_text(format);
+    }
     check_failures();
     check_faults_without_memory();
     check_buffers();
