@@ -1,5 +1,5 @@
-/* Solves the puzzle of a file, or closes its grid of 10 by 10 unknown cells by lines, a number of times by the library, and
- * prints the mean wall time of a call in seconds.
+/* Solves the puzzle of a file in .nin, or closes its grid of 10 by 10 unknown cells by lines, a number of times by the
+ * library, and prints the mean wall time of a call in seconds.
  *
  * Usage: call FILE TIMES solve|close */
 #define _POSIX_C_SOURCE 199309L
@@ -32,8 +32,8 @@ int main(int count, char **words) {
     double begun = now();
     for (long k = 0; k < times; k++) {
         nonograde_reply reply =
-            closes ? nonograde_close(text, length, NONOGRADE_NON, cells, sizeof cells, NONOGRADE_BY_LINES, buffer, sizeof buffer)
-                   : nonograde_solve((const uint8_t *)words[1], strlen(words[1]), text, length, NONOGRADE_NON, 1000,
+            closes ? nonograde_close(text, length, NONOGRADE_NIN, cells, sizeof cells, NONOGRADE_BY_LINES, buffer, sizeof buffer)
+                   : nonograde_solve((const uint8_t *)words[1], strlen(words[1]), text, length, NONOGRADE_NIN, 1000,
                                      NONOGRADE_FIRST, buffer, sizeof buffer);
         if (reply.status != NONOGRADE_OK) {
             fprintf(stderr, "call: %.*s\n", (int)reply.length, (const char *)buffer);
