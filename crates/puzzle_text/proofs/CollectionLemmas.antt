@@ -101,15 +101,15 @@ at_line : (marker nameless blank inside : Bool) (place : ℕ) (raw : List ℕ) (
 at_line marker nameless blank inside place raw found later e = search rules
 
 -- Below the lines `front`, one pass finds the same first stray line as the definition.
-walk_below : (front raws : List (List ℕ))
+stray_below : (front raws : List (List ℕ))
     → stray_from (length front + 1) (list_any is_marker front) raws ≡ stray_number (front ++ raws) (enumerate_from (length front) raws)
-walk_below front [] = refl
-walk_below front (raw ∷ raws) =
-    search (rules, walk_below (front ++ raw ∷ []) raws, append_assoc, length-append, list_any-append, or-false, take-append_seam, at_line)
+stray_below front [] = refl
+stray_below front (raw ∷ raws) =
+    search (rules, stray_below (front ++ raw ∷ []) raws, append_assoc, length-append, list_any-append, or-false, take-append_seam, at_line)
 
 -- One pass from the top finds the first stray line.
 pub first_stray_found : (raws : List (List ℕ)) → stray_from 1 false raws ≡ first_stray raws
-first_stray_found raws = walk_below [] raws
+first_stray_found raws = stray_below [] raws
 
 -- If all entries have names, no line below a marker line is stray.
 none_below : (number : ℕ) (raws : List (List ℕ)) → are_named (entries_of raws) ≡ true → stray_from number true raws ≡ None

@@ -1,5 +1,5 @@
 -- Lines in their usual form, and that the general reader returns the puzzle that the fast path builds.
-use Rattle.puzzle_text.proofs.Names.{rules, ◌≡◌, ℕ, ◌-◌, ◌<◌, ◌≤◌, true, false, drop, eqb, List, [], ◌∷◌, ◌++◌, length, take, get_or, refl, append_assoc, arith, Some, Ok, AllByRecursion, is_ascii_digit, le-leb, nat_tests, get_or_append_left, take_all, slice_split_at, slice_split_none, AllPass-from_list_all, MAX_SIDE, is_clue, numbers_within, pieces, BeginsWith, BeginsWithNumber, EndsLine, IsNumeral, IsSeparator, ReadsClue, ReadsSizes, ne_eqb, all-append, two_sizes, ◌+◌, filter, sym, ap, ◌∙◌, eqb-true, nil_from_length, append-nil, length-append, filter-append, SectionKind, Other, TextLine, is_empty, numbered_from, raw_lines, is_keyword_line, keyword, Sections, placed, sections_of, IsSectionOfKeyword, with_line, AreClueLines, HaveClues, KeepsOthers, ReadsClues, clues_of_kind, Result, IfOk, IfSome, Nonogram, plain, Gives, lines, read_mk, read_nin, build_puzzle, read_non, orient, all-weaker, filter_all, filter_none, HaveNoFeed}
+use Rattle.puzzle_text.proofs.Names.{rules, ◌≡◌, ℕ, ◌-◌, ◌<◌, ◌≤◌, true, false, drop, eqb, List, [], ◌∷◌, ◌++◌, length, take, get_or, refl, append_assoc, arith, Some, Ok, AllByRecursion, is_ascii_digit, le-leb, nat_tests, get_or_append_left, take_all, slice_split_at, slice_split_none, AllPass-from_list_all, MAX_SIDE, is_clue, numbers_within, pieces, BeginsWith, BeginsWithNumber, EndsLine, IsNumeral, IsCommaOrSpace, ReadsClue, ReadsSizes, ne_eqb, all-append, two_sizes, ◌+◌, filter, sym, ap, ◌∙◌, eqb-true, nil_from_length, append-nil, length-append, filter-append, SectionKind, Other, TextLine, is_empty, numbered_from, raw_lines, is_keyword_line, keyword, Sections, placed, sections_of, IsSectionOfKeyword, with_line, AreClueLines, HaveClues, KeepsOthers, ReadsClues, clues_of_kind, Result, IfOk, IfSome, Nonogram, plain, Gives, lines, read_mk, read_nin, build_puzzle, read_non, orient, all-weaker, filter_all, filter_none, HaveNoFeed}
 use Rattle.puzzle_text.proofs.NumbersLemmas.{number_is}
 use Rattle.puzzle_text.proofs.ReadBack.{IsKept, IsTidy, kept_tidy, line_kept, tidy_digits, raw_lines-feed, strip_last_is, tidy-join, some_text}
 use Rattle.puzzle_text.proofs.ParsedLines.{ReadsAll, parsed_of_kept, mk_lines, nin_lines, short_lines}
@@ -24,7 +24,7 @@ module _ (piece : List ℕ) (n : ℕ) (numeral : IsNumeral piece n) where
   pieces_alone : pieces piece ≡ piece ∷ []
   pieces_alone = search (rules, slice_split_none, some_piece, AllPass-from_list_all, nat_tests, ne_eqb)
 
-  pieces_more : (s : ℕ) (more : List ℕ) → IsSeparator s → pieces (piece ++ s ∷ more) ≡ piece ∷ pieces more
+  pieces_more : (s : ℕ) (more : List ℕ) → IsCommaOrSpace s → pieces (piece ++ s ∷ more) ≡ piece ∷ pieces more
   pieces_more s more spacing = search (rules, slice_split_at, some_piece, AllPass-from_list_all, nat_tests, ne_eqb)
 
   -- The digits of a number are read as that number.
@@ -32,7 +32,7 @@ module _ (piece : List ℕ) (n : ℕ) (numeral : IsNumeral piece n) where
   number_alone = search (rules, pieces_alone, tidy_digits, some_piece, AllPass-from_list_all, number_is)
 
   -- A number before other numbers: all of them are read.
-  pub number_before : (s : ℕ) (more ns : List ℕ) → IsSeparator s → ReadsNumbers more ns → ReadsNumbers (piece ++ s ∷ more) (n ∷ ns)
+  pub number_before : (s : ℕ) (more ns : List ℕ) → IsCommaOrSpace s → ReadsNumbers more ns → ReadsNumbers (piece ++ s ∷ more) (n ∷ ns)
   number_before s more ns spacing parsed =
       search (rules, tidy-join, get_or_append_left, some_piece, pieces_more, tidy_digits, AllPass-from_list_all, number_is)
 
@@ -43,7 +43,7 @@ PassesNumbers text rest numbers = (front : List ℕ) × (text ≡ front ++ rest)
 
 -- A number and a separator at the start of `rest` extend the prefix by that number.
 pub number_and_more : (text rest others numbers more : List ℕ) (n s : ℕ) → PassesNumbers text rest numbers
-    → BeginsWithNumber rest n (s ∷ others) → IsSeparator s → more ≡ numbers ++ n ∷ [] → PassesNumbers text others more
+    → BeginsWithNumber rest n (s ∷ others) → IsCommaOrSpace s → more ≡ numbers ++ n ∷ [] → PassesNumbers text others more
 number_and_more text rest others numbers more n s passed begins separated is =
     let joined = λ (line ns : List ℕ) (parsed : ReadsNumbers line ns).
     passed.2 _ (n ∷ ns) (number_before _ n begins.2 s line ns separated parsed) in
@@ -81,7 +81,7 @@ zero_ends text after next clue whole ends none =
     (48 ∷ [], rw whole (line_ends (48 ∷ []) after next (search rules) ends), (rw none refl, refl))
 
 -- Two numbers with a separator between them are read as the sizes.
-pub sizes_end : (text second next rest : List ℕ) (a s b : ℕ) → BeginsWithNumber text a (s ∷ second) → IsSeparator s
+pub sizes_end : (text second next rest : List ℕ) (a s b : ℕ) → BeginsWithNumber text a (s ∷ second) → IsCommaOrSpace s
     → BeginsWithNumber second b next → EndsLine next rest → ReadsSizes text (a, b) rest
 sizes_end text second next rest a s b one separated two ends =
     let line = one.0 ++ s ∷ two.0 in

@@ -40,7 +40,7 @@ pub use Rattle.puzzle_text.specs.declared.section_split.SectionKind.TheVariants.
 pub use Rattle.puzzle_text.specs.steps.Collections.{FollowsPlain, are_named, begins_with_marker, ends_line}
 pub use Rattle.puzzle_text.specs.steps.SectionSplit.{IsSectionOfKeyword, with_line}
 pub use Rattle.puzzle_text.specs.steps.Shown.{shown_keyword, shown_line, shown_sections}
-pub use Rattle.puzzle_text.specs.steps.Fast.{AreClueLines, BeginsWith, BeginsWithNumber, EndsLine, HaveClues, IsNumeral, IsSeparator, KeepsOthers, ReadsClues, ReadsClue, ReadsSizes, clues_of_kind}
+pub use Rattle.puzzle_text.specs.steps.Fast.{AreClueLines, BeginsWith, BeginsWithNumber, EndsLine, HaveClues, IsNumeral, IsCommaOrSpace, KeepsOthers, ReadsClues, ReadsClue, ReadsSizes, clues_of_kind}
 pub use Rattle.std.proofs.lemmas.List.Quantifiers.{position-Some}
 pub use Rattle.grid_core.specs.declared.fields.Field.{Field}
 pub use Rattle.grid_core.specs.declared.fields.Field.TheVariants.{By, Catalogue, Copyright, License, Title}

@@ -1,5 +1,5 @@
 -- Lines, numbers and clues that are written are read again as they were, and how long they are.
-use Rattle.puzzle_text.proofs.Names.{rules, ◌≡◌, true, ℕ, ◌+◌, ◌-◌, ◌<◌, ◌≤◌, false, eqb, List, [], ◌∷◌, ◌++◌, length, get_or, refl, append_assoc, arith, list_all, flat_map, AllByRecursion, leb-true, cond-false, ne_eqb, eq-eqb, take_at, get_or_at, get_or-reverse, length-append, reverse-reverse, nat_tests, All-from_recursion, All-get_or, TextLine, raw_lines, numbered_from, trim, trim_start, strip_last, without_ending, is_space_or_tab, ◌^◌, not, map, All, ap, Some, decimal, slice_split, is_ascii_digit, AllDigits, and_parts, inr, IsSeparator, le-leb, append-nil, get_or_default, slice_split_none, slice_split_at, digit_at, digit_from_value, decimal_is_IsNumeral, decimal_nonempty, is_clue, is_empty, is_separator, pieces, numbers_within, clue_of, clue_text, ◌*◌, Ok, get_or_append_left, get_or-append_right, length-decimal-le, size_of, two_sizes, clue_line, clue_lines, two_numbers, all-weaker, all_pass, all-map, filter_all, all-append}
+use Rattle.puzzle_text.proofs.Names.{rules, ◌≡◌, true, ℕ, ◌+◌, ◌-◌, ◌<◌, ◌≤◌, false, eqb, List, [], ◌∷◌, ◌++◌, length, get_or, refl, append_assoc, arith, list_all, flat_map, AllByRecursion, leb-true, cond-false, ne_eqb, eq-eqb, take_at, get_or_at, get_or-reverse, length-append, reverse-reverse, nat_tests, All-from_recursion, All-get_or, TextLine, raw_lines, numbered_from, trim, trim_start, strip_last, without_ending, is_space_or_tab, ◌^◌, not, map, All, ap, Some, decimal, slice_split, is_ascii_digit, AllDigits, and_parts, inr, IsCommaOrSpace, le-leb, append-nil, get_or_default, slice_split_none, slice_split_at, digit_at, digit_from_value, decimal_is_IsNumeral, decimal_nonempty, is_clue, is_empty, is_separator, pieces, numbers_within, clue_of, clue_text, ◌*◌, Ok, get_or_append_left, get_or-append_right, length-decimal-le, size_of, two_sizes, clue_line, clue_lines, two_numbers, all-weaker, all_pass, all-map, filter_all, all-append}
 use Rattle.puzzle_text.proofs.ParsedLines.{ReadsAll}
 
 -- the text of a written line: no byte is less than a space, and neither end is blank
@@ -70,7 +70,7 @@ no_separator : (n : ℕ) → IsWord n → All (λ byte. is_separator byte ≡ fa
 no_separator n h k d lt =
     grind (arith, nat_tests, digit_at (decimal n) k (decimal_is_IsNumeral n h).0.1 lt, get_or_default (decimal n) k d 0 lt)
 
-split_clue : (s n : ℕ) (ns : List ℕ) → IsSeparator s → AllByRecursion IsWord (n ∷ ns)
+split_clue : (s n : ℕ) (ns : List ℕ) → IsCommaOrSpace s → AllByRecursion IsWord (n ∷ ns)
     → slice_split is_separator (clue_text s (n ∷ ns)) ≡ map decimal (n ∷ ns)
 split_clue s n [] spacing h = rw append-nil (slice_split_none is_separator (decimal n) (no_separator n h.0))
 split_clue s n (m ∷ ns) by h = search (rules, split_clue s m ns by h.1, append-nil, slice_split_none, no_separator, slice_split_at)
@@ -79,7 +79,7 @@ pub filled : (n : ℕ) → IsWord n → not (is_empty (decimal n)) ≡ true
 filled n h = ap not (ne_eqb (length (decimal n)) 0 (λ e. omega (arith, decimal_nonempty n h)))
 
 -- The pieces of a written clue are its numbers.
-pub pieces_of_clue : (s n : ℕ) (ns : List ℕ) → IsSeparator s → AllByRecursion IsWord (n ∷ ns)
+pub pieces_of_clue : (s n : ℕ) (ns : List ℕ) → IsCommaOrSpace s → AllByRecursion IsWord (n ∷ ns)
     → pieces (clue_text s (n ∷ ns)) ≡ map decimal (n ∷ ns)
 pieces_of_clue s n ns spacing h =
     let non_empty = λ (piece : List ℕ). not (is_empty piece) in
@@ -109,14 +109,14 @@ pub word_clue : (limit : ℕ) (clue : List ℕ) → limit < 2 ^ 64 → is_clue l
 word_clue limit clue wide h = all-weaker (λ n. n ≤ limit) IsWord (λ n low. omega arith) clue (runs limit clue h)
 
 -- A written clue is read again as the same clue.
-pub clue_again : (s limit : ℕ) (clue : List ℕ) → IsSeparator s → limit < 2 ^ 64 → is_clue limit clue ≡ true
+pub clue_again : (s limit : ℕ) (clue : List ℕ) → IsCommaOrSpace s → limit < 2 ^ 64 → is_clue limit clue ≡ true
     → clue_of limit (clue_text s clue) ≡ Some clue
 clue_again s limit [] spacing wide h = rw (le-leb 0 limit (omega arith)) refl
 clue_again s limit (n ∷ ns) by wide h =
     search (rules, pieces_of_clue s n ns by (word_clue limit (n ∷ ns) wide h), numbers_again limit (n ∷ ns) wide (runs limit (n ∷ ns) h))
 
 -- Two texts of written lines with a separator between them are such a text.
-pub tidy-join : (s : ℕ) (a b : List ℕ) → IsSeparator s → IsTidy a → IsTidy b → IsTidy (a ++ s ∷ b)
+pub tidy-join : (s : ℕ) (a b : List ℕ) → IsCommaOrSpace s → IsTidy a → IsTidy b → IsTidy (a ++ s ∷ b)
 tidy-join s a b spacing p q = search (rules, some_byte, all-append, get_or_append_left, get_or-append_right, length-append)
 
 -- Digits are the text of a written line.
@@ -128,7 +128,7 @@ pub tidy_decimal : (n : ℕ) → IsWord n → IsTidy (decimal n)
 tidy_decimal n h = let numeral = (decimal_is_IsNumeral n h).0 in tidy_digits (decimal n) numeral.0 (all_digits (decimal n) numeral.1)
 
 -- A clue is the text of a written line.
-pub tidy_clue : (s : ℕ) (numbers : List ℕ) → IsSeparator s → AllByRecursion IsWord numbers → IsTidy (clue_text s numbers)
+pub tidy_clue : (s : ℕ) (numbers : List ℕ) → IsCommaOrSpace s → AllByRecursion IsWord numbers → IsTidy (clue_text s numbers)
 tidy_clue s [] spacing h = record { inked = (omega arith, tt); first = omega arith; last = omega arith }
 tidy_clue s (n ∷ []) spacing h = rw append-nil (tidy_decimal n h.0)
 tidy_clue s (n ∷ m ∷ ns) spacing h = search (rules, tidy_clue s (m ∷ ns) spacing h.1, append-nil, tidy_decimal, tidy-join)
@@ -148,14 +148,14 @@ pub some_text : (text : List ℕ) → 48 ≤ get_or text 0 0 → not (is_empty t
 some_text text h = ap not (ne_eqb (length text) 0 (λ e. omega (arith, some_byte text)))
 
 -- The lines of written clues are read as these clues.
-pub reads_clues : (s limit k : ℕ) (clues : List (List ℕ)) → IsSeparator s → limit < 2 ^ 64
+pub reads_clues : (s limit k : ℕ) (clues : List (List ℕ)) → IsCommaOrSpace s → limit < 2 ^ 64
     → AllByRecursion (λ clue. is_clue limit clue ≡ true) clues → ReadsAll limit (numbered k (map (clue_text s) clues)) clues
 reads_clues s limit k [] spacing wide h = record { non_blank = tt; hash = tt; count = refl; parsed = refl }
 reads_clues s limit k (clue ∷ clues) spacing wide h =
     search (rules, reads_clues s limit (k + 1) clues spacing wide h.1, first_digit, word_clue, some_text, ne_eqb, clue_again)
 
 -- The texts of written clues are those of whole lines.
-pub kept_clues : (s limit : ℕ) (clues : List (List ℕ)) → IsSeparator s → limit < 2 ^ 64
+pub kept_clues : (s limit : ℕ) (clues : List (List ℕ)) → IsCommaOrSpace s → limit < 2 ^ 64
     → AllByRecursion (λ clue. is_clue limit clue ≡ true) clues → AllByRecursion IsKept (map (clue_text s) clues)
 kept_clues s limit clues spacing wide h = search (all-map, kept_tidy, tidy_clue, word_clue)
 

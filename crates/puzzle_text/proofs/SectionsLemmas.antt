@@ -54,12 +54,12 @@ last_more start [] x = refl
 last_more start (y ∷ xs) x = last_more (Some y) xs x
 
 -- From below the lines `top` on, with their last keyword, one pass finds the same lines and keywords.
-walk_below : (top lines : List TextLine)
+walked_below : (top lines : List TextLine)
     → walked (last_keyword top) lines ≡ map (λ one. (last_keyword (take one.0 (top ++ lines)), one.1))
     (filter (λ one. is_content one.1) (enumerate_from (length top) lines))
-walk_below top [] = refl
-walk_below top (line ∷ lines) =
-    search (rules, walk_below (top ++ line ∷ []) lines, filter-append, append-nil, last_more, append_assoc, length-append, take-append_seam)
+walked_below top [] = refl
+walked_below top (line ∷ lines) =
+    search (rules, walked_below (top ++ line ∷ []) lines, filter-append, append-nil, last_more, append_assoc, length-append, take-append_seam)
 
 -- ---- the sections
 
@@ -134,7 +134,7 @@ join_content kind above (line ∷ found) todo content =
 -- At the top, the sections are empty, and those of all lines are still to come.
 pub nothing_above : (rows columns lines : List TextLine) → rows ≡ [] → columns ≡ []
     → join (record { rows = rows; columns = columns; stray = None }) (below Other lines) ≡ sections_of (placed lines)
-nothing_above rows columns lines p q = rw (p, q) (ap sections_of (walk_below [] lines))
+nothing_above rows columns lines p q = rw (p, q) (ap sections_of (walked_below [] lines))
 
 -- Lower case doesn't change whether a keyword is empty.
 pub none_is : (own word : List ℕ) (b : Bool) → str_to_ascii_lowercase own ≡ word → eqb (length own) 0 ≡ b → is_empty word ≡ b

@@ -3,7 +3,7 @@
 
 ghost use Rattle.std.specs.Prelude.{◌≡◌, ◌+◌, ◌-◌, ◌<◌, ◌≤◌, ◌∷◌, [], length, true, IfSome, IsTrue};
 ghost use Rattle.std.specs.Char.{is_ascii_digit};
-ghost use Rattle.puzzle_text.specs.steps.Fast.{BeginsWith, BeginsWithNumber, EndsLine, IsNumeral, IsSeparator, ReadsClues, ReadsClue, ReadsSizes};
+ghost use Rattle.puzzle_text.specs.steps.Fast.{BeginsWith, BeginsWithNumber, EndsLine, IsNumeral, IsCommaOrSpace, ReadsClues, ReadsClue, ReadsSizes};
 
 use crate::clue_lines::vec_with_capacity;
 use grid_core::{Clue, MAX_SIDE};
@@ -86,7 +86,7 @@ fn after_line_end(end: u8, rest: &[u8]) -> Option<&[u8]>
 
 /// Reports whether a byte is a comma or a space.
 fn is_comma_or_space(byte: u8) -> bool
-    ensures { IsTrue result → IsSeparator byte }
+    ensures { IsTrue result → IsCommaOrSpace byte }
 {
     byte == b',' || byte == b' '
 }
@@ -139,7 +139,7 @@ pub(crate) fn read_clue_lines(alloc: Global, count: u16, text: &[u8]) -> Option<
 
 /// Parses the first line as two sizes. Returns them in the order of the line, and the text after
 /// it.
-pub(crate) fn size_line(text: &[u8]) -> Option<((u16, u16), &[u8])>
+pub(crate) fn read_sizes(text: &[u8]) -> Option<((u16, u16), &[u8])>
     ensures { IfSome result (λ found. ReadsSizes text.now found.0 found.1.now) }
 {
     let (first, between, after) = number(text)?;

@@ -10,7 +10,7 @@ ghost use Rattle.puzzle_text.specs.steps.Lines.{HaveNoFeed};
 ghost use Rattle.puzzle_text.specs.steps.Shown.{shown_keyword};
 ghost use Rattle.puzzle_text.specs.steps.Fast.{HaveClues};
 
-use crate::fast_lines::{hash_line, read_clue_lines, size_line};
+use crate::fast_lines::{hash_line, read_clue_lines, read_sizes};
 use crate::fast_sections::{FastSections, fast_sections_of};
 use crate::faults::TextFault;
 use crate::limits::MAX_PUZZLE_LEN;
@@ -68,7 +68,7 @@ pub(crate) fn quick_mk(alloc: Global, bytes: &[u8]) -> Option<Puzzle>
     if bytes.len() > MAX_PUZZLE_LEN {
         return None;
     }
-    let ((height, width), after) = size_line(bytes)?;
+    let ((height, width), after) = read_sizes(bytes)?;
     let (rows, middle) = read_clue_lines(alloc, height, after)?;
     let (columns, rest) = read_clue_lines(alloc, width, hash_line(middle)?)?;
     if !rest.is_empty() {
@@ -86,7 +86,7 @@ pub(crate) fn quick_nin(alloc: Global, bytes: &[u8]) -> Option<Puzzle>
     if bytes.len() > MAX_PUZZLE_LEN {
         return None;
     }
-    let ((a, b), after) = size_line(bytes)?;
+    let ((a, b), after) = read_sizes(bytes)?;
     let (clues, rest) = read_clue_lines(alloc, a + b, after)?;
     if !rest.is_empty() {
         return None;

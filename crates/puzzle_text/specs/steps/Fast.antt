@@ -26,8 +26,8 @@ BeginsWithNumber bytes number rest =
     (piece : List ℕ) × (bytes ≡ piece ++ rest) × IsNumeral piece number
 
 -- `byte` is a comma or a space
-abbrev pub IsSeparator : ℕ → Type 0
-IsSeparator byte = (byte ≡ 44) ⊎ (byte ≡ 32)
+abbrev pub IsCommaOrSpace : ℕ → Type 0
+IsCommaOrSpace byte = (byte ≡ 44) ⊎ (byte ≡ 32)
 
 -- `bytes` begin with a line ending, and `rest` follows it
 abbrev pub EndsLine : List ℕ → List ℕ → Type 0

@@ -1,7 +1,7 @@
--- `size_line`: two numbers with a separator between them, and a line ending.
+-- `read_sizes`: two numbers with a comma or a space between them, and a line ending.
 use Rattle.puzzle_text.proofs.Names.{rules}
 use Rattle.puzzle_text.proofs.FastLines.{sizes_end}
-use Rattle.puzzle_text.proofs.fast_lines.size_line.Goals as goal
+use Rattle.puzzle_text.proofs.fast_lines.read_sizes.Goals as goal
 
 pub returns : goal.returns
 returns c =
