@@ -1,6 +1,6 @@
 -- Deductions of lines by their clues, and the cache that keeps them.
-use Rattle.std.specs.Prelude.{◌≡◌, ◌⊎◌, ℕ, List, [], Option, All, slice_index_or, true}
-use Rattle.std.specs.List.{AllByRecursion, Contains}
+use Rattle.std.specs.Prelude.{◌≡◌, ◌⊎◌, ℕ, List, [], Option, Some, None, IfSome, slice_index_or, true}
+use Rattle.std.specs.List.{AllByRecursion}
 use Rattle.grid_core.specs.declared.cells.Cell.{Cell}
 use Rattle.grid_core.specs.Clues.{is_clue}
 use Rattle.line_core.specs.Deduction.{deduced}
@@ -17,15 +17,23 @@ pub record CachedLine : Type 0 where
 abbrev pub IsDeductionOf : List (List ℕ) → CachedLine → Type 0
 IsDeductionOf clues d = d.answer ≡ deduced d.line (slice_index_or clues d.clue [])
 
+-- the deduction in slot `k`, if there is one
+abbrev pub cached_in : List (Option CachedLine) → ℕ → Option CachedLine
+cached_in slots k = slice_index_or slots k None
+
+-- the slots `new` hold what the slots `old` hold
+abbrev pub HoldSame : List (Option CachedLine) → List (Option CachedLine) → Type 0
+HoldSame old new = (k : ℕ) → cached_in new k ≡ cached_in old k
+
+-- each slot of `new` holds `d`, or what it holds in `old`
+abbrev pub IsInserted : List (Option CachedLine) → CachedLine → List (Option CachedLine) → Type 0
+IsInserted old d new = (k : ℕ) → (cached_in new k ≡ Some d) ⊎ (cached_in new k ≡ cached_in old k)
+
 -- each clue fits into sets of `width` indices, and the cached deductions and the lookahead tables
 -- are correct
 pub record AreDeductionsOf
-    (width : ℕ) (clues : List (List ℕ)) (cached : List CachedLine) (tables : List Table)
+    (width : ℕ) (clues : List (List ℕ)) (slots : List (Option CachedLine)) (tables : List Table)
     : Type 0 where
   pub fit : AllByRecursion (λ clue. is_clue width clue ≡ true) clues
-  pub right : All (IsDeductionOf clues) cached
+  pub right : (k : ℕ) → IfSome (cached_in slots k) (IsDeductionOf clues)
   pub tables_are : AreTablesOf clues tables
-
--- `d` is the deduction `new`, or one of the list `old`
-abbrev pub IsInsertedInto : List CachedLine → CachedLine → CachedLine → Type 0
-IsInsertedInto old new d = (d ≡ new) ⊎ Contains old d

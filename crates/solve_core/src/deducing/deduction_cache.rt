@@ -1,7 +1,6 @@
 //! A cache of deduced lines.
-ghost use Rattle.std.specs.Prelude.{[], ◌≡◌, ◌≤◌, vec_capacity, IsTrue, IfOk, IfSome, All};
-ghost use Rattle.std.specs.List.{Contains};
-ghost use Rattle.solve_core.specs.steps.DeductionCache.{IsInsertedInto};
+ghost use Rattle.std.specs.Prelude.{[], ◌≡◌, ◌≤◌, Some, vec_capacity, IsTrue, IfOk, IfSome};
+ghost use Rattle.solve_core.specs.steps.DeductionCache.{HoldSame, IsInserted, cached_in};
 
 use crate::buffers::cleared_with_capacity;
 use grid_core::NoMemory;
@@ -14,9 +13,6 @@ pub const MAX_CACHED: usize = 16384;
 
 /// How many deductions are cached for each cell of a puzzle, up to the most for the set width.
 const CACHED_PER_CELL: usize = 16;
-
-/// The content of an empty slot, which is no deduction's index.
-const EMPTY_SLOT: u16 = u16::MAX;
 
 /// The cells of a line, the index of its clue, and its deduced line; `None` if it is dead.
 #[derive(Drop)]
@@ -61,35 +57,24 @@ fn capacity_for<W: LineBits>(cells: usize) -> usize
         .min(max_cached::<W>())
 }
 
-/// Replaces the deduction with number `index` by `deduction`. If there is none, appends `deduction`
-/// and writes its number to `index`, unless there are `capacity` deductions already.
-fn insert_entry<W: LineBits>(
-    entries: &mut Vec<CachedDeduction<W>>,
-    index: &mut u16,
-    capacity: usize,
-    deduction: CachedDeduction<W>,
-)
-    requires fits { capacity ≤ vec_capacity entries.old }
-    requires few { capacity ≤ MAX_CACHED }
-    ensures entries { All (IsInsertedInto entries.old.items deduction) entries.new.items }
-    ensures fits { vec_capacity entries.new ≡ vec_capacity entries.old }
+/// Appends empty slots to `slots` until there are `count`, for which its capacity has to suffice.
+fn add_slots<W: LineBits>(slots: &mut Vec<Option<CachedDeduction<W>>>, count: usize)
+    requires { count ≤ vec_capacity slots.old }
+    ensures same { HoldSame slots.old.items slots.new.items }
+    ensures capacity { vec_capacity slots.new ≡ vec_capacity slots.old }
 {
-    let count = entries.len();
-    let place = usize::from(*index);
-    if place < count {
-        entries[place] = deduction;
-    } else if count < capacity {
-        *index = count as u16;
-        entries.push_reserved(deduction);
+    while slots.len() < count {
+        slots.push_reserved(None);
     }
 }
 
 /// Deductions that are kept once the cache is enabled. A line with its clue's index hashes to one
 /// slot, and a new deduction replaces the one in its slot.
 pub struct DeductionCache<W: LineBits> {
+    /// How many slots there are once the cache is enabled: a power of two.
     capacity: usize,
-    slots: Vec<u16>,
-    entries: Vec<CachedDeduction<W>>,
+    /// The slots; none before the cache is enabled.
+    slots: Vec<Option<CachedDeduction<W>>>,
 }
 
 /// Written by hand so that callers' proofs see one call: a derived drop is expanded at each exit of
@@ -99,31 +84,29 @@ impl<W: LineBits> Drop for DeductionCache<W> {
         let DeductionCache {
             capacity: _,
             slots: _,
-            entries: _,
         } = self;
     }
 }
 
 impl<W: LineBits> Model for DeductionCache<W> {
-    ghost use Rattle.std.specs.Prelude.{◌≤◌, List, vec_capacity};
+    ghost use Rattle.std.specs.Prelude.{◌≤◌, List, Option, vec_capacity};
     ghost use Rattle.solve_core.specs.steps.DeductionCache.{CachedLine};
     ghost use Rattle.solve_core.specs.declared.deducing.deduction_cache.TheConstants.{MAX_CACHED};
 
-    ghost Value = { List CachedLine };
+    ghost Value = { List (Option CachedLine) };
 
-    ghost view = { λ d. d.entries.items };
+    ghost view = { λ d. d.slots.items };
 
     ghost invariant = { λ d.
-        (1 ≤ d.capacity) × (d.capacity ≤ MAX_CACHED) × (d.capacity ≤ vec_capacity d.entries) };
+        (1 ≤ d.capacity) × (d.capacity ≤ MAX_CACHED) × (d.capacity ≤ vec_capacity d.slots) };
 }
 
 impl<W: LineBits> DeductionCache<W> {
-    /// Returns an empty cache for `capacity` deductions, 1 to 16,384, in the buffers `slots` and
-    /// `entries`. Fails with `NoMemory` if an allocation fails.
-    fn in_buffers(
+    /// Returns an empty cache for `capacity` deductions, 1 to 16,384, in the buffer `slots`. Fails
+    /// with `NoMemory` if an allocation fails.
+    fn in_buffer(
         alloc: Global,
-        slots: Vec<u16>,
-        entries: Vec<CachedDeduction<W>>,
+        slots: Vec<Option<CachedDeduction<W>>>,
         capacity: usize,
     ) -> Result<DeductionCache<W>, NoMemory>
         requires { (1 ≤ capacity) × (capacity ≤ MAX_CACHED) }
@@ -132,7 +115,6 @@ impl<W: LineBits> DeductionCache<W> {
         Ok(DeductionCache {
             capacity,
             slots: cleared_with_capacity(alloc, slots, capacity)?,
-            entries: cleared_with_capacity(alloc, entries, capacity)?,
         })
     }
 
@@ -140,29 +122,24 @@ impl<W: LineBits> DeductionCache<W> {
     pub fn new(alloc: Global) -> Result<DeductionCache<W>, NoMemory>
         ensures { IfOk result (λ cache. cache ≡ []) }
     {
-        DeductionCache::in_buffers(alloc, Vec::new(alloc), Vec::new(alloc), 1)
+        DeductionCache::in_buffer(alloc, Vec::new(alloc), 1)
     }
 
-    /// Returns the cache, emptied, and with buffers in proportion to the `cells` of a puzzle.
+    /// Returns the cache, emptied, and with a buffer in proportion to the `cells` of a puzzle.
     /// Nothing is cached before `enable` is called. Fails with `NoMemory` if an allocation fails.
     pub fn reset(self, alloc: Global, cells: usize) -> Result<DeductionCache<W>, NoMemory>
         requires { cells ≤ 65536 }
         ensures { IfOk result (λ cache. cache ≡ []) }
     {
-        let DeductionCache {
-            capacity: _,
-            slots,
-            entries,
-        } = self;
-        DeductionCache::in_buffers(alloc, slots, entries, capacity_for::<W>(cells))
+        let DeductionCache { capacity: _, slots } = self;
+        DeductionCache::in_buffer(alloc, slots, capacity_for::<W>(cells))
     }
 
     /// Enables the cache, and has no effect if it is enabled. Allocates nothing.
     pub fn enable(&mut self)
-        ensures { self.new ≡ self.old }
+        ensures { HoldSame self.old self.new }
     {
-        // This can't fail, since the capacity suffices.
-        let _ = self.slots.resize(self.capacity, EMPTY_SLOT);
+        add_slots(&mut self.slots, self.capacity);
     }
 
     /// Reports whether the cache is enabled.
@@ -181,11 +158,10 @@ impl<W: LineBits> DeductionCache<W> {
 
     /// Returns the deduction in `slot` if it is of a line with the cells of `line` and clue `k`.
     pub fn get(&self, slot: usize, k: u16, line: &BitLine<W>) -> Option<&CachedDeduction<W>>
-        ensures { IfSome result (λ d.
-            Contains self.now d.now × (d.now.clue ≡ k) × (d.now.line ≡ line.now)) }
+        ensures { IfSome result (λ d. (cached_in self.now slot ≡ Some d.now)
+            × (d.now.clue ≡ k) × (d.now.line ≡ line.now)) }
     {
-        let index = self.slots.get(slot)?;
-        let deduction = self.entries.get(usize::from(*index))?;
+        let deduction = self.slots.get(slot)?.as_ref()?;
         if deduction.is_of(k, line) {
             Some(deduction)
         } else {
@@ -196,10 +172,10 @@ impl<W: LineBits> DeductionCache<W> {
     /// Puts `deduction` into `slot`, in place of the one that was there. Has no effect if the cache
     /// isn't enabled.
     pub fn insert(&mut self, slot: usize, deduction: CachedDeduction<W>)
-        ensures { All (IsInsertedInto self.old deduction) self.new }
+        ensures { IsInserted self.old deduction self.new }
     {
-        if let Some(index) = self.slots.get_mut(slot) {
-            insert_entry(&mut self.entries, index, self.capacity, deduction);
+        if let Some(old) = self.slots.get_mut(slot) {
+            *old = Some(deduction);
         }
     }
 }
