@@ -37,10 +37,13 @@ pub use Rattle.solve_core.specs.Picks.{better, first_most, is_above_known, is_be
 pub use Rattle.solve_core.specs.Report.{events_from, grade_by, grid_of, guesses_in, guesses_of, is_decided, known_in, limited_search, line_closure, report_of, search_of, solutions_in, through_solution, trial_closure, unknown_grid, verdict_by, verdict_of, whole_search, within_guesses}
 pub use Rattle.solve_core.specs.Search.{Event, Guess, IsPick, Solution, events, events_within, first_unknown, guess_at, search_from}
 pub use Rattle.solve_core.specs.Trials.{HasNoRefutedColour, all_present, is_refuted, left_over, trial_round, trials, after_trials_of}
-pub use Rattle.solve_core.specs.Verdicts.{Holds, IsFinal}
+pub use Rattle.solve_core.specs.Extensions.{HoldsFrom, SolvesFrom, extending_search, extensions_by, extensions_of, limited_extending}
+pub use Rattle.solve_core.specs.Verdicts.{Holds, HoldsOf, IsFinal}
 pub use Rattle.solve_core.specs.declared.searching.branches.Branch.{Branch}
 pub use Rattle.solve_core.specs.declared.solving.propagation.Effect.TheVariants.{Changed, Dead, Unchanged}
+pub use Rattle.solve_core.specs.declared.extensions.Extensions.{Extensions}
 pub use Rattle.solve_core.specs.declared.findings.Findings.{Findings}
+pub use Rattle.solve_core.specs.declared.findings.Verdict.{Verdict}
 pub use Rattle.solve_core.specs.steps.Boards.{CanAssignLine, IsBoard, IsBoardOf, IsWhole, board_of, cells_along, unknown_board}
 pub use Rattle.solve_core.specs.steps.Branches.{AreBefore, AreInOrder, AreKnownBefore, AreOlder, IsBranch, IsClosed, IsNext, IsNextCell, AreBranchesOf, cells_before, events_from_cell, pending, events_from_guess}
 pub use Rattle.solve_core.specs.steps.Propagation.{Closes, Deduces, Enqueues, Propagates, PropagatesLines, PropagatesOn}

@@ -1,5 +1,5 @@
 -- The report on a puzzle, computed from its two closures and from how its search ends.
-use Rattle.solve_core.proofs.Names.{◌≡◌, ℕ, zero, suc, ◌+◌, ◌≤◌, true, false, List, [], ◌∷◌, ◌++◌, length, map, Option, nat_lt, refl, sym, ap, ◌∙◌, arith, subst, true≢false, zero-add, add-zero, option_and_then, cases_lt, le-ltb, lt-ltb, closure, trials, Cell, PartialGrid, Nonogram, lines_of, Findings, Event, Guess, Solution, through_solution, within_guesses, solutions_in, guesses_in, verdict_by, grid_of, whole_search, events_from, guesses_of, unknown_grid, line_closure, trial_closure, is_decided, known_in, grade_by, report_of, IsFinal, Ending, ending, rules, ◌-◌, add-one, ◌<◌}
+use Rattle.solve_core.proofs.Names.{◌≡◌, ℕ, zero, suc, ◌+◌, ◌≤◌, true, false, List, [], ◌∷◌, ◌++◌, length, map, Option, nat_lt, refl, sym, ap, ◌∙◌, arith, subst, true≢false, zero-add, add-zero, option_and_then, cases_lt, le-ltb, lt-ltb, closure, trials, Cell, PartialGrid, Nonogram, lines_of, Findings, Event, Guess, Solution, through_solution, within_guesses, solutions_in, guesses_in, verdict_by, grid_of, whole_search, events_from, guesses_of, unknown_grid, line_closure, trial_closure, is_decided, known_in, grade_by, report_of, Some, events, Extensions, Verdict, extensions_by, limited_extending, IsFinal, Ending, ending, rules, ◌-◌, add-one, ◌<◌}
 
 nat_lt-positive : (n : ℕ) → nat_lt 0 (suc n) ≡ true
 nat_lt-positive n = lt-ltb 0 (suc n) (omega arith)
@@ -42,6 +42,27 @@ report_by pick p limit closed tried = record {
 pub report-is : (pick : List Cell → Option ℕ) (p : Nonogram) (limit : ℕ) →
     report_by pick p limit (line_closure p) (trial_closure p) ≡ report_of pick p limit
 report-is pick p limit = rw (ending-none p 0 limit (whole_search pick p), zero-add (guesses_of pick p limit)) refl
+
+-- the solutions that the search from a grid finds, computed from how it ends
+abbrev extensions_from : (List Cell → Option ℕ) → Nonogram → ℕ → Option (List Cell) → Extensions
+extensions_from pick p limit start = record {
+  verdict = verdict_by (end_from pick p limit start).found (end_from pick p limit start).cut;
+  spent = (end_from pick p limit start).spent;
+}
+
+-- these are the solutions that extend a grid, if the search starts from the grid after trials
+extensions-from-trials : (pick : List Cell → Option ℕ) (p : Nonogram) (given : List Cell) (limit : ℕ) →
+    extensions_from pick p limit (trials (lines_of p) given) ≡ extensions_by pick p given limit
+extensions-from-trials pick p given limit =
+    let spent = zero-add (guesses_in (limited_extending pick p given limit)) in
+    rw (ending-none p 0 limit (events_from pick (lines_of p) (trials (lines_of p) given)), spent) refl
+
+pub extensions-found : (pick : List Cell → Option ℕ) (p : Nonogram) (given cells : List Cell) (limit : ℕ) (verdict : Verdict)
+    (end : Ending) → end ≡ ending p [] 0 limit (events pick (lines_of p) cells) → Some cells ≡ trials (lines_of p) given →
+    verdict ≡ verdict_by end.found end.cut → record { verdict = verdict; spent = end.spent } ≡ extensions_by pick p given limit
+extensions-found pick p given cells limit verdict end ends tried is =
+    let found : record { verdict = verdict; spent = end.spent } ≡ extensions_from pick p limit (Some cells) = rw (is, ends) refl in
+    found ∙ ap (extensions_from pick p limit) tried ∙ extensions-from-trials pick p given limit
 
 -- the report computed from the closure of the unknown grid, and from trials of that, is the defined report
 pub report-of : (pick : List Cell → Option ℕ) (p : Nonogram) (limit : ℕ) (start : List Cell) (closed tried : Option (List Cell)) →

@@ -6,6 +6,7 @@ pub mod Sizes
 pub mod Search
 pub mod Report
 pub mod Verdicts
+pub mod Extensions
 pub mod Picks
 pub mod MostKnown
 pub mod steps

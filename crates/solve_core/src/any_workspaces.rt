@@ -2,11 +2,13 @@
 ghost use Rattle.std.specs.Prelude.{◌≡◌, IfOk};
 ghost use Rattle.grid_core.specs.Nonogram.{lines_of};
 ghost use Rattle.solve_core.specs.Closure.{closure, if_alive};
+ghost use Rattle.solve_core.specs.Extensions.{extensions_of};
 ghost use Rattle.solve_core.specs.Report.{findings_of, unknown_grid};
 ghost use Rattle.solve_core.specs.Sizes.{HasSizeOf};
 ghost use Rattle.solve_core.specs.Trials.{trials};
 ghost use Rattle.solve_core.specs.steps.Workspaces.{IsPreparedFor};
 
+use crate::extensions::Extensions;
 use crate::findings::Findings;
 use crate::picks::Pick;
 use crate::searching::branches::Branch;
@@ -128,6 +130,28 @@ impl AnyWorkspace {
             SizedWorkspace::Narrow(workspace) => workspace.report(alloc, branches, guesses, pick),
             SizedWorkspace::Middle(workspace) => workspace.report(alloc, branches, guesses, pick),
             SizedWorkspace::Wide(workspace) => workspace.report(alloc, branches, guesses, pick),
+        }
+    }
+
+    /// Returns the solutions that extend `grid`, which has the puzzle's size, as far as `guesses`
+    /// guesses at cells that `pick` chooses determine them. Fails with `NoMemory` if an allocation
+    /// fails.
+    pub fn extensions(
+        &mut self,
+        alloc: Global,
+        grid: &Grid,
+        guesses: u32,
+        pick: Pick,
+    ) -> Result<Extensions, NoMemory>
+        requires { HasSizeOf self.old.puzzle grid.now }
+        ensures extensions { IfOk result (λ extensions. extensions
+            ≡ extensions_of pick self.old.puzzle grid.now.cells guesses) }
+        ensures puzzle { self.new.puzzle ≡ self.old.puzzle }
+    {
+        match &mut self.sized {
+            SizedWorkspace::Narrow(workspace) => workspace.extensions(alloc, grid, guesses, pick),
+            SizedWorkspace::Middle(workspace) => workspace.extensions(alloc, grid, guesses, pick),
+            SizedWorkspace::Wide(workspace) => workspace.extensions(alloc, grid, guesses, pick),
         }
     }
 }

@@ -1,10 +1,11 @@
 //! Laws of the definitions of closure, trials, search, report and rules for guesses.
 #![tactic(auto, using(crate::proofs::StatedLaws::laws))]
 
-ghost use Rattle.std.specs.Prelude.{◌≡◌, ◌<◌, ◌≤◌, ◌↔◌, ℕ, List, length, Option, Some};
+ghost use Rattle.std.specs.Prelude.{◌≡◌, ◌*◌, ◌<◌, ◌≤◌, ◌↔◌, ℕ, List, length, Option, Some};
 ghost use Rattle.grid_core.specs.declared.cells.Cell.{Cell};
 ghost use Rattle.grid_core.specs.Nonogram.{GridLine, Nonogram, IsNonogram};
 ghost use Rattle.solve_core.specs.Closure.{round, closure};
+ghost use Rattle.solve_core.specs.Extensions.{HoldsFrom, extensions_by};
 ghost use Rattle.solve_core.specs.LeastClosed.{IsLeastClosed};
 ghost use Rattle.solve_core.specs.MostKnown.{IsMostKnown};
 ghost use Rattle.solve_core.specs.Picks.{most_known};
@@ -46,6 +47,14 @@ pub fn verdict_holds()
     ensures { (pick : List Cell → Option ℕ) → IsPick pick →
         (p : Nonogram) → IsNonogram p → (limit : ℕ) →
         Holds pick p limit (verdict_of pick p limit) }
+{}
+
+/// The verdict on the solutions that extend a grid is true of all full grids that extend it,
+/// whatever the rule for guesses.
+pub fn extensions_hold()
+    ensures { (pick : List Cell → Option ℕ) → IsPick pick → (p : Nonogram) → IsNonogram p →
+        (given : List Cell) → length given ≡ p.width * p.height → (limit : ℕ) →
+        HoldsFrom pick p given limit (extensions_by pick p given limit).verdict }
 {}
 
 /// No more guesses are spent than the limit allows.

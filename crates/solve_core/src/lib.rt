@@ -8,6 +8,7 @@
 //! - `solving`: one workspace for a puzzle that is being solved; propagation and trials in it.
 //! - `searching`: the search for solutions in a workspace.
 //! - `reports`: the report on the puzzle of a workspace; `findings` are its parts.
+//! - `extensions`: the solutions that extend a given grid.
 //! - `any_workspaces`: workspaces in the narrowest sets that fit, which `widths` determines.
 //! - `reporters`, `solver`, `line_grids`, `guessing`: what callers ask for.
 //! - `laws`: what the public definitions mean.
@@ -16,6 +17,7 @@
 mod any_workspaces;
 mod buffers;
 mod deducing;
+mod extensions;
 mod findings;
 mod grids;
 mod guessing;
@@ -30,6 +32,7 @@ mod solver;
 mod solving;
 mod widths;
 
+pub use extensions::Extensions;
 pub use findings::{Findings, Grade, Verdict};
 pub use guessing::next_guess;
 pub use line_grids::line_grid;

@@ -119,10 +119,7 @@ impl<W: LineBits> Workspace<W> {
         requires { self.old.board.cells ≡ unknown_grid self.old.puzzle }
         ensures { IfOk result (λ findings. findings ≡ findings_of pick self.old.puzzle guesses) }
     {
-        let lines = self.board.lines();
-        let solutions = Solutions::new(alloc, lines.width() as u16, lines.height() as u16)?;
-        branches.clear();
-        branches.reserve(lines.count())?;
+        let solutions = self.reserve_search(alloc, branches)?;
         Ok(self.findings(branches, solutions, guesses, pick))
     }
 }

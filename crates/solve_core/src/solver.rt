@@ -2,11 +2,14 @@
 ghost use Rattle.std.specs.Prelude.{◌≡◌, IfOk};
 ghost use Rattle.grid_core.specs.Nonogram.{lines_of};
 ghost use Rattle.solve_core.specs.Closure.{closure};
+ghost use Rattle.solve_core.specs.Extensions.{extensions_of};
 ghost use Rattle.solve_core.specs.Sizes.{HasSizeOf};
 ghost use Rattle.solve_core.specs.Trials.{trials};
 ghost use Rattle.solve_core.specs.Closure.{if_alive};
 
 use crate::any_workspaces::AnyWorkspace;
+use crate::extensions::Extensions;
+use crate::picks::Pick;
 use grid_core::{Grid, NoMemory, Puzzle};
 use std::alloc::Global;
 use std::marker::Model;
@@ -74,5 +77,23 @@ impl<'p> Solver<'p> {
         ensures puzzle { self.new ≡ self.old }
     {
         self.workspace.close_trials(grid)
+    }
+
+    /// Returns the solutions that extend `grid`, which has the puzzle's size: closes a copy of it
+    /// under trials and searches from there, with at most `guesses` guesses at cells that `pick`
+    /// chooses. Fails with `NoMemory` if an allocation fails; the solver can be used again.
+    pub fn extensions(
+        &mut self,
+        alloc: Global,
+        grid: &Grid,
+        guesses: u32,
+        pick: Pick,
+    ) -> Result<Extensions, NoMemory>
+        requires { HasSizeOf self.old grid.now }
+        ensures extensions { IfOk result (λ extensions. extensions
+            ≡ extensions_of pick self.old grid.now.cells guesses) }
+        ensures puzzle { self.new ≡ self.old }
+    {
+        self.workspace.extensions(alloc, grid, guesses, pick)
     }
 }

@@ -3,7 +3,7 @@
 
 use crate::test_puzzles::puzzle_with;
 use alloc_failures::{CallResult, SweepFailure, arm, disarm, expected_if, is_active, sweep};
-use grid_core::{Grid, NoMemory, Puzzle};
+use grid_core::{Cell, Grid, NoMemory, Puzzle};
 use solve_core::*;
 use std::alloc::Global;
 use std::test::Fail;
@@ -82,6 +82,31 @@ fn reports_are_made_or_refused(rt: HostRuntime) -> Result<(), Fail> {
             "{guesses}"
         );
     }
+    Ok(())
+}
+
+/// Returns the solutions of a puzzle whose first cell is filled, by a new solver.
+fn with_first_filled(alloc: Global, puzzle: &Puzzle) -> Result<Extensions, NoMemory> {
+    let mut grid = Grid::unknown(alloc, puzzle.width(), puzzle.height())?;
+    grid.set_index(0, Cell::Filled);
+    Solver::new(alloc, puzzle)?.extensions(alloc, &grid, 2, Pick::First)
+}
+
+/// Tests the puzzle with the clue 1 in each of three rows and three columns: with the first cell
+/// filled it has two solutions, between which one cell decides.
+#[test]
+fn extensions_are_found_or_refused(rt: HostRuntime) -> Result<(), Fail> {
+    let alloc = rt.alloc();
+    let puzzle = puzzle_with(alloc, &[ONE, ONE, ONE], &[ONE, ONE, ONE]).ok_or("puzzle")?;
+    sweep(alloc, || match with_first_filled(alloc, &puzzle) {
+        Ok(found) => expected_if(match &found.verdict {
+            Verdict::Several(first, second) => {
+                found.spent == 2 && puzzle.solved_by(first) && puzzle.solved_by(second)
+            }
+            _ => false,
+        }),
+        Err(NoMemory) => CallResult::NoMemory,
+    })?;
     Ok(())
 }
 

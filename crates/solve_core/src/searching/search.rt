@@ -1,5 +1,5 @@
 //! The search for solutions, on a single board.
-ghost use Rattle.std.specs.Prelude.{◌≡◌, ◌≢◌, ◌*◌, ◌<◌, ◌≤◌, [], None, length, vec_capacity, true, IfSome};
+ghost use Rattle.std.specs.Prelude.{◌≡◌, ◌≢◌, ◌*◌, ◌<◌, ◌≤◌, [], None, length, vec_capacity, true, IfOk, IfSome};
 ghost use Rattle.grid_core.specs.Cells.{is_known};
 ghost use Rattle.grid_core.specs.Lines.{IsUnknownCell};
 ghost use Rattle.grid_core.specs.Nonogram.{lines_of};
@@ -15,8 +15,9 @@ use crate::picks::Pick;
 use crate::searching::branches::Branch;
 use crate::searching::solutions::Solutions;
 use crate::solving::workspaces::Workspace;
-use grid_core::Cell;
+use grid_core::{Cell, NoMemory};
 use line_core::LineBits;
+use std::alloc::Global;
 
 /// How a search ended: whether the limit on guesses cut it short, and how many guesses it spent.
 #[derive(Clone, Copy, Debug)]
@@ -123,6 +124,30 @@ impl<W: LineBits> Workspace<W> {
         }
     }
 
+    /// Allocates what a search takes: returns an empty list with room for solutions, and empties
+    /// `branches`, which then has room for the branches. Fails with `NoMemory` if an allocation
+    /// fails.
+    pub fn reserve_search(
+        &self,
+        alloc: Global,
+        branches: &mut Vec<Branch>,
+    ) -> Result<Solutions, NoMemory>
+        ensures solutions { IfOk result (λ solutions. solutions ≡ record {
+          width = self.now.puzzle.width;
+          height = self.now.puzzle.height;
+          grids = [];
+        }) }
+        ensures branches { IfOk result (λ _. branches.new.items ≡ []) }
+        ensures capacity { IfOk result (λ _.
+            self.now.puzzle.width * self.now.puzzle.height ≤ vec_capacity branches.new) }
+    {
+        let lines = self.board.lines();
+        let solutions = Solutions::new(alloc, lines.width() as u16, lines.height() as u16)?;
+        branches.clear();
+        branches.reserve(lines.count())?;
+        Ok(solutions)
+    }
+
     /// Searches for solutions from a board at its fixpoint, until two are found, no guess is left,
     /// or a guess is left but `guesses` of them are spent. Works on the board itself, which is
     /// undone by its trail; each filled guess stays on `branches` until its cell is guessed blank.
@@ -142,10 +167,11 @@ impl<W: LineBits> Workspace<W> {
           height = self.old.puzzle.height;
           grids = [];
         } }
-        ensures { record { found = solutions.new.grids; cut = result.cut; spent = result.spent }
+        ensures end { record { found = solutions.new.grids; cut = result.cut; spent = result.spent }
             ≡ ending self.old.puzzle [] 0 guesses
             (events (picked pick self.old.puzzle.width) (lines_of self.old.puzzle)
             self.old.board.cells) }
+        ensures puzzle { self.new.puzzle ≡ self.old.puzzle }
     {
         let mut spent: u32 = 0;
         let mut next = self.next_guess_or_solution(0, pick, solutions);

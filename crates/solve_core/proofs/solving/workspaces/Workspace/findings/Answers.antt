@@ -29,6 +29,6 @@ returns g c =
           w.trial_known-is ∙ (rw w.lines-else-by_lines.ensures.lines at w.known-trial_known.ensures) ∙ known c.self-2.view_is
     ] in
     rw (c.verdict.ensures, graded, line_known, trial_known)
-    (rw (← (rw same at c.search-end.ensures)) at (report-of (picked c.args.pick p.width) p c.args.guesses c.args.self.now.board.cells
+    (rw (← (rw same at c.search-end.ensures.end)) at (report-of (picked c.args.pick p.width) p c.args.guesses c.args.self.now.board.cells
     (Some c.close_lines.new.self.board.cells) (Some c.try_unless_full.new.self.board.cells) c.requires.unknown
     c.if-not-close_lines.ensures.closed (rw c.close_lines.ensures.later.puzzle at tried.tried.tried)))
