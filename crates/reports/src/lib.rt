@@ -9,4 +9,4 @@ mod reports;
 pub const VERSION: &str = "0.3.0";
 
 pub use converting::{ConvertFault, convert};
-pub use reports::{lines_report, lines_text, solve_report, solve_text};
+pub use reports::{lines_report, lines_text, push_closed, solve_report, solve_text};

@@ -138,8 +138,9 @@ fn push_solution(text: &mut Vec<u8>, grid: &Grid) -> Result<(), NoMemory>
     Ok(())
 }
 
-/// Appends the solutions in `verdict`, at most two, in the order in which they were found.
-fn push_solutions(text: &mut Vec<u8>, verdict: &Verdict) -> Result<(), NoMemory>
+/// Appends the solutions in `verdict`, at most two, in the order in which they were found, each
+/// followed by an empty line.
+pub fn push_solutions(text: &mut Vec<u8>, verdict: &Verdict) -> Result<(), NoMemory>
     ensures { OnOk result (text.new.items
         ≡ text.old.items ++ flat_map solution_text (solutions_of verdict.now)) }
 {

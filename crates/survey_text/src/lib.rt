@@ -17,7 +17,7 @@ mod texts;
 mod totals;
 mod words;
 
-pub use entries::{print_entry, print_graded};
+pub use entries::{print_entry, print_graded, push_solutions};
 pub use faults::{fault_line, fault_name};
 pub use forms::{SurveyForm, TextForm};
 pub use listed::{GradedPuzzle, ListedEntry};
