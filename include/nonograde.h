@@ -1,5 +1,5 @@
-/* nonograde for programs in C and C++: black-and-white nonograms are graded and solved, closed by line logic, and
- * converted.
+/* nonograde for programs in C and C++: black-and-white nonograms are graded and solved, closed by line logic, completed
+ * from a half-filled grid, and converted.
  *
  * Most calls take `buffer`, memory for the answer, and its length. Such a call writes the answer to the start of the
  * buffer, leaves the rest of the buffer as it was, and returns a status and the length of the answer in bytes. With status
@@ -106,14 +106,24 @@ nonograde_reply nonograde_lines(const uint8_t *text, size_t text_length, uint32_
 nonograde_reply nonograde_close(const uint8_t *text, size_t text_length, uint32_t format, const uint8_t *cells,
                                 size_t cells_length, uint32_t by, uint8_t *buffer, size_t buffer_length);
 
+/* Searches for the solutions of the puzzle of a text in the format `format` that extend a grid, some of whose cells are
+ * known: whether the grid can still be solved, and in one way only. `cells` has the cells as for nonograde_close. The
+ * answer is a line `VERDICT GUESSES` and the solutions, of several the first two, as `nonograde solve` prints them: each
+ * is followed by an empty line. VERDICT is `none`, `one` or `several`, or `unsettled` if the search needs more guesses
+ * than `guesses` allows, and GUESSES is how many it made. `guesses` and `pick` are those of nonograde_solve. */
+nonograde_reply nonograde_extend(const uint8_t *text, size_t text_length, uint32_t format, const uint8_t *cells,
+                                 size_t cells_length, uint32_t guesses, uint32_t pick, uint8_t *buffer,
+                                 size_t buffer_length);
+
 /* Converts the puzzle of a text from the format `format` to the format `to`. The answer is what `nonograde convert`
  * prints. */
 nonograde_reply nonograde_convert(const uint8_t *text, size_t text_length, uint32_t format, uint32_t to, uint8_t *buffer,
                                   size_t buffer_length);
 
-/* Returns the length of a buffer that holds each answer of nonograde_lines, and with `name_length` added each one of
- * nonograde_solve, on puzzles of at most this width and height. For all puzzles, 256 by 256, it is 131,641. The answers of
- * nonograde_report and nonograde_convert also have titles and other texts, and can be longer. */
+/* Returns the length of a buffer that holds each answer of nonograde_lines, nonograde_close and nonograde_extend, and with
+ * `name_length` added each one of nonograde_solve, on puzzles of at most this width and height. For all puzzles, 256 by
+ * 256, it is 131,641. The answers of nonograde_report and nonograde_convert also have titles and other texts, and can be
+ * longer. */
 size_t nonograde_buffer_size(uint32_t width, uint32_t height);
 
 /* Writes the version, as `nonograde --version` prints it. */

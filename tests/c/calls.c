@@ -172,6 +172,51 @@ static void check_close(void) {
           "a fault of the text before one of the cells");
 }
 
+static nonograde_reply extend_two(uint32_t format, const char *cells, uint32_t guesses, uint32_t pick, uint8_t *buffer,
+                                  size_t buffer_length) {
+    return nonograde_extend((const uint8_t *)TWO, strlen(TWO), format, (const uint8_t *)cells, strlen(cells), guesses, pick,
+                            buffer, buffer_length);
+}
+
+static const char TWO_EXTENDED[] = "several 2\n#.\n.#\n\n.#\n#.\n\n";
+
+static void check_extend(void) {
+    static const struct {
+        const char *cells, *wanted;
+        uint32_t guesses, pick, status;
+    } rows[] = {
+        {"????", TWO_EXTENDED, 1000, NONOGRADE_FIRST, NONOGRADE_OK},
+        {"????", TWO_EXTENDED, 1000000, NONOGRADE_MOST, NONOGRADE_OK},
+        {"????", TWO_EXTENDED, 2, NONOGRADE_FIRST, NONOGRADE_OK},
+        {"????", "unsettled 1\n#.\n.#\n\n", 1, NONOGRADE_FIRST, NONOGRADE_OK},
+        {"????", "unsettled 0\n", 0, NONOGRADE_FIRST, NONOGRADE_OK},
+        {"#???", "one 0\n#.\n.#\n\n", 0, NONOGRADE_FIRST, NONOGRADE_OK},
+        {"??\n?.", "one 0\n.#\n#.\n\n", 1000, NONOGRADE_MOST, NONOGRADE_OK},
+        {"?#\r\n??\n", "one 0\n.#\n#.\n\n", 1000, NONOGRADE_FIRST, NONOGRADE_OK},
+        {"#.\n.#\n", "one 0\n#.\n.#\n\n", 1000, NONOGRADE_FIRST, NONOGRADE_OK},
+        {"##??", "none 0\n", 1000, NONOGRADE_FIRST, NONOGRADE_OK},
+        {"....", "none 0\n", 0, NONOGRADE_FIRST, NONOGRADE_OK},
+        {"", "BadCells", 1000, NONOGRADE_FIRST, NONOGRADE_BAD_CELLS},
+        {"???", "BadCells", 1000, NONOGRADE_FIRST, NONOGRADE_BAD_CELLS},
+        {"?????", "BadCells", 1000, NONOGRADE_FIRST, NONOGRADE_BAD_CELLS},
+        {"???x", "BadCells", 1000, NONOGRADE_FIRST, NONOGRADE_BAD_CELLS},
+        {"??\r??", "BadCells", 1000, NONOGRADE_FIRST, NONOGRADE_BAD_CELLS},
+        {"????", "BadSetting", 1000001, NONOGRADE_FIRST, NONOGRADE_BAD_SETTING},
+        {"?", "BadSetting", UINT32_MAX, NONOGRADE_MOST, NONOGRADE_BAD_SETTING},
+        {"????", "BadSetting", 1000, 2, NONOGRADE_BAD_SETTING},
+    };
+    uint8_t buffer[BUFFER];
+    for (size_t i = 0; i < sizeof rows / sizeof *rows; i++) {
+        nonograde_reply reply =
+            extend_two(NONOGRADE_NIN, rows[i].cells, rows[i].guesses, rows[i].pick, buffer, sizeof buffer);
+        check(is(reply, rows[i].status, buffer, rows[i].wanted), rows[i].wanted);
+    }
+    check(is(extend_two(3, "????", 1000, 0, buffer, sizeof buffer), NONOGRADE_BAD_SETTING, buffer, "BadSetting"),
+          "extend, no such format");
+    check(is(extend_two(NONOGRADE_NON, "?", 1000, 0, buffer, sizeof buffer), NONOGRADE_NO_SIZE, buffer, "NoSize"),
+          "extend, a fault of the text before one of the cells");
+}
+
 /* NULL with the length 0 stands for an empty name, an empty buffer and no cells. */
 static void check_null(void) {
     uint8_t buffer[BUFFER];
@@ -191,6 +236,10 @@ static void check_null(void) {
     check(reply.status == NONOGRADE_BUFFER_TOO_SMALL && reply.length == 12, "NULL as the buffer of close");
     reply = nonograde_close(text, strlen(TWO), NONOGRADE_NIN, NULL, 0, NONOGRADE_BY_LINES, buffer, sizeof buffer);
     check(is(reply, NONOGRADE_BAD_CELLS, buffer, "BadCells"), "NULL as the cells");
+    reply = extend_two(NONOGRADE_NIN, "#???", 1000, NONOGRADE_FIRST, NULL, 0);
+    check(reply.status == NONOGRADE_BUFFER_TOO_SMALL && reply.length == 13, "NULL as the buffer of extend");
+    reply = nonograde_extend(text, strlen(TWO), NONOGRADE_NIN, NULL, 0, 1000, NONOGRADE_FIRST, buffer, sizeof buffer);
+    check(is(reply, NONOGRADE_BAD_CELLS, buffer, "BadCells"), "NULL as the cells of extend");
     reply = nonograde_convert(text, strlen(TWO), NONOGRADE_NIN, NONOGRADE_NIN, NULL, 0);
     check(reply.status == NONOGRADE_BUFFER_TOO_SMALL && reply.length == strlen(TWO), "NULL as the buffer of convert");
     reply = nonograde_version(NULL, 0);
@@ -209,6 +258,8 @@ static void check_null_text(uint32_t format) {
     check(is(reply, NONOGRADE_NO_SIZE, buffer, "NoSize"), "NULL as the text of lines");
     reply = nonograde_close(NULL, 0, format, NULL, 0, NONOGRADE_BY_LINES, buffer, sizeof buffer);
     check(is(reply, NONOGRADE_NO_SIZE, buffer, "NoSize"), "NULL as the text of close");
+    reply = nonograde_extend(NULL, 0, format, NULL, 0, 1000, NONOGRADE_FIRST, buffer, sizeof buffer);
+    check(is(reply, NONOGRADE_NO_SIZE, buffer, "NoSize"), "NULL as the text of extend");
     reply = nonograde_convert(NULL, 0, format, NONOGRADE_NON, buffer, sizeof buffer);
     check(is(reply, NONOGRADE_NO_SIZE, buffer, "NoSize"), "NULL as the text of convert");
     nonograde_facts facts;
@@ -274,6 +325,12 @@ static void check_buffer_size(void) {
     check(reply.status == NONOGRADE_OK && reply.length > 2 * (200 * 3 + 1), "a buffer for two solutions");
     reply = nonograde_lines(bytes, strlen(text), NONOGRADE_NIN, buffer, size);
     check(reply.status == NONOGRADE_OK && reply.length > 200 * 3, "a buffer for line logic");
+    uint8_t cells[2 * 200];
+    memset(cells, '?', sizeof cells);
+    reply = nonograde_close(bytes, strlen(text), NONOGRADE_NIN, cells, sizeof cells, NONOGRADE_BY_TRIALS, buffer, size);
+    check(reply.status == NONOGRADE_OK && reply.length > 200 * 3, "a buffer for a closed grid");
+    reply = nonograde_extend(bytes, strlen(text), NONOGRADE_NIN, cells, sizeof cells, 1000, 0, buffer, size);
+    check(reply.status == NONOGRADE_OK && reply.length > 2 * (200 * 3 + 1), "a buffer for two solutions that extend a grid");
     free(buffer);
 }
 
@@ -283,7 +340,7 @@ static void check_buffer_size(void) {
 #define DEMO_GRID ".##..\n.##.#\n..#.#\n.###.\n#.#..\n#.#..\n..##.\n.#.#.\n.#.##\n##...\n"
 #define PAIR "2 4\n2\n1 1\n#\n1\n1\n1\n1\n"
 
-enum kind { SOLVE, REPORT, GRADE, LINES, CLOSE, CONVERT, VERSION };
+enum kind { SOLVE, REPORT, GRADE, LINES, CLOSE, EXTEND, CONVERT, VERSION };
 
 /* A call with its settings, and its answer if no allocation fails. */
 struct call {
@@ -325,6 +382,9 @@ static nonograde_reply reply_to(const struct call *call, uint8_t *buffer, size_t
         return nonograde_lines(text, length, call->format, buffer, size);
     case CLOSE:
         return nonograde_close(text, length, call->format, (const uint8_t *)"?.\n??", 5, call->setting, buffer, size);
+    case EXTEND:
+        return nonograde_extend(text, length, call->format, (const uint8_t *)"????", 4, call->setting, NONOGRADE_FIRST,
+                                buffer, size);
     case CONVERT:
         return nonograde_convert(text, length, call->format, call->setting, buffer, size);
     default:
@@ -343,6 +403,9 @@ static const struct call answered[] = {
     {CLOSE, NONOGRADE_NIN, NONOGRADE_BY_LINES, TWO, "one 4\n#.\n.#\n", NONOGRADE_OK},
     {CLOSE, NONOGRADE_NIN, NONOGRADE_BY_TRIALS, TWO, "one 4\n#.\n.#\n", NONOGRADE_OK},
     {CLOSE, NONOGRADE_NON, NONOGRADE_BY_LINES, DEMO, "BadCells", NONOGRADE_BAD_CELLS},
+    {EXTEND, NONOGRADE_NIN, 1000, TWO, TWO_EXTENDED, NONOGRADE_OK},
+    {EXTEND, NONOGRADE_NIN, 1, TWO, "unsettled 1\n#.\n.#\n\n", NONOGRADE_OK},
+    {EXTEND, NONOGRADE_NON, 1000, DEMO, "BadCells", NONOGRADE_BAD_CELLS},
     {CONVERT, NONOGRADE_NON, NONOGRADE_NON, DEMO, DEMO, NONOGRADE_OK},
     {CONVERT, NONOGRADE_NON, NONOGRADE_NIN, DEMO,
      "5 10\n2\n2 1\n1 1\n3\n1 1\n1 1\n2\n1 1\n1 2\n2\n2 1\n2 1 3\n7\n1 3\n2 1\n", NONOGRADE_OK},
@@ -421,6 +484,7 @@ static void check_faults_without_memory(void) {
         {REPORT, NONOGRADE_NIN, 1000, blank, "TooLong", NONOGRADE_TOO_LONG},
         {GRADE, NONOGRADE_MK, 1000, blank, "TooLong", NONOGRADE_TOO_LONG},
         {CLOSE, NONOGRADE_NIN, NONOGRADE_BY_TRIALS, blank, "TooLong", NONOGRADE_TOO_LONG},
+        {EXTEND, NONOGRADE_NIN, 1000000, blank, "TooLong", NONOGRADE_TOO_LONG},
         {CONVERT, NONOGRADE_NIN, NONOGRADE_NON, blank, "TooLong", NONOGRADE_TOO_LONG},
         {LINES, 3, 0, blank, "BadSetting", NONOGRADE_BAD_SETTING},
         {SOLVE, 3, 1000, blank, "BadSetting", NONOGRADE_BAD_SETTING},
@@ -431,6 +495,8 @@ static void check_faults_without_memory(void) {
         {GRADE, NONOGRADE_NON, 1000001, blank, "BadSetting", NONOGRADE_BAD_SETTING},
         {CLOSE, 3, NONOGRADE_BY_LINES, blank, "BadSetting", NONOGRADE_BAD_SETTING},
         {CLOSE, NONOGRADE_NON, 2, blank, "BadSetting", NONOGRADE_BAD_SETTING},
+        {EXTEND, 3, 1000, blank, "BadSetting", NONOGRADE_BAD_SETTING},
+        {EXTEND, NONOGRADE_NON, 1000001, blank, "BadSetting", NONOGRADE_BAD_SETTING},
         {CONVERT, 3, NONOGRADE_NON, blank, "BadSetting", NONOGRADE_BAD_SETTING},
         {CONVERT, NONOGRADE_NON, 3, blank, "BadSetting", NONOGRADE_BAD_SETTING},
     };
@@ -446,9 +512,10 @@ static void check_faults_without_memory(void) {
 static void *call_often(void *wrong) {
     uint8_t buffer[BUFFER];
     for (int i = 0; i < CALLS; i++) {
-        if (!is(solve(NONOGRADE_NIN, TWO, strlen(TWO), 1000, 0, buffer, sizeof buffer), NONOGRADE_OK, buffer, TWO_SOLVED)) {
-            ++*(int *)wrong;
-        }
+        nonograde_reply reply = solve(NONOGRADE_NIN, TWO, strlen(TWO), 1000, 0, buffer, sizeof buffer);
+        *(int *)wrong += !is(reply, NONOGRADE_OK, buffer, TWO_SOLVED);
+        reply = extend_two(NONOGRADE_NIN, "????", 1000, 0, buffer, sizeof buffer);
+        *(int *)wrong += !is(reply, NONOGRADE_OK, buffer, TWO_EXTENDED);
     }
     return NULL;
 }
@@ -470,6 +537,7 @@ int main(void) {
     check_other_calls();
     check_facts();
     check_close();
+    check_extend();
     check_null();
     for (uint32_t format = NONOGRADE_NON; format <= NONOGRADE_NIN; format++) {
         check_null_text(format);

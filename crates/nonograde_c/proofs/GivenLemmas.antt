@@ -1,11 +1,15 @@
 -- Lemmas on reading the cells that a caller gives.
-use Rattle.std.proofs.Common.{◌≡◌, ◌∙◌, ℕ, suc, ◌+◌, ◌<◌, ◌≤◌, true, false, true≢false, List, [], ◌∷◌, ◌++◌, Option, Some, None, length, take, drop, nat_eq, option_map, option_and_then, refl, sym, ap, arith, slice_index_or, slice_set}
+use Rattle.std.proofs.Common.{◌≡◌, ◌∙◌, ℕ, suc, ◌+◌, ◌<◌, ◌≤◌, true, false, true≢false, List, [], ◌∷◌, ◌++◌, Option, Some, None, Ok, Err, length, take, drop, nat_eq, option_map, option_and_then, refl, sym, ap, arith, slice_index_or, slice_set}
 use Rattle.std.proofs.Math.Seq.{drop-cons}
 use Rattle.std.proofs.lemmas.Bool.{eqb-true}
 use Rattle.std.proofs.lemmas.List.{append_assoc, append-nil, drop_all, take_all, take_more_set}
+use Rattle.grid_core.specs.Nonogram.{Nonogram}
+use Rattle.grid_core.specs.PartialGrid.{PartialGrid}
 use Rattle.grid_core.specs.declared.cells.Cell.{Cell}
+use Rattle.solve_core.specs.Report.{grid_of}
 use Rattle.puzzle_text.specs.Answers.{each_some}
-use Rattle.nonograde_c.specs.GivenCells.{after_line_end, cell_from_byte, joined_rows}
+use Rattle.nonograde_c.specs.GivenCells.{after_line_end, cell_from_byte, fitting_grid, joined_rows}
+use Rattle.nonograde_c.specs.declared.faults.Fault.TheVariants.{Cells}
 
 -- a list that is put before what follows, in two parts
 in_front : {X : Type 0} (a b : List X) (o : Option (List X))
@@ -65,3 +69,14 @@ pub joined_more : (rows bytes : List ℕ) (width count : ℕ) → count ≡ 0 �
     → None ≡ option_map (λ rest. rows ++ rest) (joined_rows width count bytes)
 joined_more rows [] width count none some = absurd (true≢false (sym some))
 joined_more rows (byte ∷ bytes) width count none some = rw none refl
+
+-- the grid of the cells that were given
+pub fits : (p : Nonogram) (given : Option (List Cell)) (grid : PartialGrid) → Some grid ≡ option_map (grid_of p) given
+    → fitting_grid p given ≡ Ok grid
+fits p None grid is = cc
+fits p (Some cells) grid is = cc
+
+-- cells that don't fit
+pub fits-none : (p : Nonogram) (given : Option (List Cell)) → None ≡ option_map (grid_of p) given → fitting_grid p given ≡ Err Cells
+fits-none p None is = refl
+fits-none p (Some cells) is = cc

@@ -11,7 +11,7 @@ use Rattle.std.proofs.lemmas.List.FromFn.{length-range_with_len}
 use Rattle.std.proofs.lemmas.List.Sums.{count_by-le-length}
 use Rattle.grid_core.specs.Cells.{is_known}
 use Rattle.grid_core.specs.Nonogram.{GridLine, IsNonogram, Nonogram, lines_of}
-use Rattle.grid_core.specs.PartialGrid.{PartialGrid}
+use Rattle.grid_core.specs.PartialGrid.{IsSize, PartialGrid}
 use Rattle.grid_core.specs.declared.cells.Cell.{Cell}
 use Rattle.grid_core.specs.declared.cells.Cell.TheVariants.{Unknown}
 use Rattle.grid_core.specs.declared.limits.TheConstants.{MAX_SIDE}
@@ -19,6 +19,8 @@ use Rattle.lane_core.specs.declared.jobs.TheConstants.{MAX_GUESSES}
 use Rattle.solve_core.proofs.ClosureLaws.{closure-IsLeastClosed}
 use Rattle.solve_core.proofs.Names.{AtMost, length-Extends}
 use Rattle.solve_core.proofs.TrialLaws.{trials-IsLeastClosed}
+use Rattle.solve_core.specs.Closure.{closure}
+use Rattle.solve_core.specs.Extensions.{extending_search, extensions_of}
 use Rattle.solve_core.specs.Picks.{picked}
 use Rattle.solve_core.specs.Report.{findings_of, grid_of, guesses_in, known_in, limited_search, line_closure, search_of, solutions_in, trial_closure, unknown_grid, verdict_by, verdict_of, within_guesses}
 use Rattle.solve_core.specs.Search.{Event, Guess, Solution}
@@ -37,10 +39,14 @@ use Rattle.survey_text.specs.Grids.{grid_text, row_text}
 use Rattle.reports.specs.Reports.{closed_text, closed_word, lines_text, solve_text}
 use Rattle.puzzle_text.specs.declared.faults.TextFault.TheVariants as text
 use Rattle.nonograde_c.specs.Calls.{Fills, fault_word, line_of}
+use Rattle.nonograde_c.specs.Closing.{close_text}
+use Rattle.nonograde_c.specs.Extending.{extend_text}
 use Rattle.nonograde_c.specs.Lengths.{FitsIn, buffer_size, two_grids_length}
 use Rattle.nonograde_c.specs.declared.faults.Fault.{Fault}
 use Rattle.nonograde_c.specs.declared.faults.Fault.TheVariants.{Setting, Text, Ambiguous, Cells}
 use Rattle.nonograde_c.specs.declared.replies.Reply.{Reply}
+use Rattle.nonograde_c.specs.declared.settings.Closing.{Closing}
+use Rattle.nonograde_c.specs.declared.settings.Closing.TheVariants.{ByLines, ByTrials}
 use Rattle.nonograde_c.specs.steps.Answers.{shown}
 
 -- the text of some rows of a grid
@@ -175,25 +181,50 @@ solve_text-le name limit pick p width height is within wide high =
 closed_word-le : (grid : PartialGrid) → length (closed_word grid) ≤ 4
 closed_word-le grid = search rules
 
--- the report on the closure of `p`
-closed_text-le : (p : Nonogram) (o : Option (List Cell)) → IsNonogram p → known_in o ≤ 65536
+-- the report on a closed grid of `p`
+closed_text-le : (p : Nonogram) (o : Option (List Cell)) → known_in o ≤ 65536
     → length (closed_text (option_map (grid_of p) o)) ≤ 55 + two_grids_length p.width p.height
-closed_text-le p None is known = omega arith
-closed_text-le p (Some cells) is known =
+closed_text-le p None known = omega arith
+closed_text-le p (Some cells) known =
     simp length-append (omega (arith, closed_word-le (grid_of p cells), known-digits _ known, length-grid_text (grid_of p cells)))
 
 -- the answer of line logic to `p`
-pub lines_text-le : (p : Nonogram) (width height : ℕ) → IsNonogram p → p.width ≤ width → p.height ≤ height
-    → length (lines_text p) ≤ buffer_size width height
-lines_text-le p width height is wide high =
-    omega (arith, closed_text-le p (line_closure p) is (line_known-le p is), size-le p width height is wide high)
+pub lines_text-le : (p : Nonogram) → IsNonogram p → length (lines_text p) ≤ 55 + two_grids_length p.width p.height
+lines_text-le p is = closed_text-le p (line_closure p) (line_known-le p is)
 
--- the answer of line logic to the puzzle that was read
-pub lines_answer-le : (read : Result Nonogram Fault) (p : Nonogram) (text : List ℕ) → read ≡ Ok p → IsNonogram p → text ≡ lines_text p
+-- a grid has at most 65,536 cells
+pub grid_cells-le : (g : PartialGrid) → IsSize g.width g.height → length g.cells ≡ g.width * g.height → length g.cells ≤ 65536
+grid_cells-le g size count =
+    let most : g.width * g.height ≤ 256 * 256 = mul-le-mul size.width_to size.height_to in omega (arith, count, most)
+
+-- the answer to closing a grid of `p`
+pub close_text-le : (by : Closing) (p : Nonogram) (cells : List Cell) → length cells ≤ 65536
+    → length (close_text by p cells) ≤ 55 + two_grids_length p.width p.height
+close_text-le ByLines p cells few =
+    let closed = closure (lines_of p) cells in
+    closed_text-le p closed (omega (arith, few, known-le cells closed (closure-IsLeastClosed (lines_of p) cells).above))
+close_text-le ByTrials p cells few =
+    let closed = trials (lines_of p) cells in
+    closed_text-le p closed (omega (arith, few, known-le cells closed (trials-IsLeastClosed (lines_of p) cells).above))
+
+-- the answer on the solutions of `p` that extend a grid
+pub extend_text-le : (pick : Pick) (limit : ℕ) (p : Nonogram) (cells : List Cell) → limit ≤ MAX_GUESSES
+    → length (extend_text pick limit p cells) ≤ 55 + two_grids_length p.width p.height
+extend_text-le pick limit p cells within =
+    let whole = extending_search (picked pick p.width) p cells in
+    let limited = within_guesses limit whole in
+    let found = extensions_of pick p cells limit in
+    let spent : found.spent ≤ 1000000 = omega (arith, spent-le limit whole, within) in
+    let solutions-le = length-solutions p (solutions_in limited) (nat_lt (length limited) (length whole)) in
+    simp length-append (omega (arith, verdict_word-le found.verdict, guess-digits found.spent spent, solutions-le))
+
+-- an answer of at most a line and two grids of the puzzle that was read fits into the buffer
+pub within-buffer : (read : Result Nonogram Fault) (p : Nonogram) (text : List ℕ) → read ≡ Ok p → IsNonogram p
+    → length text ≤ 55 + two_grids_length p.width p.height
     → (width height : ℕ) → FitsIn width height read → length text ≤ buffer_size width height
-lines_answer-le read p text is_read is made width height fits =
+within-buffer read p text is_read is few width height fits =
     let fits' : FitsIn width height (Ok p) = subst (FitsIn width height) is_read fits in
-    rw made (lines_text-le p width height is fits'.0 fits'.1)
+    omega (arith, few, size-le p width height is fits'.0 fits'.1)
 
 -- the answer to grading the puzzle that was read
 pub solve_answer-le : (name : List ℕ) (limit : ℕ) (pick : Pick) (read : Result Nonogram Fault) (p : Nonogram) (text : List ℕ) → read ≡ Ok p

@@ -2,6 +2,5 @@
 mod AnswerLemmas
 mod BufferLemmas
 mod FactLemmas
-mod FullLemmas
 mod GivenLemmas
 mod LengthLemmas

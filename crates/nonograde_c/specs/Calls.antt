@@ -111,10 +111,9 @@ read_in (Some format) body = of_reader (read_as format MAX_SIDE body)
 abbrev pub puzzle_of : ℕ → List ℕ → Result Nonogram Fault
 puzzle_of format body = read_in (format_from_number format) body
 
--- the answer on the puzzle that was read, or the fault of reading it
-abbrev pub answer_on : {A : Type 0} → (Nonogram → Result A Fault) → Result Nonogram Fault
-    → Result A Fault
-answer_on answer (Ok p) = answer p
+-- the answer on the puzzle, or on the grid, that was read, or the fault of reading it
+abbrev pub answer_on : {A B : Type 0} → (A → Result B Fault) → Result A Fault → Result B Fault
+answer_on answer (Ok read) = answer read
 answer_on answer (Err fault) = Err fault
 
 -- the answer of line logic to the puzzle in `body`

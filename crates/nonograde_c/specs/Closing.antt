@@ -7,9 +7,9 @@ use Rattle.solve_core.specs.Report.{grid_of}
 use Rattle.solve_core.specs.Trials.{trials}
 use Rattle.reports.specs.Reports.{closed_text}
 use Rattle.nonograde_c.specs.Calls.{answer_on, puzzle_of}
-use Rattle.nonograde_c.specs.GivenCells.{given_cells}
+use Rattle.nonograde_c.specs.GivenCells.{grid_answer}
 use Rattle.nonograde_c.specs.declared.faults.Fault.{Fault}
-use Rattle.nonograde_c.specs.declared.faults.Fault.TheVariants.{Setting, Cells}
+use Rattle.nonograde_c.specs.declared.faults.Fault.TheVariants.{Setting}
 use Rattle.nonograde_c.specs.declared.settings.Closing.{Closing}
 use Rattle.nonograde_c.specs.declared.settings.Closing.TheVariants.{ByLines, ByTrials}
 
@@ -28,17 +28,13 @@ closed_by ByTrials = trials
 abbrev pub close_text : Closing → Nonogram → List Cell → List ℕ
 close_text by p cells = closed_text (option_map (grid_of p) (closed_by by (lines_of p) cells))
 
--- the report on the cells that were given, or the fault if they don't fit the puzzle
-abbrev pub close_given : Closing → Nonogram → Option (List Cell) → Result (List ℕ) Fault
-close_given by p None = Err Cells
-close_given by p (Some cells) = Ok (close_text by p cells)
-
 -- the answer to closing the grid of the puzzle in `body`; without a way of closing, the fault of a
 -- bad setting
 abbrev pub close_by : Option Closing → ℕ → List ℕ → List ℕ → Result (List ℕ) Fault
 close_by None format body cells = Err Setting
 close_by (Some by) format body cells =
-    answer_on (λ p. close_given by p (given_cells p.width p.height cells)) (puzzle_of format body)
+    answer_on (λ p. answer_on (λ grid. Ok (close_text by p grid.cells)) (grid_answer p cells))
+    (puzzle_of format body)
 
 -- the answer to closing the grid of the puzzle in `body` whose cells the bytes `cells` give; `by` is
 -- the number of the way of closing

@@ -1,8 +1,13 @@
 -- The cells of a partly known grid, as a caller gives them: row by row, one byte for each cell.
-use Rattle.std.specs.Prelude.{ℕ, zero, suc, ◌*◌, ◌++◌, List, [], ◌∷◌, length, take, drop, nat_eq, if◌then◌else◌, Option, Some, None, option_map, option_and_then}
+use Rattle.std.specs.Prelude.{ℕ, zero, suc, ◌*◌, ◌++◌, List, [], ◌∷◌, length, take, drop, nat_eq, if◌then◌else◌, Option, Some, None, option_map, option_and_then, Result, Ok, Err}
+use Rattle.grid_core.specs.Nonogram.{Nonogram}
+use Rattle.grid_core.specs.PartialGrid.{PartialGrid}
 use Rattle.grid_core.specs.declared.cells.Cell.{Cell}
 use Rattle.grid_core.specs.declared.cells.Cell.TheVariants.{Unknown, Filled, Blank}
+use Rattle.solve_core.specs.Report.{grid_of}
 use Rattle.puzzle_text.specs.Answers.{each_some}
+use Rattle.nonograde_c.specs.declared.faults.Fault.{Fault}
+use Rattle.nonograde_c.specs.declared.faults.Fault.TheVariants.{Cells}
 
 -- the cell for which a byte stands, if it stands for one: `#` for a filled cell, `.` for a blank
 -- one, `?` for an unknown one
@@ -47,3 +52,12 @@ cell_bytes width height bytes =
 abbrev pub given_cells : ℕ → ℕ → List ℕ → Option (List Cell)
 given_cells width height bytes =
     option_and_then (cells_of (width * height)) (cell_bytes width height bytes)
+
+-- the grid of the size of `p` with the cells that were given, or the fault if they don't fit
+abbrev pub fitting_grid : Nonogram → Option (List Cell) → Result PartialGrid Fault
+fitting_grid p None = Err Cells
+fitting_grid p (Some cells) = Ok (grid_of p cells)
+
+-- the grid of the size of `p` whose cells `bytes` give, or the fault if they don't fit
+abbrev pub grid_answer : Nonogram → List ℕ → Result PartialGrid Fault
+grid_answer p bytes = fitting_grid p (given_cells p.width p.height bytes)

@@ -1,6 +1,7 @@
 -- The definitions that the contracts of the calls rest on.
 pub mod Calls
 pub mod Closing
+pub mod Extending
 pub mod Facts
 pub mod GivenCells
 pub mod JsonReports

@@ -4,20 +4,24 @@ ghost use Rattle.std.specs.Prelude.{◌≡◌, ℕ, ◌+◌, ◌<◌, ◌≤◌,
 ghost use Rattle.grid_core.specs.Nonogram.{IsNonogram};
 ghost use Rattle.puzzle_text.specs.Answers.{Gives};
 ghost use Rattle.puzzle_text.specs.Formats.{text_as};
+ghost use Rattle.solve_core.specs.Sizes.{HasSizeOf};
 ghost use Rattle.nonograde_c.specs.Calls.{convert_answer, format_from_number, lines_answer, no_memory, of_writer, pick_within, puzzle_of, solve_answer};
 ghost use Rattle.nonograde_c.specs.Closing.{close_answer, closing_from_number};
+ghost use Rattle.nonograde_c.specs.Extending.{extend_answer};
 ghost use Rattle.nonograde_c.specs.Facts.{facts_answer};
+ghost use Rattle.nonograde_c.specs.GivenCells.{grid_answer};
 ghost use Rattle.nonograde_c.specs.JsonReports.{report_answer};
 ghost use Rattle.nonograde_c.specs.Lengths.{FitsIn, buffer_size};
 ghost use Rattle.nonograde_c.specs.steps.Answers.{shown};
 
 use crate::closing::close_text;
+use crate::extending::extend_text;
 use crate::facts::{Facts, grade_facts};
 use crate::faults::Fault;
 use crate::given_cells::given_grid;
 use crate::json_reports::report_text;
 use crate::settings::{closing_from_number, format_from_number, pick_within};
-use grid_core::Puzzle;
+use grid_core::{Grid, Puzzle};
 use puzzle_text::{Format, MAX_PUZZLE_LEN, TextFault, WriteFault};
 use reports::{lines_text, solve_text};
 use std::alloc::Global;
@@ -40,6 +44,23 @@ fn read_puzzle(alloc: Global, text: &[u8], format: u32) -> Result<Puzzle, Fault>
             Ok(puzzle)
         }
         Err(fault) => Err(Fault::Text(fault)),
+    }
+}
+
+/// Returns the grid of the puzzle's size whose cells `cells` give. Fails with `Cells` if they don't
+/// fit the puzzle.
+fn read_grid(alloc: Global, puzzle: &Puzzle, cells: &[u8]) -> Result<Grid, Fault>
+    ensures answer { Gives no_memory (λ grid. grid) result (grid_answer puzzle.now cells.now) }
+    ensures size { IfOk result (HasSizeOf puzzle.now) }
+    ensures few { IfOk result (λ grid. length grid.cells ≤ 65536) }
+{
+    match given_grid(alloc, puzzle, cells)? {
+        Some(grid) => {
+            // Called for its contract, which states how many cells there are.
+            grid.width();
+            Ok(grid)
+        }
+        None => Err(Fault::Cells),
     }
 }
 
@@ -146,15 +167,43 @@ pub fn close_answer(
     ensures format { format_from_number format ≡ None → result ≡ Err Fault.Setting }
     ensures too_long { IsSome (closing_from_number by) → IsSome (format_from_number format) →
         MAX_PUZZLE_LEN < length text.now → result ≡ Err (Fault.Text TextFault.TooLong) }
+    ensures within { (width height : ℕ) → FitsIn width height (puzzle_of format text.now) →
+        IfOk result (λ answer. length answer.items ≤ buffer_size width height) }
 {
     let Some(by) = closing_from_number(by) else {
         return Err(Fault::Setting);
     };
     let puzzle = read_puzzle(alloc, text, format)?;
-    match given_grid(alloc, &puzzle, cells)? {
-        Some(grid) => Ok(close_text(alloc, &puzzle, grid, by)?),
-        None => Err(Fault::Cells),
-    }
+    let grid = read_grid(alloc, &puzzle, cells)?;
+    Ok(close_text(alloc, &puzzle, grid, by)?)
+}
+
+/// Returns the report on the solutions of a puzzle's text that extend the grid with the cells
+/// `cells`: a line with the word of the verdict and how many guesses were spent, and the solutions.
+/// `format` is the number of the text's format, `pick` that of a guess rule.
+pub fn extend_answer(
+    alloc: Global,
+    text: &[u8],
+    format: u32,
+    cells: &[u8],
+    guesses: u32,
+    pick: u32,
+) -> Result<Vec<u8>, Fault>
+    ensures answer { Gives no_memory (λ text. text) (shown result)
+        (extend_answer guesses pick format text.now cells.now) }
+    ensures setting { pick_within guesses pick ≡ None → result ≡ Err Fault.Setting }
+    ensures format { format_from_number format ≡ None → result ≡ Err Fault.Setting }
+    ensures too_long { IsSome (pick_within guesses pick) → IsSome (format_from_number format) →
+        MAX_PUZZLE_LEN < length text.now → result ≡ Err (Fault.Text TextFault.TooLong) }
+    ensures within { (width height : ℕ) → FitsIn width height (puzzle_of format text.now) →
+        IfOk result (λ answer. length answer.items ≤ buffer_size width height) }
+{
+    let Some(pick) = pick_within(guesses, pick) else {
+        return Err(Fault::Setting);
+    };
+    let puzzle = read_puzzle(alloc, text, format)?;
+    let grid = read_grid(alloc, &puzzle, cells)?;
+    Ok(extend_text(alloc, &puzzle, &grid, guesses, pick)?)
 }
 
 /// Returns the text of `puzzle` in a format.

@@ -1,21 +1,17 @@
 //! Closing a grid whose cells are given, and the report on it.
 
-ghost use Rattle.std.specs.Prelude.{◌≡◌, ◌++◌, IfOk, OnOk, option_map};
-ghost use Rattle.std.specs.List.{list_all};
-ghost use Rattle.grid_core.specs.Cells.{is_known};
+ghost use Rattle.std.specs.Prelude.{◌≡◌, IfOk, option_map};
 ghost use Rattle.grid_core.specs.Nonogram.{lines_of};
 ghost use Rattle.solve_core.specs.Closure.{if_alive};
 ghost use Rattle.solve_core.specs.Report.{grid_of};
 ghost use Rattle.solve_core.specs.Sizes.{HasSizeOf};
-ghost use Rattle.reports.specs.Reports.{closed_text, closed_word, grid_report};
 ghost use Rattle.nonograde_c.specs.Closing.{close_text, closed_by};
 
 use crate::settings::Closing;
 use grid_core::{Grid, NoMemory, Puzzle};
-use puzzle_text::{push_bytes, push_number};
+use reports::push_closed;
 use solve_core::Solver;
 use std::alloc::Global;
-use survey_text::push_grid;
 
 /// Closes `grid`, which has the puzzle's size. Returns whether it is alive; the cells of a dead grid
 /// are unspecified. Allocates nothing.
@@ -48,43 +44,6 @@ fn closed_grid(
         Ok(Some(grid))
     } else {
         Ok(None)
-    }
-}
-
-/// Reports whether all cells of `grid` are known.
-fn is_full(grid: &Grid) -> bool
-    ensures { result ≡ list_all is_known grid.now.cells }
-{
-    grid.first_unknown().is_none()
-}
-
-/// Returns the first word of the report on a closed grid that is alive: `one` if it is full, and
-/// `open` if not.
-fn closed_word(grid: &Grid) -> &'static str
-    ensures { result.now ≡ closed_word grid.now }
-{
-    if is_full(grid) { "one" } else { "open" }
-}
-
-/// Appends the report on a closed grid that is alive: its word, the number of known cells, and its
-/// rows.
-fn push_report(text: &mut Vec<u8>, grid: &Grid) -> Result<(), NoMemory>
-    ensures { OnOk result (text.new.items ≡ text.old.items ++ grid_report grid.now) }
-{
-    push_bytes(text, closed_word(grid).as_bytes())?;
-    push_bytes(text, b" ")?;
-    push_number(text, u64::from(grid.known()))?;
-    push_bytes(text, b"\n")?;
-    push_grid(text, grid)
-}
-
-/// Appends the report on a closed grid, which is `None` if it is dead.
-fn push_closed(text: &mut Vec<u8>, closed: &Option<Grid>) -> Result<(), NoMemory>
-    ensures { OnOk result (text.new.items ≡ text.old.items ++ closed_text closed.now) }
-{
-    match closed {
-        Some(grid) => push_report(text, grid),
-        None => push_bytes(text, b"none 0\n"),
     }
 }
 

@@ -3,12 +3,14 @@
 ghost use Rattle.std.specs.Prelude.{◌≡◌, ℕ, ◌+◌, ◌<◌, ◌≤◌, length, None, Err, IsSome, Ok};
 ghost use Rattle.nonograde_c.specs.Calls.{Answers, Fills, convert_answer, format_from_number, lines_answer, pick_within, puzzle_of, solve_answer};
 ghost use Rattle.nonograde_c.specs.Closing.{close_answer, closing_from_number};
+ghost use Rattle.nonograde_c.specs.Extending.{extend_answer};
 ghost use Rattle.nonograde_c.specs.Facts.{AnswersFacts, FillsFacts, facts_answer};
 ghost use Rattle.nonograde_c.specs.JsonReports.{report_answer};
 ghost use Rattle.nonograde_c.specs.Lengths.{FitsIn, buffer_size};
 
 use crate::answers::{
-    close_answer, convert_answer, facts_answer, lines_answer, report_answer, solve_answer,
+    close_answer, convert_answer, extend_answer, facts_answer, lines_answer, report_answer,
+    solve_answer,
 };
 use crate::facts::{Facts, fill_facts};
 use crate::faults::Fault;
@@ -150,8 +152,43 @@ pub extern "C" fn nonograde_close(
     ensures too_long { IsSome (closing_from_number by) → IsSome (format_from_number format) →
         MAX_PUZZLE_LEN < length text.now →
         Fills (Err (Fault.Text TextFault.TooLong)) result buffer.old buffer.new }
+    ensures within { (width height : ℕ) → FitsIn width height (puzzle_of format text.now) →
+        result.length ≤ buffer_size width height }
 {
     let answer = close_answer(alloc, text, format, cells, by);
+    fill_answer(buffer, &answer)
+}
+
+/// Searches for the solutions of a puzzle's text that extend a grid whose cells may be partly known.
+/// `cells` has them as for `nonograde_close`. The answer is a line with the verdict on these
+/// solutions, `none`, `one`, `several` or `unsettled`, and how many guesses were spent, and then the
+/// solutions, of several the first two, each followed by an empty line. The verdict is `unsettled`
+/// only if all guesses that `guesses` allows were spent. The other arguments are those of
+/// `nonograde_solve`.
+#[unsafe(no_mangle)]
+pub extern "C" fn nonograde_extend(
+    alloc: Global,
+    text: &[u8],
+    format: u32,
+    cells: &[u8],
+    guesses: u32,
+    pick: u32,
+    buffer: &mut [u8],
+) -> Reply
+    ensures answer { Answers (extend_answer guesses pick format text.now cells.now) result
+        buffer.old buffer.new }
+    // These faults are found before anything is allocated, so `NoMemory` never hides them.
+    ensures setting { pick_within guesses pick ≡ None →
+        Fills (Err Fault.Setting) result buffer.old buffer.new }
+    ensures format { format_from_number format ≡ None →
+        Fills (Err Fault.Setting) result buffer.old buffer.new }
+    ensures too_long { IsSome (pick_within guesses pick) → IsSome (format_from_number format) →
+        MAX_PUZZLE_LEN < length text.now →
+        Fills (Err (Fault.Text TextFault.TooLong)) result buffer.old buffer.new }
+    ensures within { (width height : ℕ) → FitsIn width height (puzzle_of format text.now) →
+        result.length ≤ buffer_size width height }
+{
+    let answer = extend_answer(alloc, text, format, cells, guesses, pick);
     fill_answer(buffer, &answer)
 }
 
@@ -187,8 +224,9 @@ pub extern "C" fn nonograde_version(buffer: &mut [u8]) -> Reply
     fill_text(buffer, VERSION.as_bytes())
 }
 
-/// Returns the length of a buffer that holds each answer of `nonograde_lines`, and with the length
-/// of the name added each one of `nonograde_solve`, on puzzles of at most this width and height.
+/// Returns the length of a buffer that holds each answer of `nonograde_lines`, `nonograde_close` and
+/// `nonograde_extend`, and with the length of the name added each one of `nonograde_solve`, on
+/// puzzles of at most this width and height.
 #[unsafe(no_mangle)]
 pub extern "C" fn nonograde_buffer_size(width: u32, height: u32) -> usize
     ensures { result ≡ buffer_size width height }

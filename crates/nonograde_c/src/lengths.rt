@@ -13,8 +13,9 @@ fn side(number: u32) -> usize
     number.min(u32::from(MAX_SIDE)) as usize
 }
 
-/// Returns the length of a buffer that holds each answer of line logic, and without the name each
-/// answer to grading, on a puzzle of at most this width and height.
+/// Returns the length of a buffer that holds each answer with grids, without the name, on a puzzle
+/// of at most this width and height: that of line logic, to closing or extending a grid, and to
+/// grading.
 pub fn buffer_size(width: u32, height: u32) -> usize
     ensures { result ≡ buffer_size width height }
 {

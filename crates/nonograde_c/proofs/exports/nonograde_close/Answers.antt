@@ -1,0 +1,9 @@
+-- `nonograde_close`: the reply has the length of the text, or that of a fault word, which is shorter than any buffer for grids.
+use Rattle.std.proofs.Common.{arith}
+use Rattle.nonograde_c.proofs.LengthLemmas.{reply-le}
+use Rattle.nonograde_c.proofs.exports.nonograde_close.Goals as goal
+
+pub returns-clause-within : goal.returns-clause-within
+returns-clause-within c = λ width height fits.
+    reply-le c.close_answer-answer.result c.fill_answer.result _ _ _ (omega arith) (c.close_answer-answer.ensures.within width height fits)
+    c.fill_answer.ensures.answer c.fill_answer.ensures.short
