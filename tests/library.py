@@ -5,8 +5,8 @@ Usage: library.py PROGRAM TOP
 
 PROGRAM is the program, TOP the top of the repository. Compares each field of each result for the puzzles of `puzzles/`, in
 each format, and for 500 puzzles made here; `close` with the second implementation in `solving.py` on 3,000 made grids;
-`nonograde.h` with the crate; and what wrong arguments raise. The package is the
-one that Python imports. Its last line is `N passed, M failed`.
+`extend` as `extending.py` does; `nonograde.h` with the crate; and what wrong arguments raise. The package is the one that
+Python imports. Its last line is `N passed, M failed`.
 """
 
 import contextlib
@@ -32,6 +32,7 @@ from xml.etree import ElementTree
 import nonograde
 import solving
 from comparing import Program, Results, TooManyFailures
+from extending import compare_extended
 from header import compare_header, enum_of_header, status_comments
 
 MADE = 500
@@ -244,11 +245,14 @@ def check_cells(results):
     """Checks that cells that don't fit a puzzle are refused."""
     misfits = [[], ["?"], ["????"], ["???", "?"], ["?", "???"], ["??"] * 3, ["??", "??", ""], ["??", "", "??"], ["??", "?x"]]
     for rows in misfits:
-        results.compare("close", rows, "BadCells", given_by(nonograde.close, TWO, "nin", rows))
+        for call in (nonograde.close, nonograde.extend):
+            results.compare(call.__name__, rows, "BadCells", given_by(call, TWO, "nin", rows))
     for grid in ("", "?", "?????", "???x", "??\r??", "??\n??\n\n", "\n??\n??", "??\n??\r", "??\n\r??", "?\n???", b"\xff???"):
-        results.compare("close", grid, "BadCells", given_by(nonograde.close, TWO, "nin", grid))
-    for grid in (iter(["#?", "??"]), b"#???", bytearray(b"#???"), memoryview(b"#?\n??")):
-        results.compare("close", type(grid), ("#.", ".#"), nonograde.close(TWO, "nin", grid).rows)
+        for call in (nonograde.close, nonograde.extend):
+            results.compare(call.__name__, grid, "BadCells", given_by(call, TWO, "nin", grid))
+    for call in (nonograde.close, nonograde.extend):
+        for grid in (iter(["#?", "??"]), b"#???", bytearray(b"#???"), memoryview(b"#?\n??")):
+            results.compare(call.__name__, type(grid), ("#.", ".#"), call(TWO, "nin", grid).rows)
 
 
 def compare_settings(compared):
@@ -296,8 +300,10 @@ def compare_buffers(compared):
         compared.solve("wide.nin", text)
         compare_lines(compared.results, "wide.nin", compared.program.printed("lines", "wide.nin"), nonograde.lines(text, "nin"))
         nonograde._first_buffer = nonograde._library.nonograde_buffer_size(*size)
-        for call in (nonograde.solve, nonograde.lines):
-            compared.results.compare("how often the library is called", (call.__name__, size), 1, times_called(call, text, "nin"))
+        unknown = "?" * (size[0] * size[1])
+        for call, *words in ((nonograde.solve,), (nonograde.lines,), (nonograde.close, unknown), (nonograde.extend, unknown)):
+            times = times_called(call, text, "nin", *words)
+            compared.results.compare("how often the library is called", (call.__name__, size), 1, times)
         nonograde._first_buffer = usual
     text = long_texts()
     wanted = compared.program.printed_of("long.non", text.encode(), "convert", "--to", "non").decode()
@@ -342,7 +348,8 @@ def compare_faults(compared):
         compared.solve(name, text)
         wanted = given_by(nonograde.solve, text, Path(name).suffix)
         compared.results.compare("lines", name, wanted, given_by(nonograde.lines, text, Path(name).suffix))
-        compared.results.compare("close", name, wanted, given_by(nonograde.close, text, Path(name).suffix, "x"))
+        for call in (nonograde.close, nonograde.extend):
+            compared.results.compare(call.__name__, name, wanted, given_by(call, text, Path(name).suffix, "x"))
         words.add(str(wanted).partition(":")[0])
     words.add(given_by(nonograde.close, TWO, "nin", "x"))
     flat = "1 2\n1\n#\n1\n2\n"
@@ -368,7 +375,7 @@ def check_faults(results, header):
         results.compare("a fault", "pickled", facts, again)
     results.compare("a fault", "of a line", "line 7: the goal doesn't fit the size", nonograde.Fault("BadGoal", 7).sentence)
     solve, lines, convert, solve_clues = nonograde.solve, nonograde.lines, nonograde.convert, nonograde.solve_clues
-    grade, report, close = nonograde.grade, nonograde.report, nonograde.close
+    grade, report, close, extend = nonograde.grade, nonograde.report, nonograde.close, nonograde.extend
     wrong_types = {
         "text": [
             *((solve, text, "nin") for text in (5, [1], None, Path("a.nin"))),
@@ -376,26 +383,44 @@ def check_faults(results, header):
             (report, 5, "nin"),
             (lines, None, "nin"),
             (close, 5, "nin", "????"),
+            (extend, 5, "nin", "????"),
             (convert, 5, "nin", "mk"),
         ],
-        "format": [(solve, TWO, 5), (lines, TWO, None), (close, TWO, 5, "????"), (convert, TWO, b"nin", "mk")],
-        "grid": [(close, TWO, "nin", grid) for grid in (5, None, [1], ["??", None], [b"??", b"??"])],
+        "format": [
+            *((solve, TWO, 5), (lines, TWO, None), (convert, TWO, b"nin", "mk")),
+            *((call, TWO, 5, "????") for call in (close, extend)),
+        ],
+        "grid": [
+            (call, TWO, "nin", grid) for call in (close, extend) for grid in (5, None, [1], ["??", None], [b"??", b"??"])
+        ],
         "by": [(close, TWO, "nin", "????", by) for by in (0, None)],
         "to": [(convert, TWO, "nin", 1)],
-        "guesses": [(solve, TWO, "nin", limit) for limit in (1.5, "5", None)],
-        "pick": [(solve, TWO, "nin", 9, rule) for rule in (0, None)],
+        "guesses": [
+            *((solve, TWO, "nin", limit) for limit in (1.5, "5", None)),
+            *((extend, TWO, "nin", "????", limit) for limit in (1.5, "5", None)),
+        ],
+        "pick": [
+            *((solve, TWO, "nin", 9, rule) for rule in (0, None)),
+            *((extend, TWO, "nin", "????", 9, rule) for rule in (0, None)),
+        ],
         "name": [(report, TWO, "nin", 9, "first", name) for name in (0, None)],
         "rows": [(solve_clues, clues, [[1]]) for clues in (5, [1], ["1"], [[1.5]])],
         "columns": [(solve_clues, [[1]], clues) for clues in (None, [[None]])],
     }
     limits = (-1, nonograde.MAX_GUESSES + 1, 2**32, 2**32 + 1, 2**64, -(2**32))
     wrong_values = {
-        "guesses": [(call, TWO, "nin", limit) for call in (solve, grade, report) for limit in limits],
-        "pick": [(call, TWO, "nin", 9, rule) for call in (solve, grade, report) for rule in ("last", "")],
+        "guesses": [
+            *((call, TWO, "nin", limit) for call in (solve, grade, report) for limit in limits),
+            *((extend, TWO, "nin", "????", limit) for limit in limits),
+        ],
+        "pick": [
+            *((call, TWO, "nin", 9, rule) for call in (solve, grade, report) for rule in ("last", "")),
+            *((extend, TWO, "nin", "????", 9, rule) for rule in ("last", "")),
+        ],
         "format": [
             *((call, TWO, format) for call in (solve, grade, report, lines) for format in ("txt", "", "a.nin")),
             (convert, TWO, "txt", "mk"),
-            (close, TWO, "txt", "????"),
+            *((call, TWO, "txt", "????") for call in (close, extend)),
         ],
         "by": [(close, TWO, "nin", "????", by) for by in ("search", "", "line")],
         "to": [(convert, TWO, "nin", format) for format in ("txt", "")],
@@ -439,14 +464,16 @@ def check_bytes(compared):
 
 def check_results(results):
     """Checks that results can't be changed, and have the hash of their fields."""
-    for call, field in ((nonograde.solve, "verdict"), (nonograde.grade, "verdict"), (nonograde.lines, "word")):
-        one, same = call(TWO, "nin"), call(TWO, "nin")
+    solve, grade, lines, extend = nonograde.solve, nonograde.grade, nonograde.lines, nonograde.extend
+    for call, field, *words in ((solve, "verdict"), (grade, "verdict"), (lines, "word"), (extend, "verdict", "????")):
+        one, same = call(TWO, "nin", *words), call(TWO, "nin", *words)
         results.compare("results", call.__name__, (True, 1), (one == same, len({one, same})))
         raised = raised_by(setattr, one, field, "none")[0]
         results.compare("a field", call.__name__, True, raised is not None and issubclass(raised, AttributeError))
         results.compare("a result", "pickled", one, pickle.loads(pickle.dumps(one)))
-    word, rows = nonograde.lines(TWO, "nin")
+    word, rows = lines(TWO, "nin")
     results.compare("lines", "unpacked", ("open", ("??", "??")), (word, rows))
+    results.compare("str", "of extend", str(solve(TWO, "nin")), str(extend(TWO, "nin", "????")))
 
 
 def colours_of(picture):
@@ -461,12 +488,15 @@ def check_pictures(results):
     pictures = {
         "one": nonograde.solve("3 1\n1 1\n1\n0\n1\n", "nin"),
         "several": nonograde.solve(TWO, "nin"),
+        "extended": nonograde.extend(TWO, "nin", "????"),
         "open": nonograde.lines(TWO, "nin"),
         "none": nonograde.solve("1 1\n1\n0\n", "nin"),
     }
+    two = (2, 2), {(0, 0): "firebrick", (1, 0): "lightpink", (0, 1): "lightpink", (1, 1): "firebrick"}
     wanted = {
         "one": ((3, 1), {(0, 0): "black", (2, 0): "black"}),
-        "several": ((2, 2), {(0, 0): "firebrick", (1, 0): "lightpink", (0, 1): "lightpink", (1, 1): "firebrick"}),
+        "several": two,
+        "extended": two,
         "open": ((2, 2), {(x, y): "silver" for x in range(2) for y in range(2)}),
     }
     for name, result in pictures.items():
@@ -552,6 +582,7 @@ def main(program, top):
         check_results(results)
         check_cells(results)
         compare_closed(results)
+        compare_extended(results, top / "puzzles")
         check_pictures(results)
         check_bytes(compared)
         compare_buffers(compared)

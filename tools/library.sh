@@ -81,7 +81,9 @@ import nonograde
 nonograde.solve(5, "nin")  # type: ignore[arg-type]
 nonograde.solve("", "nin", guesses=1.5)  # type: ignore[arg-type]
 nonograde.solve_clues([1], [[1]])  # type: ignore[list-item]
+nonograde.extend("", "nin", 5)  # type: ignore[arg-type]
 number: int = nonograde.solve("", "nin").rows  # type: ignore[assignment]
+verdict: int = nonograde.extend("", "nin", "").verdict  # type: ignore[assignment]
 word: int = nonograde.lines("", "nin").word  # type: ignore[assignment]
 text: str = nonograde.convert(b"", "nin", "mk")  # type: ignore[assignment]
 END

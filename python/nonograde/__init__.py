@@ -1,4 +1,4 @@
-"""nonograde for Python: black-and-white nonograms graded and solved, closed by line logic, and converted.
+"""nonograde for Python: black-and-white nonograms graded and solved, closed by line logic, completed, and converted.
 
 The shared library `libnonograde.so` is looked for in the folder that NONOGRADE_LIBRARY names, else beside this file.
 
@@ -25,8 +25,8 @@ from pathlib import Path
 from typing import Any, NamedTuple, NoReturn, SupportsIndex, TypeVar
 
 __all__ = [
-    "CLOSINGS", "FORMATS", "MAX_GUESSES", "PICKS", "Fault", "Graded", "Lines", "Solved", "Text",
-    "close", "convert", "grade", "lines", "read", "report", "solve", "solve_clues", "version",
+    "CLOSINGS", "FORMATS", "MAX_GUESSES", "PICKS", "Extended", "Fault", "Graded", "Lines", "Solved", "Text",
+    "close", "convert", "extend", "grade", "lines", "read", "report", "solve", "solve_clues", "version",
 ]
 
 FORMATS = ("non", "mk", "nin")
@@ -89,27 +89,10 @@ class Fault(ValueError):
         return f"{self.word}{place}: {self.sentence}"
 
 
-@dataclass(frozen=True)
-class Solved:
-    """What is found of a puzzle. `str` gives the solutions, a line for each row, with an empty line between two.
+class _Solutions:
+    """A result with up to two solutions. `str` gives these, a line for each row, with an empty line between two."""
 
-    >>> print(solve("2 2\\n1\\n1\\n1\\n1\\n", "nin"))
-    #.
-    .#
-    <BLANKLINE>
-    .#
-    #.
-    """
-
-    width: int
-    height: int
-    verdict: str  # none, one, several or unsettled
-    grade: str  # line, trials or search
-    known_by_lines: int  # how many cells are known after line logic; 0 if that finds a contradiction
-    known_by_trials: int  # how many are known after trials; 0 if they find a contradiction
-    guesses: int
-    goal: str  # absent, meets or misses
-    solutions: tuple[tuple[str, ...], ...]  # the rows of each, `#` for filled and `.` for blank; the first two of several
+    solutions: tuple[tuple[str, ...], ...]
 
     @property
     def rows(self) -> tuple[str, ...]:
@@ -138,6 +121,42 @@ class Solved:
     def _repr_svg_(self) -> str | None:
         """The picture that notebooks show: the first solution, with the cells in red in which the second one differs."""
         return _svg(self.rows, self.differing)
+
+
+@dataclass(frozen=True)
+class Solved(_Solutions):
+    """What is found of a puzzle. `str` gives the solutions, a line for each row, with an empty line between two.
+
+    >>> print(solve("2 2\\n1\\n1\\n1\\n1\\n", "nin"))
+    #.
+    .#
+    <BLANKLINE>
+    .#
+    #.
+    """
+
+    width: int
+    height: int
+    verdict: str  # none, one, several or unsettled
+    grade: str  # line, trials or search
+    known_by_lines: int  # how many cells are known after line logic; 0 if that finds a contradiction
+    known_by_trials: int  # how many are known after trials; 0 if they find a contradiction
+    guesses: int
+    goal: str  # absent, meets or misses
+    solutions: tuple[tuple[str, ...], ...]  # the rows of each, `#` for filled and `.` for blank; the first two of several
+
+
+@dataclass(frozen=True)
+class Extended(_Solutions):
+    """The solutions of a puzzle that extend a grid. `str`, `rows` and `differing` are those of `Solved`.
+
+    >>> extend("2 2\\n1\\n1\\n1\\n1\\n", "nin", "????").differing
+    [(0, 0), (1, 0), (0, 1), (1, 1)]
+    """
+
+    verdict: str  # none, one, several or unsettled
+    guesses: int
+    solutions: tuple[tuple[str, ...], ...]  # the rows of each; the first two of several
 
 
 class Graded(NamedTuple):
@@ -242,6 +261,7 @@ def _load() -> ctypes.CDLL:
             "report": [*text, *text, number, number, number],
             "lines": [*text, number],
             "close": [*text, number, *text, number],
+            "extend": [*text, number, *text, number, number],
             "convert": [*text, number, number],
             "version": [],
         }
@@ -335,6 +355,16 @@ def _guesses(guesses: SupportsIndex) -> int:
     return limit
 
 
+def _rule(pick: str) -> int:
+    """The number of a guess rule. Raises `Fault` if there is no such rule."""
+    return PICKS.index(_word("pick", pick, PICKS))
+
+
+def _solutions_of(said: str) -> tuple[tuple[str, ...], ...]:
+    """The rows of each solution, which is followed by an empty line."""
+    return tuple(tuple(grid.split("\n")) for grid in said.split("\n\n") if grid)
+
+
 def solve(text: str | bytes, format: str, guesses: SupportsIndex = 1000, pick: str = "first") -> Solved:
     """Grades the puzzle of a text. The format is `non`, `mk` or `nin`, `guesses` the greatest number of guesses, and
     `pick` the guess rule, `first` or `most`.
@@ -348,13 +378,12 @@ def solve(text: str | bytes, format: str, guesses: SupportsIndex = 1000, pick: s
     Traceback (most recent call last):
     nonograde.Fault: BadSetting: guesses is -1, and has to be from 0 to 1000000
     """
-    limit, rule = _guesses(guesses), PICKS.index(_word("pick", pick, PICKS))
+    limit, rule = _guesses(guesses), _rule(pick)
     said = _answer(_library.nonograde_solve, b"", 0, *_words(text, format), limit, rule).decode()
     head, _, rows = said.partition("\n")
     _, sizes, verdict, grade, by_lines, by_trials, spent, goal, _ = head.split(" ", 8)
     width, height = map(int, sizes.split("x"))
-    solutions = tuple(tuple(grid.split("\n")) for grid in rows.split("\n\n") if grid)
-    return Solved(width, height, verdict, grade, int(by_lines), int(by_trials), int(spent), goal, solutions)
+    return Solved(width, height, verdict, grade, int(by_lines), int(by_trials), int(spent), goal, _solutions_of(rows))
 
 
 def grade(text: str | bytes, format: str, guesses: SupportsIndex = 1000, pick: str = "first") -> Graded:
@@ -364,7 +393,7 @@ def grade(text: str | bytes, format: str, guesses: SupportsIndex = 1000, pick: s
     >>> found.verdict, found.grade, found.guesses
     ('several', 'search', 2)
     """
-    limit, rule = _guesses(guesses), PICKS.index(_word("pick", pick, PICKS))
+    limit, rule = _guesses(guesses), _rule(pick)
     facts = _Facts()
     status = _library.nonograde_grade(*_words(text, format), limit, rule, ctypes.byref(facts))
     if status:
@@ -386,7 +415,7 @@ def report(
     >>> found["message"]
     'at least two solutions, which differ in 4 of 4 cells'
     """
-    limit, rule = _guesses(guesses), PICKS.index(_word("pick", pick, PICKS))
+    limit, rule = _guesses(guesses), _rule(pick)
     label = _bytes("name", name)
     said = _answer(_library.nonograde_report, label, len(label), *_words(text, format), limit, rule)
     members: dict[str, Any] = json.loads(said)
@@ -484,6 +513,30 @@ def close(text: str | bytes, format: str, grid: str | bytes | Iterable[str], by:
     """
     way, cells = CLOSINGS.index(_word("by", by, CLOSINGS)), _cells(grid)
     return _lines_of(_answer(_library.nonograde_close, *_words(text, format), cells, len(cells), way))
+
+
+def extend(
+    text: str | bytes, format: str, grid: str | bytes | Iterable[str], guesses: SupportsIndex = 1000, pick: str = "first"
+) -> Extended:
+    """The solutions of a puzzle that extend a grid: whether it can still be solved, and in one way only. The grid is as for
+    `close`, and the other arguments are those of `solve`. The verdict is `unsettled` only if all guesses were made.
+
+    >>> found = extend("2 2\\n1\\n1\\n1\\n1\\n", "nin", ["?#", "??"])
+    >>> found.verdict, found.guesses
+    ('one', 0)
+    >>> print(found)
+    .#
+    #.
+    >>> extend("2 2\\n1\\n1\\n1\\n1\\n", "nin", "##??").verdict
+    'none'
+    >>> extend("2 2\\n1\\n1\\n1\\n1\\n", "nin", "????").verdict
+    'several'
+    """
+    limit, rule, cells = _guesses(guesses), _rule(pick), _cells(grid)
+    said = _answer(_library.nonograde_extend, *_words(text, format), cells, len(cells), limit, rule).decode()
+    head, _, rows = said.partition("\n")
+    verdict, spent = head.split(" ")
+    return Extended(verdict, int(spent), _solutions_of(rows))
 
 
 def convert(text: AnyText, format: str, to: str) -> AnyText:
