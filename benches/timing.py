@@ -100,10 +100,11 @@ def library(program, made):
             "a call of `nonograde_solve`": measured("solve"),
             "a process, `nonograde solve`": process("solve", puzzle),
             "a call of `nonograde_close` by lines, no cell known": measured("close"),
+            "a call of `nonograde_extend`, no cell known": measured("extend"),
             "a start, `nonograde --version`": process("--version"),
         }
     rows = [[name, microseconds(taken), f"{instructions:,.0f}"] for name, (taken, instructions) in costs.items()]
-    solved, solving, closed, started = costs.values()
+    solved, solving, closed, _, started = costs.values()
     ratios = {
         "the process over the call that solves": (solving, solved),
         "the start over the call that closes": (started, closed),
