@@ -25,6 +25,7 @@ use Rattle.solve_core.specs.Picks.{picked}
 use Rattle.solve_core.specs.Report.{findings_of, grid_of, guesses_in, known_in, limited_search, line_closure, search_of, solutions_in, trial_closure, unknown_grid, verdict_by, verdict_of, within_guesses}
 use Rattle.solve_core.specs.Search.{Event, Guess, Solution}
 use Rattle.solve_core.specs.Trials.{trials}
+use Rattle.solve_core.specs.declared.extensions.Extensions.{Extensions}
 use Rattle.solve_core.specs.declared.findings.Findings.{Findings}
 use Rattle.solve_core.specs.declared.findings.Grade.{Grade}
 use Rattle.solve_core.specs.declared.findings.Grade.TheVariants.{Lines, Trials, Search}
@@ -40,7 +41,7 @@ use Rattle.reports.specs.Reports.{closed_text, closed_word, lines_text, solve_te
 use Rattle.puzzle_text.specs.declared.faults.TextFault.TheVariants as text
 use Rattle.nonograde_c.specs.Calls.{Fills, fault_word, line_of}
 use Rattle.nonograde_c.specs.Closing.{close_text}
-use Rattle.nonograde_c.specs.Extending.{extend_text}
+use Rattle.nonograde_c.specs.Extending.{extend_text, extensions_line}
 use Rattle.nonograde_c.specs.Lengths.{FitsIn, buffer_size, two_grids_length}
 use Rattle.nonograde_c.specs.declared.faults.Fault.{Fault}
 use Rattle.nonograde_c.specs.declared.faults.Fault.TheVariants.{Setting, Text, Ambiguous, Cells}
@@ -207,6 +208,11 @@ close_text-le ByTrials p cells few =
     let closed = trials (lines_of p) cells in
     closed_text-le p closed (omega (arith, few, known-le cells closed (trials-IsLeastClosed (lines_of p) cells).above))
 
+-- the line on the solutions that extend a grid
+extensions_line-le : (found : Extensions) → found.spent ≤ 1000000 → length (extensions_line found) ≤ 55
+extensions_line-le found spent =
+    simp length-append (omega (arith, verdict_word-le found.verdict, guess-digits found.spent spent))
+
 -- the answer on the solutions of `p` that extend a grid
 pub extend_text-le : (pick : Pick) (limit : ℕ) (p : Nonogram) (cells : List Cell) → limit ≤ MAX_GUESSES
     → length (extend_text pick limit p cells) ≤ 55 + two_grids_length p.width p.height
@@ -215,16 +221,20 @@ extend_text-le pick limit p cells within =
     let limited = within_guesses limit whole in
     let found = extensions_of pick p cells limit in
     let spent : found.spent ≤ 1000000 = omega (arith, spent-le limit whole, within) in
-    let solutions-le = length-solutions p (solutions_in limited) (nat_lt (length limited) (length whole)) in
-    simp length-append (omega (arith, verdict_word-le found.verdict, guess-digits found.spent spent, solutions-le))
+    let solutions = flat_map solution_text (solutions_of found.verdict) in
+    let solutions-le : length solutions ≤ two_grids_length p.width p.height =
+    length-solutions p (solutions_in limited) (nat_lt (length limited) (length whole)) in
+    let both : length (extend_text pick limit p cells) ≡ length (extensions_line found) + length solutions =
+    length-append (extensions_line found) solutions in
+    omega (arith, both, extensions_line-le found spent, solutions-le)
 
 -- an answer of at most a line and two grids of the puzzle that was read fits into the buffer
-pub within-buffer : (read : Result Nonogram Fault) (p : Nonogram) (text : List ℕ) → read ≡ Ok p → IsNonogram p
-    → length text ≤ 55 + two_grids_length p.width p.height
+pub within-buffer : (read : Result Nonogram Fault) (p : Nonogram) (text made : List ℕ) → read ≡ Ok p → IsNonogram p → text ≡ made
+    → length made ≤ 55 + two_grids_length p.width p.height
     → (width height : ℕ) → FitsIn width height read → length text ≤ buffer_size width height
-within-buffer read p text is_read is few width height fits =
+within-buffer read p text made is_read is is_made few width height fits =
     let fits' : FitsIn width height (Ok p) = subst (FitsIn width height) is_read fits in
-    omega (arith, few, size-le p width height is fits'.0 fits'.1)
+    rw is_made (omega (arith, few, size-le p width height is fits'.0 fits'.1))
 
 -- the answer to grading the puzzle that was read
 pub solve_answer-le : (name : List ℕ) (limit : ℕ) (pick : Pick) (read : Result Nonogram Fault) (p : Nonogram) (text : List ℕ) → read ≡ Ok p

@@ -1,6 +1,6 @@
 -- The answers of the calls, the numbers of their statuses, and what they write to the caller's
 -- buffer.
-use Rattle.std.specs.Prelude.{◌≡◌, ℕ, zero, suc, ◌<◌, ◌≤◌, ◌++◌, List, length, drop, codes, nat_le, if◌then◌else◌, Option, Some, None, Result, Ok, Err}
+use Rattle.std.specs.Prelude.{◌≡◌, ℕ, zero, suc, ◌<◌, ◌≤◌, ◌++◌, List, length, drop, codes, nat_le, if◌then◌else◌, Option, Some, None, IsSome, Result, Ok, Err}
 use Rattle.grid_core.specs.Nonogram.{Nonogram}
 use Rattle.grid_core.specs.declared.limits.TheConstants.{MAX_SIDE}
 use Rattle.lane_core.specs.declared.jobs.TheConstants.{MAX_GUESSES}
@@ -12,6 +12,7 @@ use Rattle.puzzle_text.specs.declared.faults.TextFault.{TextFault}
 use Rattle.puzzle_text.specs.declared.faults.TextFault.TheVariants as text
 use Rattle.puzzle_text.specs.declared.faults.WriteFault.{WriteFault}
 use Rattle.puzzle_text.specs.declared.faults.WriteFault.TheVariants as written
+use Rattle.puzzle_text.specs.declared.limits.TheConstants.{MAX_PUZZLE_LEN}
 use Rattle.puzzle_text.specs.declared.formats.Format.{Format}
 use Rattle.puzzle_text.specs.declared.formats.Format.TheVariants.{Non, Mk, Nin}
 use Rattle.solve_core.specs.declared.picks.Pick.{Pick}
@@ -170,3 +171,19 @@ abbrev pub Answers : Result (List ℕ) Fault → Reply → List ℕ → List ℕ
 Answers answer reply old new =
     (given : Result (List ℕ) Fault) × Gives no_memory (λ text. text) given answer
     × Fills given reply old new
+
+-- The faults of a text that a call finds before it allocates anything, so that `NoMemory` never
+-- hides them: `number` is that of no format, or the text `body` is too long. `Refused fault` states
+-- that the fault is the answer.
+pub record RefusesText (number : ℕ) (body : List ℕ) (Refused : Fault → Type 0) : Type 0 where
+  pub format : format_from_number number ≡ None → Refused Setting
+  pub too_long : IsSome (format_from_number number) → MAX_PUZZLE_LEN < length body →
+      Refused (Text text.TooLong)
+
+-- the same of a call that takes another setting too, which is `None` if it is out of its range
+pub record RefusesSetting {A : Type 0} (taken : Option A) (number : ℕ) (body : List ℕ)
+    (Refused : Fault → Type 0) : Type 0 where
+  pub setting : taken ≡ None → Refused Setting
+  pub format : format_from_number number ≡ None → Refused Setting
+  pub too_long : IsSome taken → IsSome (format_from_number number) →
+      MAX_PUZZLE_LEN < length body → Refused (Text text.TooLong)

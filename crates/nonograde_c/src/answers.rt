@@ -1,11 +1,11 @@
 //! The answers of the calls for C, before they are written to the caller's buffer.
 
-ghost use Rattle.std.specs.Prelude.{◌≡◌, ℕ, ◌+◌, ◌<◌, ◌≤◌, length, None, Err, IfOk, IsSome};
+ghost use Rattle.std.specs.Prelude.{◌≡◌, ℕ, ◌+◌, ◌≤◌, length, Err, IfOk};
 ghost use Rattle.grid_core.specs.Nonogram.{IsNonogram};
 ghost use Rattle.puzzle_text.specs.Answers.{Gives};
 ghost use Rattle.puzzle_text.specs.Formats.{text_as};
 ghost use Rattle.solve_core.specs.Sizes.{HasSizeOf};
-ghost use Rattle.nonograde_c.specs.Calls.{convert_answer, format_from_number, lines_answer, no_memory, of_writer, pick_within, puzzle_of, solve_answer};
+ghost use Rattle.nonograde_c.specs.Calls.{RefusesSetting, RefusesText, convert_answer, format_from_number, lines_answer, no_memory, of_writer, pick_within, puzzle_of, solve_answer};
 ghost use Rattle.nonograde_c.specs.Closing.{close_answer, closing_from_number};
 ghost use Rattle.nonograde_c.specs.Extending.{extend_answer};
 ghost use Rattle.nonograde_c.specs.Facts.{facts_answer};
@@ -22,16 +22,14 @@ use crate::given_cells::given_grid;
 use crate::json_reports::report_text;
 use crate::settings::{closing_from_number, format_from_number, pick_within};
 use grid_core::{Grid, Puzzle};
-use puzzle_text::{Format, MAX_PUZZLE_LEN, TextFault, WriteFault};
+use puzzle_text::{Format, TextFault, WriteFault};
 use reports::{lines_text, solve_text};
 use std::alloc::Global;
 
 /// Returns the puzzle of a text. `format` is the number of its format.
 fn read_puzzle(alloc: Global, text: &[u8], format: u32) -> Result<Puzzle, Fault>
     ensures answer { Gives no_memory (λ p. p) result (puzzle_of format text.now) }
-    ensures format { format_from_number format ≡ None → result ≡ Err Fault.Setting }
-    ensures too_long { IsSome (format_from_number format) → MAX_PUZZLE_LEN < length text.now →
-        result ≡ Err (Fault.Text TextFault.TooLong) }
+    ensures refuses { RefusesText format text.now (λ fault. result ≡ Err fault) }
     ensures puzzle { IfOk result (λ p. IsNonogram p) }
 {
     let Some(format) = format_from_number(format) else {
@@ -69,9 +67,7 @@ fn read_grid(alloc: Global, puzzle: &Puzzle, cells: &[u8]) -> Result<Grid, Fault
 pub fn lines_answer(alloc: Global, text: &[u8], format: u32) -> Result<Vec<u8>, Fault>
     ensures answer { Gives no_memory (λ text. text) (shown result)
         (lines_answer format text.now) }
-    ensures format { format_from_number format ≡ None → result ≡ Err Fault.Setting }
-    ensures too_long { IsSome (format_from_number format) → MAX_PUZZLE_LEN < length text.now →
-        result ≡ Err (Fault.Text TextFault.TooLong) }
+    ensures refuses { RefusesText format text.now (λ fault. result ≡ Err fault) }
     ensures within { (width height : ℕ) → FitsIn width height (puzzle_of format text.now) →
         IfOk result (λ answer. length answer.items ≤ buffer_size width height) }
 {
@@ -91,10 +87,7 @@ pub fn solve_answer(
 ) -> Result<Vec<u8>, Fault>
     ensures answer { Gives no_memory (λ text. text) (shown result)
         (solve_answer guesses pick name.now format text.now) }
-    ensures setting { pick_within guesses pick ≡ None → result ≡ Err Fault.Setting }
-    ensures format { format_from_number format ≡ None → result ≡ Err Fault.Setting }
-    ensures too_long { IsSome (pick_within guesses pick) → IsSome (format_from_number format) →
-        MAX_PUZZLE_LEN < length text.now → result ≡ Err (Fault.Text TextFault.TooLong) }
+    ensures refuses { RefusesSetting (pick_within guesses pick) format text.now (λ fault. result ≡ Err fault) }
     ensures within { (width height : ℕ) → FitsIn width height (puzzle_of format text.now) →
         IfOk result (λ answer. length answer.items ≤ buffer_size width height + length name.now) }
 {
@@ -117,10 +110,7 @@ pub fn report_answer(
 ) -> Result<Vec<u8>, Fault>
     ensures answer { Gives no_memory (λ text. text) (shown result)
         (report_answer guesses pick name.now format text.now) }
-    ensures setting { pick_within guesses pick ≡ None → result ≡ Err Fault.Setting }
-    ensures format { format_from_number format ≡ None → result ≡ Err Fault.Setting }
-    ensures too_long { IsSome (pick_within guesses pick) → IsSome (format_from_number format) →
-        MAX_PUZZLE_LEN < length text.now → result ≡ Err (Fault.Text TextFault.TooLong) }
+    ensures refuses { RefusesSetting (pick_within guesses pick) format text.now (λ fault. result ≡ Err fault) }
 {
     let Some(pick) = pick_within(guesses, pick) else {
         return Err(Fault::Setting);
@@ -140,10 +130,7 @@ pub fn facts_answer(
 ) -> Result<Facts, Fault>
     ensures answer { Gives no_memory (λ facts. facts) result
         (facts_answer guesses pick format text.now) }
-    ensures setting { pick_within guesses pick ≡ None → result ≡ Err Fault.Setting }
-    ensures format { format_from_number format ≡ None → result ≡ Err Fault.Setting }
-    ensures too_long { IsSome (pick_within guesses pick) → IsSome (format_from_number format) →
-        MAX_PUZZLE_LEN < length text.now → result ≡ Err (Fault.Text TextFault.TooLong) }
+    ensures refuses { RefusesSetting (pick_within guesses pick) format text.now (λ fault. result ≡ Err fault) }
 {
     let Some(pick) = pick_within(guesses, pick) else {
         return Err(Fault::Setting);
@@ -163,10 +150,7 @@ pub fn close_answer(
 ) -> Result<Vec<u8>, Fault>
     ensures answer { Gives no_memory (λ text. text) (shown result)
         (close_answer by format text.now cells.now) }
-    ensures setting { closing_from_number by ≡ None → result ≡ Err Fault.Setting }
-    ensures format { format_from_number format ≡ None → result ≡ Err Fault.Setting }
-    ensures too_long { IsSome (closing_from_number by) → IsSome (format_from_number format) →
-        MAX_PUZZLE_LEN < length text.now → result ≡ Err (Fault.Text TextFault.TooLong) }
+    ensures refuses { RefusesSetting (closing_from_number by) format text.now (λ fault. result ≡ Err fault) }
     ensures within { (width height : ℕ) → FitsIn width height (puzzle_of format text.now) →
         IfOk result (λ answer. length answer.items ≤ buffer_size width height) }
 {
@@ -191,10 +175,7 @@ pub fn extend_answer(
 ) -> Result<Vec<u8>, Fault>
     ensures answer { Gives no_memory (λ text. text) (shown result)
         (extend_answer guesses pick format text.now cells.now) }
-    ensures setting { pick_within guesses pick ≡ None → result ≡ Err Fault.Setting }
-    ensures format { format_from_number format ≡ None → result ≡ Err Fault.Setting }
-    ensures too_long { IsSome (pick_within guesses pick) → IsSome (format_from_number format) →
-        MAX_PUZZLE_LEN < length text.now → result ≡ Err (Fault.Text TextFault.TooLong) }
+    ensures refuses { RefusesSetting (pick_within guesses pick) format text.now (λ fault. result ≡ Err fault) }
     ensures within { (width height : ℕ) → FitsIn width height (puzzle_of format text.now) →
         IfOk result (λ answer. length answer.items ≤ buffer_size width height) }
 {
@@ -222,10 +203,7 @@ fn written(alloc: Global, puzzle: &Puzzle, to: Format) -> Result<Vec<u8>, Fault>
 pub fn convert_answer(alloc: Global, text: &[u8], format: u32, to: u32) -> Result<Vec<u8>, Fault>
     ensures answer { Gives no_memory (λ text. text) (shown result)
         (convert_answer to format text.now) }
-    ensures setting { format_from_number to ≡ None → result ≡ Err Fault.Setting }
-    ensures format { format_from_number format ≡ None → result ≡ Err Fault.Setting }
-    ensures too_long { IsSome (format_from_number to) → IsSome (format_from_number format) →
-        MAX_PUZZLE_LEN < length text.now → result ≡ Err (Fault.Text TextFault.TooLong) }
+    ensures refuses { RefusesSetting (format_from_number to) format text.now (λ fault. result ≡ Err fault) }
 {
     let Some(to) = format_from_number(to) else {
         return Err(Fault::Setting);

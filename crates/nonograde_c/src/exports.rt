@@ -1,7 +1,7 @@
 //! The functions that C programs call. `include/nonograde.h` documents them for those.
 
-ghost use Rattle.std.specs.Prelude.{◌≡◌, ℕ, ◌+◌, ◌<◌, ◌≤◌, length, None, Err, IsSome, Ok};
-ghost use Rattle.nonograde_c.specs.Calls.{Answers, Fills, convert_answer, format_from_number, lines_answer, pick_within, puzzle_of, solve_answer};
+ghost use Rattle.std.specs.Prelude.{◌≡◌, ℕ, ◌+◌, ◌≤◌, length, Err, Ok};
+ghost use Rattle.nonograde_c.specs.Calls.{Answers, Fills, RefusesSetting, RefusesText, convert_answer, format_from_number, lines_answer, pick_within, puzzle_of, solve_answer};
 ghost use Rattle.nonograde_c.specs.Closing.{close_answer, closing_from_number};
 ghost use Rattle.nonograde_c.specs.Extending.{extend_answer};
 ghost use Rattle.nonograde_c.specs.Facts.{AnswersFacts, FillsFacts, facts_answer};
@@ -13,10 +13,8 @@ use crate::answers::{
     solve_answer,
 };
 use crate::facts::{Facts, fill_facts};
-use crate::faults::Fault;
 use crate::lengths::buffer_size;
 use crate::replies::{Reply, fill_answer, fill_text};
-use puzzle_text::{MAX_PUZZLE_LEN, TextFault};
 use reports::VERSION;
 use std::alloc::Global;
 
@@ -37,13 +35,8 @@ pub extern "C" fn nonograde_solve(
     ensures answer { Answers (solve_answer guesses pick name.now format text.now) result
         buffer.old buffer.new }
     // These faults are found before anything is allocated, so `NoMemory` never hides them.
-    ensures setting { pick_within guesses pick ≡ None →
-        Fills (Err Fault.Setting) result buffer.old buffer.new }
-    ensures format { format_from_number format ≡ None →
-        Fills (Err Fault.Setting) result buffer.old buffer.new }
-    ensures too_long { IsSome (pick_within guesses pick) → IsSome (format_from_number format) →
-        MAX_PUZZLE_LEN < length text.now →
-        Fills (Err (Fault.Text TextFault.TooLong)) result buffer.old buffer.new }
+    ensures refuses { RefusesSetting (pick_within guesses pick) format text.now
+        (λ fault. Fills (Err fault) result buffer.old buffer.new) }
     ensures within { (width height : ℕ) → FitsIn width height (puzzle_of format text.now) →
         result.length ≤ buffer_size width height + length name.now }
 {
@@ -66,13 +59,8 @@ pub extern "C" fn nonograde_report(
     ensures answer { Answers (report_answer guesses pick name.now format text.now) result
         buffer.old buffer.new }
     // These faults are found before anything is allocated, so `NoMemory` never hides them.
-    ensures setting { pick_within guesses pick ≡ None →
-        Fills (Err Fault.Setting) result buffer.old buffer.new }
-    ensures format { format_from_number format ≡ None →
-        Fills (Err Fault.Setting) result buffer.old buffer.new }
-    ensures too_long { IsSome (pick_within guesses pick) → IsSome (format_from_number format) →
-        MAX_PUZZLE_LEN < length text.now →
-        Fills (Err (Fault.Text TextFault.TooLong)) result buffer.old buffer.new }
+    ensures refuses { RefusesSetting (pick_within guesses pick) format text.now
+        (λ fault. Fills (Err fault) result buffer.old buffer.new) }
 {
     let answer = report_answer(alloc, name, text, format, guesses, pick);
     fill_answer(buffer, &answer)
@@ -92,13 +80,8 @@ pub extern "C" fn nonograde_grade(
 ) -> u32
     ensures answer { AnswersFacts (facts_answer guesses pick format text.now) result facts.new }
     // These faults are found before anything is allocated, so `NoMemory` never hides them.
-    ensures setting { pick_within guesses pick ≡ None →
-        FillsFacts (Err Fault.Setting) result facts.new }
-    ensures format { format_from_number format ≡ None →
-        FillsFacts (Err Fault.Setting) result facts.new }
-    ensures too_long { IsSome (pick_within guesses pick) → IsSome (format_from_number format) →
-        MAX_PUZZLE_LEN < length text.now →
-        FillsFacts (Err (Fault.Text TextFault.TooLong)) result facts.new }
+    ensures refuses { RefusesSetting (pick_within guesses pick) format text.now
+        (λ fault. FillsFacts (Err fault) result facts.new) }
 {
     let answer = facts_answer(alloc, text, format, guesses, pick);
     fill_facts(facts, answer)
@@ -116,10 +99,8 @@ pub extern "C" fn nonograde_lines(
 ) -> Reply
     ensures answer { Answers (lines_answer format text.now) result buffer.old buffer.new }
     // These faults are found before anything is allocated, so `NoMemory` never hides them.
-    ensures format { format_from_number format ≡ None →
-        Fills (Err Fault.Setting) result buffer.old buffer.new }
-    ensures too_long { IsSome (format_from_number format) → MAX_PUZZLE_LEN < length text.now →
-        Fills (Err (Fault.Text TextFault.TooLong)) result buffer.old buffer.new }
+    ensures refuses { RefusesText format text.now
+        (λ fault. Fills (Err fault) result buffer.old buffer.new) }
     ensures within { (width height : ℕ) → FitsIn width height (puzzle_of format text.now) →
         result.length ≤ buffer_size width height }
 {
@@ -145,13 +126,8 @@ pub extern "C" fn nonograde_close(
     ensures answer { Answers (close_answer by format text.now cells.now) result
         buffer.old buffer.new }
     // These faults are found before anything is allocated, so `NoMemory` never hides them.
-    ensures setting { closing_from_number by ≡ None →
-        Fills (Err Fault.Setting) result buffer.old buffer.new }
-    ensures format { format_from_number format ≡ None →
-        Fills (Err Fault.Setting) result buffer.old buffer.new }
-    ensures too_long { IsSome (closing_from_number by) → IsSome (format_from_number format) →
-        MAX_PUZZLE_LEN < length text.now →
-        Fills (Err (Fault.Text TextFault.TooLong)) result buffer.old buffer.new }
+    ensures refuses { RefusesSetting (closing_from_number by) format text.now
+        (λ fault. Fills (Err fault) result buffer.old buffer.new) }
     ensures within { (width height : ℕ) → FitsIn width height (puzzle_of format text.now) →
         result.length ≤ buffer_size width height }
 {
@@ -178,13 +154,8 @@ pub extern "C" fn nonograde_extend(
     ensures answer { Answers (extend_answer guesses pick format text.now cells.now) result
         buffer.old buffer.new }
     // These faults are found before anything is allocated, so `NoMemory` never hides them.
-    ensures setting { pick_within guesses pick ≡ None →
-        Fills (Err Fault.Setting) result buffer.old buffer.new }
-    ensures format { format_from_number format ≡ None →
-        Fills (Err Fault.Setting) result buffer.old buffer.new }
-    ensures too_long { IsSome (pick_within guesses pick) → IsSome (format_from_number format) →
-        MAX_PUZZLE_LEN < length text.now →
-        Fills (Err (Fault.Text TextFault.TooLong)) result buffer.old buffer.new }
+    ensures refuses { RefusesSetting (pick_within guesses pick) format text.now
+        (λ fault. Fills (Err fault) result buffer.old buffer.new) }
     ensures within { (width height : ℕ) → FitsIn width height (puzzle_of format text.now) →
         result.length ≤ buffer_size width height }
 {
@@ -204,13 +175,8 @@ pub extern "C" fn nonograde_convert(
 ) -> Reply
     ensures answer { Answers (convert_answer to format text.now) result buffer.old buffer.new }
     // These faults are found before anything is allocated, so `NoMemory` never hides them.
-    ensures setting { format_from_number to ≡ None →
-        Fills (Err Fault.Setting) result buffer.old buffer.new }
-    ensures format { format_from_number format ≡ None →
-        Fills (Err Fault.Setting) result buffer.old buffer.new }
-    ensures too_long { IsSome (format_from_number to) → IsSome (format_from_number format) →
-        MAX_PUZZLE_LEN < length text.now →
-        Fills (Err (Fault.Text TextFault.TooLong)) result buffer.old buffer.new }
+    ensures refuses { RefusesSetting (format_from_number to) format text.now
+        (λ fault. Fills (Err fault) result buffer.old buffer.new) }
 {
     let answer = convert_answer(alloc, text, format, to);
     fill_answer(buffer, &answer)

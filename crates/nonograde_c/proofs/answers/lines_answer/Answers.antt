@@ -5,5 +5,5 @@ use Rattle.nonograde_c.proofs.answers.lines_answer.Goals as goal
 pub returns-clause-within : goal.returns-clause-within
 returns-clause-within c =
     let puzzle = c.in_ok-puzzle.puzzle in
-    within-buffer _ puzzle _ c.in_ok-puzzle.ensures.answer c.in_ok-puzzle.ensures.puzzle
-    (rw c.in_ok-lines_text.ensures (lines_text-le puzzle c.in_ok-puzzle.ensures.puzzle))
+    within-buffer _ puzzle _ _ c.in_ok-puzzle.ensures.answer c.in_ok-puzzle.ensures.puzzle c.in_ok-lines_text.ensures
+    (lines_text-le puzzle c.in_ok-puzzle.ensures.puzzle)
