@@ -8,9 +8,9 @@ use Rattle.nonograde_c.specs.declared.faults.Fault.{Fault}
 abbrev pub two_grids_length : ℕ → ℕ → ℕ
 two_grids_length width height = 2 * (height * (width + 1) + 1)
 
--- The length of a buffer that holds each answer with grids, without the name, on a puzzle of at most
--- this width and height: that of line logic, to closing or extending a grid, and to grading. A side
--- greater than any puzzle's counts as the greatest.
+-- The length of a buffer that holds each answer with grids, without the name, on a puzzle of at
+-- most this width and height: that of line logic, to closing or extending a grid, and to grading. A
+-- side greater than any puzzle's counts as the greatest.
 abbrev pub buffer_size : ℕ → ℕ → ℕ
 buffer_size width height = 55 + two_grids_length (min width MAX_SIDE) (min height MAX_SIDE)
 

@@ -87,7 +87,8 @@ pub fn solve_answer(
 ) -> Result<Vec<u8>, Fault>
     ensures answer { Gives no_memory (λ text. text) (shown result)
         (solve_answer guesses pick name.now format text.now) }
-    ensures refuses { RefusesSetting (pick_within guesses pick) format text.now (λ fault. result ≡ Err fault) }
+    ensures refuses { RefusesSetting (pick_within guesses pick) format text.now
+        (λ fault. result ≡ Err fault) }
     ensures within { (width height : ℕ) → FitsIn width height (puzzle_of format text.now) →
         IfOk result (λ answer. length answer.items ≤ buffer_size width height + length name.now) }
 {
@@ -110,7 +111,8 @@ pub fn report_answer(
 ) -> Result<Vec<u8>, Fault>
     ensures answer { Gives no_memory (λ text. text) (shown result)
         (report_answer guesses pick name.now format text.now) }
-    ensures refuses { RefusesSetting (pick_within guesses pick) format text.now (λ fault. result ≡ Err fault) }
+    ensures refuses { RefusesSetting (pick_within guesses pick) format text.now
+        (λ fault. result ≡ Err fault) }
 {
     let Some(pick) = pick_within(guesses, pick) else {
         return Err(Fault::Setting);
@@ -130,7 +132,8 @@ pub fn facts_answer(
 ) -> Result<Facts, Fault>
     ensures answer { Gives no_memory (λ facts. facts) result
         (facts_answer guesses pick format text.now) }
-    ensures refuses { RefusesSetting (pick_within guesses pick) format text.now (λ fault. result ≡ Err fault) }
+    ensures refuses { RefusesSetting (pick_within guesses pick) format text.now
+        (λ fault. result ≡ Err fault) }
 {
     let Some(pick) = pick_within(guesses, pick) else {
         return Err(Fault::Setting);
@@ -150,7 +153,8 @@ pub fn close_answer(
 ) -> Result<Vec<u8>, Fault>
     ensures answer { Gives no_memory (λ text. text) (shown result)
         (close_answer by format text.now cells.now) }
-    ensures refuses { RefusesSetting (closing_from_number by) format text.now (λ fault. result ≡ Err fault) }
+    ensures refuses { RefusesSetting (closing_from_number by) format text.now
+        (λ fault. result ≡ Err fault) }
     ensures within { (width height : ℕ) → FitsIn width height (puzzle_of format text.now) →
         IfOk result (λ answer. length answer.items ≤ buffer_size width height) }
 {
@@ -175,7 +179,8 @@ pub fn extend_answer(
 ) -> Result<Vec<u8>, Fault>
     ensures answer { Gives no_memory (λ text. text) (shown result)
         (extend_answer guesses pick format text.now cells.now) }
-    ensures refuses { RefusesSetting (pick_within guesses pick) format text.now (λ fault. result ≡ Err fault) }
+    ensures refuses { RefusesSetting (pick_within guesses pick) format text.now
+        (λ fault. result ≡ Err fault) }
     ensures within { (width height : ℕ) → FitsIn width height (puzzle_of format text.now) →
         IfOk result (λ answer. length answer.items ≤ buffer_size width height) }
 {
@@ -203,7 +208,8 @@ fn written(alloc: Global, puzzle: &Puzzle, to: Format) -> Result<Vec<u8>, Fault>
 pub fn convert_answer(alloc: Global, text: &[u8], format: u32, to: u32) -> Result<Vec<u8>, Fault>
     ensures answer { Gives no_memory (λ text. text) (shown result)
         (convert_answer to format text.now) }
-    ensures refuses { RefusesSetting (format_from_number to) format text.now (λ fault. result ≡ Err fault) }
+    ensures refuses { RefusesSetting (format_from_number to) format text.now
+        (λ fault. result ≡ Err fault) }
 {
     let Some(to) = format_from_number(to) else {
         return Err(Fault::Setting);

@@ -135,12 +135,12 @@ pub extern "C" fn nonograde_close(
     fill_answer(buffer, &answer)
 }
 
-/// Searches for the solutions of a puzzle's text that extend a grid whose cells may be partly known.
-/// `cells` has them as for `nonograde_close`. The answer is a line with the verdict on these
-/// solutions, `none`, `one`, `several` or `unsettled`, and how many guesses were spent, and then the
-/// solutions, of several the first two, each followed by an empty line. The verdict is `unsettled`
-/// only if all guesses that `guesses` allows were spent. The other arguments are those of
-/// `nonograde_solve`.
+/// Searches for the solutions of a puzzle's text that extend a grid whose cells may be partly
+/// known. `cells` has them as for `nonograde_close`. The answer is a line with the verdict on these
+/// solutions, `none`, `one`, `several` or `unsettled`, and how many guesses were spent, and then
+/// the solutions, of several the first two, each followed by an empty line. The verdict is
+/// `unsettled` only if all guesses that `guesses` allows were spent. The other arguments are those
+/// of `nonograde_solve`.
 #[unsafe(no_mangle)]
 pub extern "C" fn nonograde_extend(
     alloc: Global,
@@ -190,8 +190,8 @@ pub extern "C" fn nonograde_version(buffer: &mut [u8]) -> Reply
     fill_text(buffer, VERSION.as_bytes())
 }
 
-/// Returns the length of a buffer that holds each answer of `nonograde_lines`, `nonograde_close` and
-/// `nonograde_extend`, and with the length of the name added each one of `nonograde_solve`, on
+/// Returns the length of a buffer that holds each answer of `nonograde_lines`, `nonograde_close`
+/// and `nonograde_extend`, and with the length of the name added each one of `nonograde_solve`, on
 /// puzzles of at most this width and height.
 #[unsafe(no_mangle)]
 pub extern "C" fn nonograde_buffer_size(width: u32, height: u32) -> usize

@@ -1,5 +1,5 @@
 //! The library for C, and for languages that can call C: solving a puzzle's text, grading it,
-//! reporting on it, applying line logic to it, closing a grid of it, searching for the solutions that
+//! reporting on it, applying line logic to it, closing a grid of it, finding the solutions that
 //! extend a grid of it, and converting it.
 #![tactic(auto)]
 

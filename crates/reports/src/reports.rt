@@ -43,8 +43,8 @@ fn push_report(text: &mut Vec<u8>, grid: &Grid) -> Result<(), NoMemory>
     push_grid(text, grid)
 }
 
-/// Appends the report on a closed grid: `one K` if it is full, or `open K` if not, with K the number
-/// of known cells, and then its rows; or `none 0` if it is dead, which is `None`.
+/// Appends the report on a closed grid: `one K` if it is full, or `open K` if not, with K the
+/// number of known cells, and then its rows; or `none 0` if it is dead, which is `None`.
 pub fn push_closed(text: &mut Vec<u8>, closed: &Option<Grid>) -> Result<(), NoMemory>
     ensures { OnOk result (text.new.items ≡ text.old.items ++ closed_text closed.now) }
 {
