@@ -29,6 +29,6 @@ pub use entry_messages::{diagnosis_of, push_message};
 pub use heads::Level;
 pub use messages::{push_diagnosis_message, push_refused_message};
 pub use puzzle_findings::{CheckOptions, push_graded};
-pub use text_findings::push_refused;
+pub use text_findings::{push_refused, push_text_finding};
 pub use totals::{Subject, push_totals, worst_of};
 pub use unread::{Unread, push_unread};

@@ -55,8 +55,10 @@ fn push_fault_finding(
     push_bytes(text, b"\n")
 }
 
-/// Appends the finding on a text that the reader of `format` refused with `fault`.
-fn push_text_finding(
+/// Appends the finding on the text `body` that the reader of `format` refused with `fault`: one
+/// line, with the file's name and, if it is about a line of the text, the number of that line. Fails
+/// with `NoMemory` if an allocation fails.
+pub fn push_text_finding(
     text: &mut Vec<u8>,
     alloc: Global,
     name: &[u8],
