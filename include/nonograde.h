@@ -1,5 +1,5 @@
-/* nonograde for programs in C and C++: black-and-white nonograms are graded and solved, closed by line logic, completed
- * from a half-filled grid, and converted.
+/* nonograde for programs in C and C++: black-and-white nonograms are graded and solved, checked, closed by line logic,
+ * completed from a half-filled grid, and converted.
  *
  * Most calls take `buffer`, memory for the answer, and its length. Such a call writes the answer to the start of the
  * buffer, leaves the rest of the buffer as it was, and returns a status and the length of the answer in bytes. With status
@@ -89,6 +89,13 @@ nonograde_reply nonograde_solve(const uint8_t *name, size_t name_length, const u
 nonograde_reply nonograde_report(const uint8_t *name, size_t name_length, const uint8_t *text, size_t text_length,
                                  uint32_t format, uint32_t guesses, uint32_t pick, uint8_t *buffer, size_t buffer_length);
 
+/* Checks a text in the format `format`. The answer is what `nonograde check` prints about it, without the line of counts:
+ * a line for each finding, which begins with `name`, and pictures of two solutions; nothing if there is no finding. A text
+ * that is refused has a finding too, so the only faults are NONOGRADE_BAD_SETTING and NONOGRADE_NO_MEMORY. `guesses` and
+ * `pick` are those of nonograde_solve. */
+nonograde_reply nonograde_check(const uint8_t *name, size_t name_length, const uint8_t *text, size_t text_length,
+                                uint32_t format, uint32_t guesses, uint32_t pick, uint8_t *buffer, size_t buffer_length);
+
 /* Grades the puzzle of a text in the format `format`, as nonograde_solve does. Returns the status, and writes what it finds
  * to `facts`, which must not be NULL nor overlap the text. With a status other than 0 all facts but `fault_line` are 0. */
 uint32_t nonograde_grade(const uint8_t *text, size_t text_length, uint32_t format, uint32_t guesses, uint32_t pick,
@@ -122,8 +129,8 @@ nonograde_reply nonograde_convert(const uint8_t *text, size_t text_length, uint3
 
 /* Returns the length of a buffer that holds each answer of nonograde_lines, nonograde_close and nonograde_extend, and with
  * `name_length` added each one of nonograde_solve, on puzzles of at most this width and height. For all puzzles, 256 by
- * 256, it is 131,641. The answers of nonograde_report and nonograde_convert also have titles and other texts, and can be
- * longer. */
+ * 256, it is 131,641. The answers of nonograde_report, nonograde_check and nonograde_convert also have titles and other
+ * texts, and can be longer. */
 size_t nonograde_buffer_size(uint32_t width, uint32_t height);
 
 /* Writes the version, as `nonograde --version` prints it. */

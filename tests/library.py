@@ -143,6 +143,15 @@ def report_of(printed):
     return members["fault"] if members["fault_line"] is None else f"{members['fault']}:{members['fault_line']}"
 
 
+def printed_findings(name, findings):
+    """A result of `check` as the program prints it of a file."""
+    if not isinstance(findings, tuple):
+        return findings
+    heads = [name if finding.line is None else f"{name}:{finding.line}" for finding in findings]
+    rows = [[f"{head}: {it.level}: {it.sentence}", *it.pictures] for head, it in zip(heads, findings)]
+    return "".join(f"{row}\n" for row in sum(rows, []))
+
+
 class Compared:
     """Compares calls on a text with the program, which runs in a folder of its own."""
 
@@ -158,6 +167,7 @@ class Compared:
         compare_solved(self.results, f"{name} {settings}", printed, given)
         compare_graded(self.results, f"{name} {settings}", printed, given_by(nonograde.grade, text, Path(name).suffix, **settings))
         self.report(name, text, options, **settings)
+        self.check(name, text, options, **settings)
         return given
 
     def report(self, name, text, options, **settings):
@@ -165,6 +175,12 @@ class Compared:
         wanted = report_of(self.program.printed("survey", "--format", "json", *options, name))
         given = given_by(nonograde.report, text, Path(name).suffix, name=name, **settings)
         self.results.compare("report", f"{name} {settings}", wanted, given)
+
+    def check(self, name, text, options, **settings):
+        """Compares `check` on a file that was written."""
+        lines = self.program.run("check", *options, name)[1].decode().splitlines(keepends=True)
+        given = given_by(nonograde.check, text, Path(name).suffix, **settings)
+        self.results.compare("check", f"{name} {settings}", "".join(lines[:-1]), printed_findings(name, given))
 
     def all_calls(self, name, body):
         """Compares each call on a file of this name, and returns its conversions by format."""
@@ -375,12 +391,15 @@ def check_faults(results, header):
         results.compare("a fault", "pickled", facts, again)
     results.compare("a fault", "of a line", "line 7: the goal doesn't fit the size", nonograde.Fault("BadGoal", 7).sentence)
     solve, lines, convert, solve_clues = nonograde.solve, nonograde.lines, nonograde.convert, nonograde.solve_clues
-    grade, report, close, extend = nonograde.grade, nonograde.report, nonograde.close, nonograde.extend
+    grade, report, check, close, extend = (
+        nonograde.grade, nonograde.report, nonograde.check, nonograde.close, nonograde.extend
+    )
     wrong_types = {
         "text": [
             *((solve, text, "nin") for text in (5, [1], None, Path("a.nin"))),
             (grade, 5, "nin"),
             (report, 5, "nin"),
+            (check, 5, "nin"),
             (lines, None, "nin"),
             (close, 5, "nin", "????"),
             (extend, 5, "nin", "????"),
@@ -410,15 +429,15 @@ def check_faults(results, header):
     limits = (-1, nonograde.MAX_GUESSES + 1, 2**32, 2**32 + 1, 2**64, -(2**32))
     wrong_values = {
         "guesses": [
-            *((call, TWO, "nin", limit) for call in (solve, grade, report) for limit in limits),
+            *((call, TWO, "nin", limit) for call in (solve, grade, report, check) for limit in limits),
             *((extend, TWO, "nin", "????", limit) for limit in limits),
         ],
         "pick": [
-            *((call, TWO, "nin", 9, rule) for call in (solve, grade, report) for rule in ("last", "")),
+            *((call, TWO, "nin", 9, rule) for call in (solve, grade, report, check) for rule in ("last", "")),
             *((extend, TWO, "nin", "????", 9, rule) for rule in ("last", "")),
         ],
         "format": [
-            *((call, TWO, format) for call in (solve, grade, report, lines) for format in ("txt", "", "a.nin")),
+            *((call, TWO, format) for call in (solve, grade, report, check, lines) for format in ("txt", "", "a.nin")),
             (convert, TWO, "txt", "mk"),
             *((call, TWO, "txt", "????") for call in (close, extend)),
         ],
@@ -473,6 +492,8 @@ def check_results(results):
         results.compare("a result", "pickled", one, pickle.loads(pickle.dumps(one)))
     word, rows = lines(TWO, "nin")
     results.compare("lines", "unpacked", ("open", ("??", "??")), (word, rows))
+    one, same = nonograde.check(TWO, "nin"), nonograde.check(TWO, "nin")
+    results.compare("results", "check", (True, 1), (one == same, len({one, same})))
     results.compare("str", "of extend", str(solve(TWO, "nin")), str(extend(TWO, "nin", "????")))
 
 

@@ -357,7 +357,7 @@ compare_library_packages() {
     } | sort)" "$(found_files package/dev)"
     same 'what libnonograde-dev depends on' "libnonograde0 (= $version)" "$(dpkg-deb -f out/libnonograde-dev_*.deb Depends)"
     same 'the version of libnonograde0' "$version" "$(dpkg-deb -f out/libnonograde0_*.deb Version)"
-    same 'the exports of libnonograde0' "$(printf 'nonograde_%s\n' buffer_size close convert extend grade lines report solve version)" \
+    same 'the exports of libnonograde0' "$(printf 'nonograde_%s\n' buffer_size check close convert extend grade lines report solve version)" \
         "$(nm -D --defined-only "package/shared/$lib/libnonograde.so.0" | awk '{ print $3 }' | sort)"
     cp -r package/shared/. package/dev/. package/both && example_in c >two.c
     (

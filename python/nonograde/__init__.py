@@ -1,4 +1,4 @@
-"""nonograde for Python: black-and-white nonograms graded and solved, closed by line logic, completed, and converted.
+"""nonograde for Python: black-and-white nonograms graded, solved and checked, closed by line logic, completed, and converted.
 
 The shared library `libnonograde.so` is looked for in the folder that NONOGRADE_LIBRARY names, else beside this file.
 
@@ -19,14 +19,15 @@ import ctypes
 import json
 import operator
 import os
+import re
 from collections.abc import Callable, Collection, Iterable
 from dataclasses import dataclass
 from pathlib import Path
 from typing import Any, NamedTuple, NoReturn, SupportsIndex, TypeVar
 
 __all__ = [
-    "CLOSINGS", "FORMATS", "MAX_GUESSES", "PICKS", "Extended", "Fault", "Graded", "Lines", "Solved", "Text",
-    "close", "convert", "extend", "grade", "lines", "read", "report", "solve", "solve_clues", "version",
+    "CLOSINGS", "FORMATS", "MAX_GUESSES", "PICKS", "Extended", "Fault", "Finding", "Graded", "Lines", "Solved", "Text",
+    "check", "close", "convert", "extend", "grade", "lines", "read", "report", "solve", "solve_clues", "version",
 ]
 
 FORMATS = ("non", "mk", "nin")
@@ -61,6 +62,9 @@ SENTENCES = {
 }
 
 STATUSES = ("Ok", *SENTENCES)
+
+# A finding without the name of a file, and the lines that show pictures.
+FINDING = re.compile(r"(?::(\d+))?: (error|warning): (.*)\n((?: .*\n)*)")
 
 AnyText = TypeVar("AnyText", str, bytes)
 Row = Iterable[SupportsIndex]
@@ -197,6 +201,19 @@ class Lines(NamedTuple):
         return _svg(self.rows)
 
 
+class Finding(NamedTuple):
+    """What `check` finds wrong. `str` gives it as `nonograde check` prints it, but for the file's name."""
+
+    level: str  # error or warning
+    line: int | None  # the number of the line of the text that it is about
+    sentence: str
+    pictures: tuple[str, ...]  # two solutions and where they differ, side by side, row by row; else nothing
+
+    def __str__(self) -> str:
+        place = "" if self.line is None else f"{self.line}: "
+        return "\n".join([f"{place}{self.level}: {self.sentence}", *self.pictures])
+
+
 class Text(NamedTuple):
     """A puzzle's text with its format, as the calls take them: `solve(*read("heart.non"))`."""
 
@@ -259,6 +276,7 @@ def _load() -> ctypes.CDLL:
         calls: dict[str, list[Any]] = {
             "solve": [*text, *text, number, number, number],
             "report": [*text, *text, number, number, number],
+            "check": [*text, *text, number, number, number],
             "lines": [*text, number],
             "close": [*text, number, *text, number],
             "extend": [*text, number, *text, number, number],
@@ -420,6 +438,31 @@ def report(
     said = _answer(_library.nonograde_report, label, len(label), *_words(text, format), limit, rule)
     members: dict[str, Any] = json.loads(said)
     return members
+
+
+def _findings(said: str) -> tuple[Finding, ...]:
+    """The findings in an answer of `check` without a name."""
+    found = FINDING.findall(said)
+    return tuple(Finding(level, int(line) if line else None, sentence, tuple(pictures.splitlines()))
+                 for line, level, sentence, pictures in found)
+
+
+def check(text: str | bytes, format: str, guesses: SupportsIndex = 1000, pick: str = "first") -> tuple[Finding, ...]:
+    """What is wrong with a text or its puzzle, as `nonograde check` finds it; nothing if all is well. A text that is refused
+    has a finding too. The arguments are those of `solve`.
+
+    >>> for finding in check("2 2\\n1\\n1\\n1\\n1\\n", "nin"):
+    ...     print(finding)
+    error: at least two solutions, which differ in 4 of 4 cells
+        #.   .#   **
+        .#   #.   **
+    >>> check("1 1\\n1\\n1\\n", "nin")
+    ()
+    >>> check("1 1\\n1\\nx\\n", "nin")[0].line
+    3
+    """
+    limit, rule = _guesses(guesses), _rule(pick)
+    return _findings(_answer(_library.nonograde_check, b"", 0, *_words(text, format), limit, rule).decode())
 
 
 def _clue(name: str, place: int, clue: Row) -> str:

@@ -104,6 +104,9 @@ static void check_statuses(void) {
     "\",\"number\":1,\"rows\":[[1],[1]],\"solutions\":[[\"#.\",\".#\"],[\".#\",\"#.\"]],"                                  \
     "\"sums\":{\"columns\":2,\"rows\":2},\"title\":null,\"trial_cells\":0,\"verdict\":\"several\",\"width\":2}\n"
 
+/* What is wrong with TWO, after the name. */
+#define TWO_CHECKED ": error: at least two solutions, which differ in 4 of 4 cells\n    #.   .#   **\n    .#   #.   **\n"
+
 static void check_other_calls(void) {
     uint8_t buffer[BUFFER];
     const uint8_t *text = (const uint8_t *)TWO, *name = (const uint8_t *)"two";
@@ -115,6 +118,10 @@ static void check_other_calls(void) {
     check(is(reply, NONOGRADE_BAD_SETTING, buffer, "BadSetting"), "report, guesses past the limit");
     reply = nonograde_report(name, 3, text, 5, NONOGRADE_NIN, 1000, 0, buffer, sizeof buffer);
     check(is(reply, NONOGRADE_BAD_COUNT, buffer, "BadCount"), "report, a fault");
+    reply = nonograde_check(name, 3, text, strlen(TWO), NONOGRADE_NIN, 1000, 0, buffer, sizeof buffer);
+    check(is(reply, NONOGRADE_OK, buffer, "two" TWO_CHECKED), "check");
+    reply = nonograde_check(name, 3, text, strlen(TWO), NONOGRADE_NIN, 1, NONOGRADE_MOST, buffer, sizeof buffer);
+    check(is(reply, NONOGRADE_OK, buffer, "two: warning: not settled within 1 guess (try --guesses 1000000)\n"), "check, too few guesses");
     reply = nonograde_lines(text, strlen(TWO), NONOGRADE_NIN, buffer, sizeof buffer);
     check(is(reply, NONOGRADE_OK, buffer, "open 0\n??\n??\n"), "lines");
     reply = nonograde_lines(text, strlen(TWO), 3, buffer, sizeof buffer);
@@ -230,6 +237,8 @@ static void check_null(void) {
     reply = nonograde_report(NULL, 0, text, strlen(TWO), NONOGRADE_NIN, 1000, NONOGRADE_FIRST, NULL, 0);
     check(reply.status == NONOGRADE_BUFFER_TOO_SMALL && reply.length == strlen(TWO_REPORT("")),
           "NULL as the buffer of report");
+    reply = nonograde_check(NULL, 0, text, strlen(TWO), NONOGRADE_NIN, 1000, NONOGRADE_FIRST, NULL, 0);
+    check(reply.status == NONOGRADE_BUFFER_TOO_SMALL && reply.length == strlen(TWO_CHECKED), "NULL as the buffer of check");
     reply = nonograde_lines(text, strlen(TWO), NONOGRADE_NIN, NULL, 0);
     check(reply.status == NONOGRADE_BUFFER_TOO_SMALL && reply.length == 13, "NULL as the buffer of lines");
     reply = close_two(NONOGRADE_NIN, "#???", NONOGRADE_BY_LINES, NULL, 0);
@@ -338,9 +347,10 @@ static void check_buffer_size(void) {
 #define DEMO_GOAL "goal \"01100011010010101110101001010000110010100101111000\"\n"
 #define DEMO "title \"Demo\"\nwidth 5\nheight 10\n\nrows\n" DEMO_CLUES "\n" DEMO_GOAL
 #define DEMO_GRID ".##..\n.##.#\n..#.#\n.###.\n#.#..\n#.#..\n..##.\n.#.#.\n.#.##\n##...\n"
+#define BAD_CHECKED "puzzle:3: error: \"x\" is not a clue (at most 128 numbers from 1 to 256, or 0 alone)\n"
 #define PAIR "2 4\n2\n1 1\n#\n1\n1\n1\n1\n"
 
-enum kind { SOLVE, REPORT, GRADE, LINES, CLOSE, EXTEND, CONVERT, VERSION };
+enum kind { SOLVE, REPORT, CHECK, GRADE, LINES, CLOSE, EXTEND, CONVERT, VERSION };
 
 /* A call with its settings, and its answer if no allocation fails. */
 struct call {
@@ -376,6 +386,8 @@ static nonograde_reply reply_to(const struct call *call, uint8_t *buffer, size_t
         return nonograde_solve(name, 6, text, length, call->format, call->setting, NONOGRADE_FIRST, buffer, size);
     case REPORT:
         return nonograde_report(name, 6, text, length, call->format, call->setting, NONOGRADE_FIRST, buffer, size);
+    case CHECK:
+        return nonograde_check(name, 6, text, length, call->format, call->setting, NONOGRADE_FIRST, buffer, size);
     case GRADE:
         return reply_of_facts(grade(call->text, call->format, call->setting, NONOGRADE_FIRST, &facts), &facts, buffer);
     case LINES:
@@ -398,6 +410,9 @@ static const struct call answered[] = {
     {SOLVE, NONOGRADE_NON, 1000, DEMO, "1 5x10 one line 50 50 0 meets puzzle\n" DEMO_GRID "\n", NONOGRADE_OK},
     {SOLVE, NONOGRADE_NIN, 2, TWO, "1 2x2 several search 0 0 2 absent puzzle\n#.\n.#\n\n.#\n#.\n\n", NONOGRADE_OK},
     {REPORT, NONOGRADE_NIN, 2, TWO, TWO_REPORT("puzzle"), NONOGRADE_OK},
+    {CHECK, NONOGRADE_NIN, 2, TWO, "puzzle" TWO_CHECKED, NONOGRADE_OK},
+    {CHECK, NONOGRADE_NIN, 2, "1 1\n1\nx\n", BAD_CHECKED, NONOGRADE_OK},
+    {CHECK, NONOGRADE_NON, 1000, DEMO, "", NONOGRADE_OK},
     {GRADE, NONOGRADE_NIN, 2, TWO, "2 2 2 2 0 0 2 0", NONOGRADE_OK},
     {GRADE, NONOGRADE_NON, 1000, DEMO, "5 10 1 0 50 50 0 1", NONOGRADE_OK},
     {CLOSE, NONOGRADE_NIN, NONOGRADE_BY_LINES, TWO, "one 4\n#.\n.#\n", NONOGRADE_OK},
@@ -491,6 +506,8 @@ static void check_faults_without_memory(void) {
         {SOLVE, NONOGRADE_NON, 1000001, blank, "BadSetting", NONOGRADE_BAD_SETTING},
         {REPORT, 3, 1000, blank, "BadSetting", NONOGRADE_BAD_SETTING},
         {REPORT, NONOGRADE_NON, 1000001, blank, "BadSetting", NONOGRADE_BAD_SETTING},
+        {CHECK, 3, 1000, blank, "BadSetting", NONOGRADE_BAD_SETTING},
+        {CHECK, NONOGRADE_NON, 1000001, blank, "BadSetting", NONOGRADE_BAD_SETTING},
         {GRADE, 3, 1000, blank, "BadSetting", NONOGRADE_BAD_SETTING},
         {GRADE, NONOGRADE_NON, 1000001, blank, "BadSetting", NONOGRADE_BAD_SETTING},
         {CLOSE, 3, NONOGRADE_BY_LINES, blank, "BadSetting", NONOGRADE_BAD_SETTING},
@@ -512,10 +529,9 @@ static void check_faults_without_memory(void) {
 static void *call_often(void *wrong) {
     uint8_t buffer[BUFFER];
     for (int i = 0; i < CALLS; i++) {
-        nonograde_reply reply = solve(NONOGRADE_NIN, TWO, strlen(TWO), 1000, 0, buffer, sizeof buffer);
-        *(int *)wrong += !is(reply, NONOGRADE_OK, buffer, TWO_SOLVED);
-        reply = extend_two(NONOGRADE_NIN, "????", 1000, 0, buffer, sizeof buffer);
-        *(int *)wrong += !is(reply, NONOGRADE_OK, buffer, TWO_EXTENDED);
+        const struct call *call = &answered[i % (sizeof answered / sizeof *answered)];
+        nonograde_reply reply = reply_to(call, buffer, sizeof buffer);
+        *(int *)wrong += !is(reply, call->status, buffer, call->wanted);
     }
     return NULL;
 }

@@ -1,5 +1,6 @@
 -- The definitions that the contracts of the calls rest on.
 pub mod Calls
+pub mod Checking
 pub mod Closing
 pub mod Extending
 pub mod Facts

@@ -1,11 +1,12 @@
 //! The answers of the calls for C, before they are written to the caller's buffer.
 
-ghost use Rattle.std.specs.Prelude.{◌≡◌, ℕ, ◌+◌, ◌≤◌, length, Err, IfOk};
+ghost use Rattle.std.specs.Prelude.{◌≡◌, ℕ, ◌+◌, ◌≤◌, length, None, Err, IfOk};
 ghost use Rattle.grid_core.specs.Nonogram.{IsNonogram};
 ghost use Rattle.puzzle_text.specs.Answers.{Gives};
 ghost use Rattle.puzzle_text.specs.Formats.{text_as};
 ghost use Rattle.solve_core.specs.Sizes.{HasSizeOf};
 ghost use Rattle.nonograde_c.specs.Calls.{RefusesSetting, RefusesText, convert_answer, format_from_number, lines_answer, no_memory, of_writer, pick_within, puzzle_of, solve_answer};
+ghost use Rattle.nonograde_c.specs.Checking.{check_answer};
 ghost use Rattle.nonograde_c.specs.Closing.{close_answer, closing_from_number};
 ghost use Rattle.nonograde_c.specs.Extending.{extend_answer};
 ghost use Rattle.nonograde_c.specs.Facts.{facts_answer};
@@ -14,6 +15,7 @@ ghost use Rattle.nonograde_c.specs.JsonReports.{report_answer};
 ghost use Rattle.nonograde_c.specs.Lengths.{FitsIn, buffer_size};
 ghost use Rattle.nonograde_c.specs.steps.Answers.{shown};
 
+use crate::checking::check_text;
 use crate::closing::close_text;
 use crate::extending::extend_text;
 use crate::facts::{Facts, grade_facts};
@@ -119,6 +121,31 @@ pub fn report_answer(
     };
     let puzzle = read_puzzle(alloc, text, format)?;
     Ok(report_text(alloc, name, text, puzzle, guesses, pick)?)
+}
+
+/// Returns what `check` prints for a puzzle's text: a line for each finding, which begins with
+/// `name`; one if the text is refused. `format` is the number of the text's format, `pick` that of a
+/// guess rule.
+pub fn check_answer(
+    alloc: Global,
+    name: &[u8],
+    text: &[u8],
+    format: u32,
+    guesses: u32,
+    pick: u32,
+) -> Result<Vec<u8>, Fault>
+    ensures answer { Gives no_memory (λ text. text) (shown result)
+        (check_answer guesses pick name.now format text.now) }
+    ensures setting { pick_within guesses pick ≡ None → result ≡ Err Fault.Setting }
+    ensures format { format_from_number format ≡ None → result ≡ Err Fault.Setting }
+{
+    let Some(pick) = pick_within(guesses, pick) else {
+        return Err(Fault::Setting);
+    };
+    let Some(format) = format_from_number(format) else {
+        return Err(Fault::Setting);
+    };
+    Ok(check_text(alloc, name, text, format, guesses, pick)?)
 }
 
 /// Returns the facts that grading finds about a puzzle's text. `format` is the number of the text's

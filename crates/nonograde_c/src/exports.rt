@@ -1,16 +1,18 @@
 //! The functions that C programs call. `include/nonograde.h` documents them for those.
 
-ghost use Rattle.std.specs.Prelude.{◌≡◌, ℕ, ◌+◌, ◌≤◌, length, Err, Ok};
+ghost use Rattle.std.specs.Prelude.{◌≡◌, ℕ, ◌+◌, ◌≤◌, length, None, Err, Ok};
 ghost use Rattle.nonograde_c.specs.Calls.{Answers, Fills, RefusesSetting, RefusesText, convert_answer, format_from_number, lines_answer, pick_within, puzzle_of, solve_answer};
+ghost use Rattle.nonograde_c.specs.Checking.{check_answer};
 ghost use Rattle.nonograde_c.specs.Closing.{close_answer, closing_from_number};
 ghost use Rattle.nonograde_c.specs.Extending.{extend_answer};
+ghost use Rattle.nonograde_c.specs.declared.faults.Fault.TheVariants.{Setting};
 ghost use Rattle.nonograde_c.specs.Facts.{AnswersFacts, FillsFacts, facts_answer};
 ghost use Rattle.nonograde_c.specs.JsonReports.{report_answer};
 ghost use Rattle.nonograde_c.specs.Lengths.{FitsIn, buffer_size};
 
 use crate::answers::{
-    close_answer, convert_answer, extend_answer, facts_answer, lines_answer, report_answer,
-    solve_answer,
+    check_answer, close_answer, convert_answer, extend_answer, facts_answer, lines_answer,
+    report_answer, solve_answer,
 };
 use crate::facts::{Facts, fill_facts};
 use crate::lengths::buffer_size;
@@ -63,6 +65,31 @@ pub extern "C" fn nonograde_report(
         (λ fault. Fills (Err fault) result buffer.old buffer.new) }
 {
     let answer = report_answer(alloc, name, text, format, guesses, pick);
+    fill_answer(buffer, &answer)
+}
+
+/// Checks a puzzle's text. The answer is what `nonograde check` prints about it: a line for each
+/// finding, which begins with `name`, and pictures of two solutions; nothing if there is no finding.
+/// A text that is refused has a finding too. The other arguments are those of `nonograde_solve`.
+#[unsafe(no_mangle)]
+pub extern "C" fn nonograde_check(
+    alloc: Global,
+    name: &[u8],
+    text: &[u8],
+    format: u32,
+    guesses: u32,
+    pick: u32,
+    buffer: &mut [u8],
+) -> Reply
+    ensures answer { Answers (check_answer guesses pick name.now format text.now) result
+        buffer.old buffer.new }
+    // These faults are found before anything is allocated, so `NoMemory` never hides them.
+    ensures setting { pick_within guesses pick ≡ None →
+        Fills (Err Setting) result buffer.old buffer.new }
+    ensures format { format_from_number format ≡ None →
+        Fills (Err Setting) result buffer.old buffer.new }
+{
+    let answer = check_answer(alloc, name, text, format, guesses, pick);
     fill_answer(buffer, &answer)
 }
 
