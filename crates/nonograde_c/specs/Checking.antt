@@ -39,8 +39,8 @@ abbrev pub check_by : Option Pick → List ℕ → ℕ → Option Format → Lis
 check_by None name guesses format body = Err Setting
 check_by (Some pick) name guesses format body = check_in name guesses pick format body
 
--- the answer on what is wrong with the text `body`, each line of which begins with `name`; `pick` is
--- the number of the guess rule
+-- the answer on what is wrong with the text `body`, each line of which begins with `name`; `pick`
+-- is the number of the guess rule
 abbrev pub check_answer : ℕ → ℕ → List ℕ → ℕ → List ℕ → Result (List ℕ) Fault
 check_answer guesses pick name format body =
     check_by (pick_within guesses pick) name guesses (format_from_number format) body

@@ -36,7 +36,7 @@ close_by (Some by) format body cells =
     answer_on (λ p. answer_on (λ grid. Ok (close_text by p grid.cells)) (grid_answer p cells))
     (puzzle_of format body)
 
--- the answer to closing the grid of the puzzle in `body` whose cells the bytes `cells` give; `by` is
--- the number of the way of closing
+-- the answer to closing the grid of the puzzle in `body` whose cells the bytes `cells` give; `by`
+-- is the number of the way of closing
 abbrev pub close_answer : ℕ → ℕ → List ℕ → List ℕ → Result (List ℕ) Fault
 close_answer by format body cells = close_by (closing_from_number by) format body cells

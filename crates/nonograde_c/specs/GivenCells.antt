@@ -28,8 +28,8 @@ abbrev pub after_line_end : List ℕ → Option (List ℕ)
 after_line_end [] = Some []
 after_line_end (byte ∷ rest) = if nat_eq byte 13 then after_lf rest else after_lf (byte ∷ rest)
 
--- the bytes without the line ends, one of which follows each row: `count` rows of `width` bytes, and
--- nothing after them. If the bytes end early, the rows have fewer bytes.
+-- the bytes without the line ends, one of which follows each row: `count` rows of `width` bytes,
+-- and nothing after them. If the bytes end early, the rows have fewer bytes.
 abbrev pub joined_rows : ℕ → ℕ → List ℕ → Option (List ℕ)
 joined_rows width zero [] = Some []
 joined_rows width zero (_ ∷ _) = None

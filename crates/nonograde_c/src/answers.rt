@@ -124,8 +124,8 @@ pub fn report_answer(
 }
 
 /// Returns what `check` prints for a puzzle's text: a line for each finding, which begins with
-/// `name`; one if the text is refused. `format` is the number of the text's format, `pick` that of a
-/// guess rule.
+/// `name`; one if the text is refused. `format` is the number of the text's format, `pick` that of
+/// a guess rule.
 pub fn check_answer(
     alloc: Global,
     name: &[u8],

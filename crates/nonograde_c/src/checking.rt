@@ -16,8 +16,8 @@ use std::alloc::Global;
 
 /// Grades `puzzle`, and returns what `check` prints about it: a line for each finding, which begins
 /// with `name`, and pictures of two solutions; nothing if there is no finding. The search spends at
-/// most `guesses` guesses, 0 to 1,000,000, on cells that `pick` chooses. Fails with `NoMemory` if an
-/// allocation does.
+/// most `guesses` guesses, 0 to 1,000,000, on cells that `pick` chooses. Fails with `NoMemory` if
+/// an allocation does.
 fn check_puzzle(
     alloc: Global,
     name: &[u8],
@@ -55,8 +55,8 @@ fn check_refused(
     Ok(text)
 }
 
-/// Returns what `check` prints about the text `body`: on its puzzle, or on the text if the reader of
-/// `format` refuses it. Each line of a finding begins with `name`. The search spends at most
+/// Returns what `check` prints about the text `body`: on its puzzle, or on the text if the reader
+/// of `format` refuses it. Each line of a finding begins with `name`. The search spends at most
 /// `guesses` guesses, 0 to 1,000,000, on cells that `pick` chooses. Fails with `NoMemory` if an
 /// allocation does.
 pub fn check_text(

@@ -13,8 +13,8 @@ use reports::push_closed;
 use solve_core::Solver;
 use std::alloc::Global;
 
-/// Closes `grid`, which has the puzzle's size. Returns whether it is alive; the cells of a dead grid
-/// are unspecified. Allocates nothing.
+/// Closes `grid`, which has the puzzle's size. Returns whether it is alive; the cells of a dead
+/// grid are unspecified. Allocates nothing.
 fn close(solver: &mut Solver, grid: &mut Grid, by: Closing) -> bool
     requires { HasSizeOf solver.old grid.old }
     ensures closed { if_alive result grid.new.cells

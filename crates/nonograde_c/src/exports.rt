@@ -69,8 +69,9 @@ pub extern "C" fn nonograde_report(
 }
 
 /// Checks a puzzle's text. The answer is what `nonograde check` prints about it: a line for each
-/// finding, which begins with `name`, and pictures of two solutions; nothing if there is no finding.
-/// A text that is refused has a finding too. The other arguments are those of `nonograde_solve`.
+/// finding, which begins with `name`, and pictures of two solutions; nothing if there is no
+/// finding. A text that is refused has a finding too. The other arguments are those of
+/// `nonograde_solve`.
 #[unsafe(no_mangle)]
 pub extern "C" fn nonograde_check(
     alloc: Global,

@@ -88,8 +88,8 @@ fn write_cells(grid: &mut Grid, bytes: &[u8]) -> bool
     true
 }
 
-/// Returns the grid of the puzzle's size that has the cells for which `bytes` stand, if there is one
-/// for each of its cells. Fails with `NoMemory` if an allocation does.
+/// Returns the grid of the puzzle's size that has the cells for which `bytes` stand, if there is
+/// one for each of its cells. Fails with `NoMemory` if an allocation does.
 fn grid_of(alloc: Global, puzzle: &Puzzle, bytes: &[u8]) -> Result<Option<Grid>, NoMemory>
     ensures { IfOk result (λ grid. grid ≡ option_map (grid_of puzzle.now)
         (cells_of (puzzle.now.width * puzzle.now.height) bytes.now)) }
@@ -106,8 +106,8 @@ fn grid_of(alloc: Global, puzzle: &Puzzle, bytes: &[u8]) -> Result<Option<Grid>,
     }
 }
 
-/// Returns the grid of the puzzle's size whose cells `bytes` give, if they give all of its cells and
-/// nothing else (`given_cells`). Fails with `NoMemory` if an allocation does.
+/// Returns the grid of the puzzle's size whose cells `bytes` give, if they give all of its cells
+/// and nothing else (`given_cells`). Fails with `NoMemory` if an allocation does.
 pub fn given_grid(alloc: Global, puzzle: &Puzzle, bytes: &[u8]) -> Result<Option<Grid>, NoMemory>
     ensures { IfOk result (λ grid. grid ≡ option_map (grid_of puzzle.now)
         (given_cells puzzle.now.width puzzle.now.height bytes.now)) }

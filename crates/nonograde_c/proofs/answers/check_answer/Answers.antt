@@ -5,5 +5,7 @@ use Rattle.nonograde_c.proofs.answers.check_answer.Goals as goal
 
 pub returns-clause-answer : goal.returns-clause-answer
 returns-clause-answer c =
-    check_answer-is c.args.guesses c.args.pick c.args.format c.args.name.now c.args.text.now c.in-Some.pick c.in-Some-format_from_number.format _
-    (sym c.in-Some.is ∙ c.pick_within.ensures.rule) (sym c.in-Some-format_from_number.is ∙ c.format_from_number.ensures) c.in_ok-check_text.ensures
+    let rule = sym c.in-Some.is ∙ c.pick_within.ensures.rule in
+    let numbered = sym c.in-Some-format_from_number.is ∙ c.format_from_number.ensures in
+    check_answer-is c.args.guesses c.args.pick c.args.format c.args.name.now c.args.text.now c.in-Some.pick
+    c.in-Some-format_from_number.format _ rule numbered c.in_ok-check_text.ensures
