@@ -1,5 +1,5 @@
 -- Lemmas on dealing jobs in turn, and on taking their answers back in turn.
-use Rattle.std.proofs.Common.{◌≡◌, ◌+◌, ◌%◌, ◌<◌, ◌==◌, if◌then◌else◌, ℕ, zero, suc, Bool, true, false, List, [], ◌∷◌, ◌++◌, length, take, drop, get_or, set, refl, ap, sym, ◌∙◌, subst, map, arith, eq-eqb, get_or-set_other}
+use Rattle.std.proofs.Common.{◌≡◌, ◌+◌, ◌%◌, ◌<◌, ◌==◌, if◌then◌else◌, ℕ, zero, suc, Bool, true, false, List, [], ◌∷◌, ◌++◌, length, take, drop, get_or, set, refl, ap, sym, ◌∙◌, subst, map, arith, eq-eqb, get_or-set_other, append_assoc}
 use Rattle.std.proofs.Math.Nat.{mod-lt}
 use Rattle.std.proofs.lemmas.Bool.Decides.{nat_tests}
 use Rattle.std.proofs.lemmas.Grind.{common_steps}
@@ -34,6 +34,17 @@ next_of : {T : Type 0} (xs : List T) (i : ℕ) → i < length xs → (x : T) × 
 next_of [] i h = absurd (omega arith)
 next_of (x ∷ xs) zero h = (x, refl, refl)
 next_of (x ∷ xs) (suc i) h = let r = next_of xs i (omega arith) in (r.0, r.1, ap (λ l. x ∷ l) r.2)
+
+-- if the first `i` elements moved to the end of a list, and the next one moves there too, the first `i + 1` have
+pub turned : {T : Type 0} (xs : List T) (i : ℕ) (x : T) (rest : List T) → i < length xs → x ∷ rest ≡ drop i xs ++ take i xs
+    → rest ++ x ∷ [] ≡ drop (i + 1) xs ++ take (i + 1) xs
+turned xs i x rest h e =
+    let r = next_of xs i h in
+    let next : i + 1 ≡ suc i = omega arith in
+    let both : x ∷ rest ≡ r.0 ∷ (drop (suc i) xs ++ take i xs) = e ∙ ap (λ l. l ++ take i xs) r.1 in
+    let first : x ≡ r.0 = ap (λ l. get_or l 0 x) both in
+    let others : rest ≡ drop (suc i) xs ++ take i xs = ap (drop 1) both in
+    rw (next, r.2, first, others, append_assoc) refl
 
 -- each of the queues `xss` has the answers to its share of the jobs from index `place` on
 abbrev pub AllLeft : List Job → ℕ → ℕ → List (List Answer) → Type 0

@@ -3,3 +3,4 @@ pub mod Collected
 pub mod Dealt
 pub mod Graded
 pub mod ParsedEntries
+pub mod WorkerEnds

@@ -1,18 +1,15 @@
 //! Grading jobs over several lanes, each with a worker in a thread of its own.
 
-ghost use Rattle.std.specs.Prelude.{◌≡◌, ◌+◌, ◌<◌, ◌≤◌, ◌++◌, [], IfOk, IsOk, map, vec_len, vec_capacity};
-ghost use Rattle.std.specs.VecDeque.{deque_len, deque_capacity};
+ghost use Rattle.std.specs.Prelude.{◌≡◌, ◌<◌, ◌≤◌, [], IfOk, IsOk, length, map, vec_len, vec_capacity};
+ghost use Rattle.std.specs.VecDeque.{deque_len};
 ghost use Rattle.lane_core.specs.Answers.{AreAnswersTo};
-ghost use Rattle.survey_core.specs.declared.collecting.CollectFault.TheVariants.{NoMemory as collect_memory, Thread as collect_thread};
-ghost use Rattle.survey_core.specs.steps.Collected.{waiting_jobs, dealt_jobs, complete_jobs, EachAnswered};
+ghost use Rattle.survey_core.specs.declared.collecting.CollectFault.TheVariants.{NoMemory as collect_memory};
+ghost use Rattle.survey_core.specs.steps.Collected.{dealt_jobs, EachAnswered};
 
-use crate::job_order::{deal_out, interleave, room_for_answers};
-use crate::lane_context::LaneContext;
-use crate::lane_lists::LaneLists;
-use crate::lanes::{CompleteLane, OpenLane, RunningLane};
+use crate::job_order::{deal_out, empty_list, interleave};
+use crate::lanes::DealtLane;
 use crate::settings::{MAX_LANES, MAX_RING};
-use crate::wakeups::{wake_interval, worker_parkers};
-use crate::workers::SpawnFailed;
+use crate::workers::{LaneContext, wake_interval, worker_parkers};
 use grid_core::NoMemory;
 use lane_core::{Answer, Gate, Job};
 use puzzle_text::MAX_ENTRIES;
@@ -44,14 +41,6 @@ impl From<NoMemory> for CollectFault {
 
     fn from(_refused: NoMemory) -> CollectFault {
         CollectFault::NoMemory
-    }
-}
-
-impl From<SpawnFailed> for CollectFault {
-    ghost from_gives = { λ _ fault. fault ≡ collect_thread };
-
-    fn from(_refused: SpawnFailed) -> CollectFault {
-        CollectFault::Thread
     }
 }
 
@@ -109,95 +98,110 @@ fn collect_some<R: Threads + Wait + Sync, G: Gate + Sync>(
     let alloc = context.alloc;
     let all = Snapshot::of(&jobs);
     let count = jobs.len();
-    let interleaved = room_for_answers(alloc, count)?;
+    let interleaved = empty_list(alloc, count)?;
+    let settled = empty_list(alloc, lanes)?;
     let parkers = worker_parkers(alloc, lanes)?;
-    let lists = LaneLists::new(alloc, deal_out(alloc, jobs, lanes)?, &parkers, ring)?;
-    let queues = thread::scope(
-        thread::scope_env(),
-        context.rt,
-        move |scope| -> Result<Vec<VecDeque<Answer, Global>>, SpawnFailed>
-            ensures { IfOk result (λ queues. EachAnswered
-                (waiting_jobs lists.entry.opened.items) (map (λ q. q.items) queues.items)) }
-        { run_lanes(context, scope, lists) },
-    )?;
+    let opened = open_lanes(alloc, deal_out(alloc, jobs, lanes)?, &parkers, ring)?;
+    let complete = run_lanes(context, opened)?;
+    let queues = settle_all(context.rt, complete, settled);
     Ok(interleave(&all, count, lanes, queues, interleaved))
 }
 
-/// Starts the workers of the lanes, takes turns at the lanes until each is complete, settles them,
-/// and returns the answers of each.
-fn run_lanes<'s, 'b: 's, E, R: Threads + Wait + Sync, G: Gate + Sync>(
-    context: &'s LaneContext<'s, R, G>,
-    scope: &Scope<'s, E>,
-    lists: LaneLists<'b>,
-) -> Result<Vec<VecDeque<Answer, Global>>, SpawnFailed>
-    ensures { IfOk result (λ queues. EachAnswered
-        (waiting_jobs lists.entry.opened.items) (map (λ q. q.items) queues.items)) }
+/// Opens a lane for each queue of jobs, with the parker at the same index of `parkers` for its
+/// worker. `ring` is the capacity of the lanes' rings, from 1 to 64.
+fn open_lanes<'s>(
+    alloc: Global,
+    queues: Vec<VecDeque<Job, Global>>,
+    parkers: &'s [Parker],
+    ring: usize,
+) -> Result<VecDeque<DealtLane<'s>, Global>, NoMemory>
+    requires parkers { vec_len queues ≤ length parkers.now }
+    requires ring { (1 ≤ ring) × (ring ≤ MAX_RING) }
+    ensures jobs { IfOk result (λ lanes.
+        dealt_jobs lanes.items ≡ map (λ q. q.items) queues.items) }
+    ensures len { IfOk result (λ lanes. deque_len lanes ≡ vec_len queues) }
 {
-    let LaneLists {
-        opened,
-        running,
-        complete,
-        settled,
-    } = lists;
-    let running = start_all(context, scope, opened, running)?;
-    let complete = take_turns(context, running, complete);
-    Ok(settle_all(context.rt, complete, settled))
+    let mut lanes = VecDeque::with_capacity(alloc, queues.len())?;
+    for waiting in queues {
+        let parker = &parkers[lanes.len()];
+        lanes.push_back(DealtLane::open(alloc, waiting, parker, ring)?)?;
+    }
+    Ok(lanes)
 }
 
-/// Starts the worker of each lane, and returns the running lanes in the list `buffer`. If one can't
-/// be started, stops those before it and fails with `SpawnFailed`.
-pub fn start_all<'s, 'b: 's, E, R: Threads + Wait + Sync, G: Gate + Sync>(
+/// Starts the workers of the lanes, takes turns at the lanes until each is complete, and returns
+/// them once all workers have ended.
+fn run_lanes<'b, R: Threads + Wait + Sync, G: Gate + Sync>(
+    context: &LaneContext<'_, R, G>,
+    lanes: VecDeque<DealtLane<'b>, Global>,
+) -> Result<VecDeque<DealtLane<'b>, Global>, CollectFault>
+    ensures jobs { IfOk result (λ complete.
+        dealt_jobs complete.items ≡ dealt_jobs lanes.entry.items) }
+    ensures len { IfOk result (λ complete. deque_len complete ≡ deque_len lanes.entry) }
+{
+    thread::scope(
+        thread::scope_env(),
+        context.rt,
+        move |scope| -> Result<VecDeque<DealtLane<'_>, Global>, CollectFault>
+            ensures jobs { IfOk result (λ complete.
+                dealt_jobs complete.items ≡ dealt_jobs lanes.entry.items) }
+            ensures len { IfOk result (λ complete. deque_len complete ≡ deque_len lanes.entry) }
+        {
+            let mut lanes = start_all(context, scope, lanes)?;
+            take_turns(context, &mut lanes);
+            Ok(lanes)
+        },
+    )
+}
+
+/// Starts the worker of each lane, and returns the lanes. If one can't be started, stops those
+/// before it and fails with `Thread`.
+fn start_all<'s, 'b: 's, E, R: Threads + Wait + Sync, G: Gate + Sync>(
     context: &'s LaneContext<'s, R, G>,
     scope: &Scope<'s, E>,
-    opened: VecDeque<OpenLane<'b>, Global>,
-    buffer: VecDeque<RunningLane<'b>, Global>,
-) -> Result<VecDeque<RunningLane<'b>, Global>, SpawnFailed>
-    requires { (buffer.items ≡ []) × (deque_len opened ≤ deque_capacity buffer) }
-    ensures jobs { IfOk result (λ running.
-        dealt_jobs running.items ≡ waiting_jobs opened.entry.items) }
-    ensures len { IfOk result (λ running. deque_len running ≡ deque_len opened.entry) }
+    lanes: VecDeque<DealtLane<'b>, Global>,
+) -> Result<VecDeque<DealtLane<'b>, Global>, CollectFault>
+    ensures jobs { IfOk result (λ started.
+        dealt_jobs started.items ≡ dealt_jobs lanes.entry.items) }
+    ensures len { IfOk result (λ started. deque_len started ≡ deque_len lanes.entry) }
 {
-    let mut opened = opened;
-    let mut running = buffer;
-    while let Some(lane) = opened.pop_front() {
+    let mut lanes = lanes;
+    // The queue is turned round once, so that its order stays.
+    for _ in 0..lanes.len() {
+        let Some(lane) = lanes.pop_front() else {
+            unreachable!()
+        };
         match lane.start(context, scope) {
-            Ok(started) => running.push_back_reserved(started),
+            Ok(started) => lanes.push_back_reserved(started),
             Err(refused) => {
-                stop_all(context.rt, running);
+                stop_all(context.rt, lanes);
                 return Err(refused);
             }
         }
     }
-    Ok(running)
+    Ok(lanes)
 }
 
-/// Asks each worker to finish, and waits until its thread ends.
-pub fn stop_all<R: Threads>(rt: &R, running: VecDeque<RunningLane<'_>, Global>) {
-    let mut running = running;
-    'stopping: while let Some(lane) = running.pop_front() {
+/// Asks each worker that was started to finish, and waits until its thread ends.
+fn stop_all<R: Threads>(rt: &R, lanes: VecDeque<DealtLane<'_>, Global>) {
+    for lane in lanes {
         lane.stop(rt);
     }
 }
 
-/// Takes turns at the lanes until each is complete, and returns the complete lanes in the list
-/// `buffer`. After a round in which nothing was sent or taken, the collector parks until a worker
-/// wakes it.
-fn take_turns<'b, R: Wait, G>(
+/// Takes turns at the lanes until each is complete. After a round in which nothing was sent or
+/// taken, the collector parks until a worker wakes it.
+fn take_turns<R: Wait, G>(
     context: &LaneContext<'_, R, G>,
-    running: VecDeque<RunningLane<'b>, Global>,
-    buffer: VecDeque<CompleteLane, Global>,
-) -> VecDeque<CompleteLane, Global>
-    requires { (buffer.items ≡ []) × (deque_len running ≤ deque_capacity buffer) }
-    ensures jobs { complete_jobs result.items ≡ dealt_jobs running.entry.items }
-    ensures len { deque_len result ≡ deque_len running.entry }
+    lanes: &mut VecDeque<DealtLane<'_>, Global>,
+)
+    ensures jobs { dealt_jobs lanes.new.items ≡ dealt_jobs lanes.old.items }
+    ensures len { deque_len lanes.new ≡ deque_len lanes.old }
 {
-    let mut running = running;
-    let mut complete = buffer;
     'rounds: for _ in context.rt.forever() {
-        let moved = take_round(&mut running);
-        take_complete(&mut running, &mut complete);
-        if running.is_empty() {
-            return complete;
+        let moved = take_round(lanes);
+        if lanes.iter().all(|lane| lane.is_complete()) {
+            return;
         }
         if !moved {
             context.parker.park(context.rt);
@@ -207,69 +211,42 @@ fn take_turns<'b, R: Wait, G>(
 }
 
 /// Takes one turn at each lane. Returns whether anything was sent or taken at any of them.
-fn take_round(running: &mut VecDeque<RunningLane<'_>, Global>) -> bool
-    ensures jobs { dealt_jobs running.new.items ≡ dealt_jobs running.old.items }
-    ensures len { deque_len running.new ≡ deque_len running.old }
+#[tactic(auto, using(crate::proofs::CollectedLemmas::places))]
+fn take_round(lanes: &mut VecDeque<DealtLane<'_>, Global>) -> bool
+    ensures jobs { dealt_jobs lanes.new.items ≡ dealt_jobs lanes.old.items }
+    ensures len { deque_len lanes.new ≡ deque_len lanes.old }
 {
     let mut moved = false;
-    'lanes: for place in 0..running.len() {
-        if turn_at(running, place) {
+    'lanes: for place in 0..lanes.len() {
+        let lane = &mut lanes[place];
+        if lane.turn() {
             moved = true;
         }
     }
     moved
 }
 
-/// Takes one turn at the lane at index `place`. Returns whether anything was sent or taken.
-#[tactic(auto, using(crate::proofs::CollectedLemmas::places))]
-fn turn_at(running: &mut VecDeque<RunningLane<'_>, Global>, place: usize) -> bool
-    requires { place < deque_len running.old }
-    ensures jobs { dealt_jobs running.new.items ≡ dealt_jobs running.old.items }
-    ensures len { deque_len running.new ≡ deque_len running.old }
-{
-    let lane = &mut running[place];
-    lane.turn()
-}
-
-/// Moves complete lanes from the front of `running` to the end of `complete`, up to the first lane
-/// that is not complete.
-fn take_complete(
-    running: &mut VecDeque<RunningLane<'_>, Global>,
-    complete: &mut VecDeque<CompleteLane, Global>,
-)
-    requires { deque_len complete.old + deque_len running.old ≤ deque_capacity complete.old }
-    ensures jobs { complete_jobs complete.new.items ++ dealt_jobs running.new.items
-        ≡ complete_jobs complete.old.items ++ dealt_jobs running.old.items }
-    ensures len { deque_len complete.new + deque_len running.new
-        ≡ deque_len complete.old + deque_len running.old }
-    ensures capacity { deque_capacity complete.new ≡ deque_capacity complete.old }
-{
-    // Stops at the first that is not, so that the lanes keep their order, in which they are
-    // settled.
-    'completing: while let Some(lane) = running.pop_front() {
-        match lane.complete() {
-            Ok(lane) => complete.push_back_reserved(lane),
-            Err(lane) => {
-                running.push_front_reserved(lane);
-                return;
-            }
-        }
-    }
-}
-
-/// Settles the lanes in order, and returns the answers of each in the list `buffer`.
+/// Settles the lanes in order, and returns the answers of each in the list `buffer`. Each has to be
+/// complete: this tries again for ever to settle one that isn't.
 fn settle_all<R: Threads + Wait>(
     rt: &R,
-    complete: VecDeque<CompleteLane, Global>,
+    lanes: VecDeque<DealtLane<'_>, Global>,
     buffer: Vec<VecDeque<Answer, Global>>,
 ) -> Vec<VecDeque<Answer, Global>>
-    requires { (buffer.items ≡ []) × (deque_len complete ≤ vec_capacity buffer) }
-    ensures { EachAnswered (complete_jobs complete.items) (map (λ q. q.items) result.items) }
+    requires { (buffer.items ≡ []) × (deque_len lanes ≤ vec_capacity buffer) }
+    ensures { EachAnswered (dealt_jobs lanes.entry.items) (map (λ q. q.items) result.items) }
 {
-    let mut complete = complete;
+    let mut lanes = lanes;
     let mut settled = buffer;
-    'settling: while let Some(lane) = complete.pop_front() {
-        settled.push_reserved(lane.settle(rt));
+    'settling: for _ in rt.forever() {
+        let Some(lane) = lanes.pop_front() else {
+            return settled;
+        };
+        match lane.settle(rt) {
+            Ok(answers) => settled.push_reserved(answers),
+            // A complete lane settles at the first call. The proof doesn't use that.
+            Err(lane) => lanes.push_front_reserved(lane),
+        }
     }
-    settled
+    unreachable!()
 }

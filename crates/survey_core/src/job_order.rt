@@ -52,10 +52,10 @@ fn no_jobs(
     Ok(queues)
 }
 
-/// Returns an empty list with a capacity of `count` answers.
-pub fn room_for_answers(alloc: Global, count: usize) -> Result<Vec<Answer>, NoMemory>
-    ensures empty { IfOk result (λ answers. answers.items ≡ []) }
-    ensures capacity { IfOk result (λ answers. vec_capacity answers ≡ count) }
+/// Returns an empty list with a capacity of `count`.
+pub fn empty_list<T>(alloc: Global, count: usize) -> Result<Vec<T>, NoMemory>
+    ensures empty { IfOk result (λ list. list.items ≡ []) }
+    ensures capacity { IfOk result (λ list. vec_capacity list ≡ count) }
 {
     Ok(Vec::with_capacity(alloc, count)?)
 }

@@ -9,8 +9,6 @@ mod faults;
 mod grading;
 mod heap_reserve;
 mod job_order;
-mod lane_context;
-mod lane_lists;
 mod lanes;
 pub mod laws;
 mod parsed_entries;
@@ -18,7 +16,6 @@ mod progress;
 mod progress_gate;
 mod settings;
 mod surveys;
-mod wakeups;
 mod workers;
 
 pub use collecting::{CollectFault, MAX_JOBS, collect};

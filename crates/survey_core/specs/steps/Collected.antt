@@ -3,21 +3,11 @@ use Rattle.std.specs.Prelude.{List, [], ◌∷◌, map}
 use Rattle.lane_core.specs.Answers.{AreAnswersTo}
 use Rattle.lane_core.specs.declared.jobs.Job.{Job}
 use Rattle.lane_core.specs.declared.answers.Answer.{Answer}
-use Rattle.survey_core.specs.declared.lanes.OpenLane.{OpenLane}
-use Rattle.survey_core.specs.declared.lanes.RunningLane.{RunningLane}
-use Rattle.survey_core.specs.declared.lanes.CompleteLane.{CompleteLane}
+use Rattle.survey_core.specs.declared.lanes.DealtLane.{DealtLane}
 
--- the jobs dealt to each of the running lanes
-abbrev pub dealt_jobs : List RunningLane → List (List Job)
+-- the jobs dealt to each of the lanes
+abbrev pub dealt_jobs : List DealtLane → List (List Job)
 dealt_jobs lanes = map (λ lane. lane.dealt.value.items) lanes
-
--- the jobs dealt to each of the complete lanes
-abbrev pub complete_jobs : List CompleteLane → List (List Job)
-complete_jobs lanes = map (λ lane. lane.dealt.value.items) lanes
-
--- the jobs that wait at each of the open lanes
-abbrev pub waiting_jobs : List OpenLane → List (List Job)
-waiting_jobs lanes = map (λ lane. lane.waiting.items) lanes
 
 -- there are as many lists of answers as of jobs, and each has the answers to the jobs at its index
 abbrev pub EachAnswered : List (List Job) → List (List Answer) → Type 0

@@ -11,25 +11,26 @@ pub interleave-requires-clause-lanes : goal.interleave-requires-clause-lanes
 interleave-requires-clause-lanes g c =
     omega (
       arith,
-      EachAnswered-length _ _ c.in_ok-queues.ensures.1,
-      ap length c.in_ok-lists.ensures,
-      length-map c.in_ok-queues.queues.items (λ q. q.items),
+      EachAnswered-length _ _ c.settle_all-queues.ensures,
+      ap length (c.in_ok-complete.ensures.jobs ∙ c.in_ok-opened.ensures.jobs),
+      length-map c.settle_all-queues.result.items (λ q. q.items),
       length-map c.in_ok-deal_out.field-0.items (λ q. q.items),
-      c.in_ok-queues.queues.ok.0,
+      c.settle_all-queues.result.ok.0,
       c.in_ok-deal_out.field-0.ok.0,
       c.in_ok-deal_out.ensures.lanes,
     )
 
 pub interleave-requires-clause-answered : goal.interleave-requires-clause-answered
 interleave-requires-clause-answered g c = λ k within.
-    subst (λ (js : List Job). AreAnswersTo js (get_or (map (λ q. q.items) c.in_ok-queues.queues.items) k []))
-    (ap (λ l. get_or l k []) c.in_ok-lists.ensures ∙ c.in_ok-deal_out.ensures.dealt k within
+    let same = c.in_ok-complete.ensures.jobs ∙ c.in_ok-opened.ensures.jobs in
+    subst (λ (js : List Job). AreAnswersTo js (get_or (map (λ q. q.items) c.settle_all-queues.result.items) k []))
+    (ap (λ l. get_or l k []) same ∙ c.in_ok-deal_out.ensures.dealt k within
     ∙ ap (λ v. dealt v.items c.args.lanes k) (sym c.of-all.ensures))
-    (EachAnswered-at _ _ k c.in_ok-queues.ensures.1
+    (EachAnswered-at _ _ k c.settle_all-queues.ensures
     (omega (
       arith,
       within,
-      ap length c.in_ok-lists.ensures,
+      ap length same,
       length-map c.in_ok-deal_out.field-0.items (λ q. q.items),
       c.in_ok-deal_out.field-0.ok.0,
       c.in_ok-deal_out.ensures.lanes,

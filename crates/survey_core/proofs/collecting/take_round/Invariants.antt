@@ -5,4 +5,4 @@ use Rattle.survey_core.specs.steps.Collected.{dealt_jobs}
 use Rattle.survey_core.proofs.collecting.take_round.Given as goal
 
 abbrev pub invariant-lanes : goal.invariant-lanes
-invariant-lanes l = (dealt_jobs l.running.items ≡ dealt_jobs l.fn.running.items) × (deque_len l.running ≡ l.place-end)
+invariant-lanes l = (dealt_jobs l.lanes.items ≡ dealt_jobs l.fn.lanes.items) × (deque_len l.lanes ≡ l.place-end)
