@@ -1,5 +1,7 @@
 //! Tests of lanes whose ends park and wake each other. No contract says that no wake is lost, nor
-//! that a lane goes on while others are parked or held.
+//! that a lane goes on while others are parked or held, nor that none is settled too early.
+
+ghost use Rattle.std.specs.Prelude.{◌≤◌};
 
 use crate::tests::{one_thread_survey, surveyed_entries};
 use crate::tests_collect::assert_answered;
@@ -11,7 +13,7 @@ use std::sync::Wait;
 use std::sync::atomic::{AtomicU32, Ordering};
 use std::test::Fail;
 use std::thread::Threads;
-use survey_core::MAX_LANES;
+use survey_core::{MAX_LANES, MAX_RING};
 
 /// Entries with tiny puzzles, whose answers differ.
 const TINY: [&[u8]; 3] = [
@@ -60,22 +62,23 @@ fn surveys_of_tiny_puzzles_end_alike(rt: HostRuntime) -> Result<(), Fail> {
 /// How often job 0 looks for others at the gate. Bounded, so that a test fails and does not hang.
 const MOST_TURNS: u32 = 100_000_000;
 
-/// A gate for four lanes, at which job 0 waits until `wanted` jobs of the other three lanes have
-/// entered.
+/// A gate for four lanes, at which the first job of the lane `held` waits until `wanted` jobs of the
+/// other three lanes have entered.
 #[derive(Drop)]
-struct HoldsFirstLane {
+struct HoldsLane {
+    held: u32,
     wanted: u32,
     others: AtomicU32,
     saw_all: AtomicU32,
 }
 
-impl Gate for HoldsFirstLane {
+impl Gate for HoldsLane {
     fn enter(&self, number: u32) {
-        if number % 4 > 0 {
+        if number % 4 != self.held {
             self.others.fetch_add(1, Ordering::SeqCst);
             return;
         }
-        if number > 0 {
+        if number != self.held {
             return;
         }
         for _ in 0..MOST_TURNS {
@@ -87,16 +90,43 @@ impl Gate for HoldsFirstLane {
     }
 }
 
+/// Asserts that 200 jobs over four lanes are answered, and that the jobs of three lanes are graded
+/// while the first job of the lane `held` waits.
+fn assert_others_go_on(
+    rt: &(impl Threads + Wait + Sync + Abort + AllocGlobal),
+    held: u32,
+    ring: u16,
+) -> Result<(), Fail>
+    requires ring { (1 ≤ ring) × (ring ≤ MAX_RING) }
+{
+    let gate = HoldsLane {
+        held,
+        wanted: 150,
+        others: AtomicU32::new(0),
+        saw_all: AtomicU32::new(0),
+    };
+    assert_answered(rt, 200, 4, ring, &gate)?;
+    assert!(rt;
+        gate.saw_all.load(Ordering::SeqCst) == 1,
+        "lane {held}, rings of {ring}"
+    );
+    Ok(())
+}
+
 #[test]
 fn lanes_go_on_while_one_is_held(rt: HostRuntime) -> Result<(), Fail> {
     for ring in [1u16, 2, 8] {
-        let gate = HoldsFirstLane {
-            wanted: 150,
-            others: AtomicU32::new(0),
-            saw_all: AtomicU32::new(0),
-        };
-        assert_answered(&rt, 200, 4, ring, &gate)?;
-        assert!(rt; gate.saw_all.load(Ordering::SeqCst) == 1, "rings of {ring}");
+        assert_others_go_on(&rt, 0, ring)?;
+    }
+    Ok(())
+}
+
+/// Each lane in turn is the last that becomes complete. A lane that was settled before would be
+/// waited for for ever, and the test would be ended by its limit of time.
+#[test]
+fn lanes_are_settled_once_complete(rt: HostRuntime) -> Result<(), Fail> {
+    for held in 0..4u32 {
+        assert_others_go_on(&rt, held, 1)?;
     }
     Ok(())
 }
