@@ -1,8 +1,7 @@
 //! A cache of deduced lines.
-ghost use Rattle.std.specs.Prelude.{[], ◌≡◌, ◌≤◌, Some, vec_capacity, IsTrue, IfOk, IfSome};
-ghost use Rattle.solve_core.specs.steps.DeductionCache.{HoldSame, IsInserted, cached_in};
+ghost use Rattle.std.specs.Prelude.{◌≡◌, ◌≤◌, vec_capacity, IsTrue, IfOk, IfSome, OnOk};
+ghost use Rattle.solve_core.specs.steps.DeductionCache.{HasNone, HoldSame, IsCached, IsInserted, IsWithin};
 
-use crate::buffers::cleared_with_capacity;
 use grid_core::NoMemory;
 use line_core::{BitLine, LineBits};
 use std::alloc::Global;
@@ -14,11 +13,13 @@ pub const MAX_CACHED: usize = 16384;
 /// How many deductions are cached for each cell of a puzzle, up to the most for the set width.
 const CACHED_PER_CELL: usize = 16;
 
-/// The cells of a line, the index of its clue, and its deduced line; `None` if it is dead.
+/// The number of a puzzle, the index of a line's clue, the line's cells, and the deduced line,
+/// which is `None` if the line is dead.
 #[derive(Drop)]
 pub struct CachedDeduction<W: LineBits> {
-    pub clue: u16,
-    pub line: BitLine<W>,
+    puzzle: u32,
+    clue: u16,
+    line: BitLine<W>,
     pub answer: Option<BitLine<W>>,
 }
 
@@ -27,15 +28,32 @@ impl<W: LineBits> Model for CachedDeduction<W> {
 
     ghost Value = { CachedLine };
 
-    ghost view = { λ d. record { clue = d.clue; line = d.line; answer = d.answer } };
+    ghost view = { λ d. record {
+      puzzle = d.puzzle;
+      clue = d.clue;
+      line = d.line;
+      answer = d.answer;
+    } };
 }
 
 impl<W: LineBits> CachedDeduction<W> {
-    /// Reports whether this is the deduction of a line with the cells of `line` and clue `k`.
-    fn is_of(&self, k: u16, line: &BitLine<W>) -> bool
-        ensures { IsTrue result → (self.now.clue ≡ k) × (self.now.line ≡ line.now) }
+    /// Reports whether this is the deduction of a line with the cells of `line` and clue `k` of the
+    /// puzzle with number `puzzle`.
+    fn is_of(&self, puzzle: u32, k: u16, line: &BitLine<W>) -> bool
+        ensures { IsTrue result
+            → (self.now.puzzle ≡ puzzle) × (self.now.clue ≡ k) × (self.now.line ≡ line.now) }
     {
-        self.clue == k && self.line.is_same(line)
+        self.puzzle == puzzle && self.clue == k && self.line.is_same(line)
+    }
+}
+
+/// Returns a copy of `answer`.
+pub fn copy_answer<W: LineBits>(answer: &Option<BitLine<W>>) -> Option<BitLine<W>>
+    ensures { result ≡ answer.now }
+{
+    match answer {
+        None => None,
+        Some(line) => Some(line.copy()),
     }
 }
 
@@ -69,11 +87,16 @@ fn add_slots<W: LineBits>(slots: &mut Vec<Option<CachedDeduction<W>>>, count: us
 }
 
 /// Deductions that are kept once the cache is enabled. A line with its clue's index hashes to one
-/// slot, and a new deduction replaces the one in its slot.
+/// slot, and a new deduction replaces the one in its slot. Those of earlier puzzles stay until they
+/// are replaced, since clearing all slots for each puzzle takes longer than solving a small one.
 pub struct DeductionCache<W: LineBits> {
-    /// How many slots there are once the cache is enabled: a power of two.
+    /// The number of the puzzle, greater than those of earlier puzzles in the slots.
+    puzzle: u32,
+    /// How many slots are used for this puzzle: a power of two.
     capacity: usize,
-    /// The slots; none before the cache is enabled.
+    /// Whether deductions of this puzzle are kept.
+    is_enabled: bool,
+    /// The slots, at least as many as are used once the cache is enabled.
     slots: Vec<Option<CachedDeduction<W>>>,
 }
 
@@ -82,69 +105,74 @@ pub struct DeductionCache<W: LineBits> {
 impl<W: LineBits> Drop for DeductionCache<W> {
     fn drop(self) {
         let DeductionCache {
+            puzzle: _,
             capacity: _,
+            is_enabled: _,
             slots: _,
         } = self;
     }
 }
 
 impl<W: LineBits> Model for DeductionCache<W> {
-    ghost use Rattle.std.specs.Prelude.{◌≤◌, List, Option, vec_capacity};
-    ghost use Rattle.solve_core.specs.steps.DeductionCache.{CachedLine};
+    ghost use Rattle.std.specs.Prelude.{◌≤◌, vec_capacity};
+    ghost use Rattle.solve_core.specs.steps.DeductionCache.{AreUpTo, Cache};
     ghost use Rattle.solve_core.specs.declared.deducing.deduction_cache.TheConstants.{MAX_CACHED};
 
-    ghost Value = { List (Option CachedLine) };
+    ghost Value = { Cache };
 
-    ghost view = { λ d. d.slots.items };
+    ghost view = { λ d. record { puzzle = d.puzzle; slots = d.slots.items } };
 
-    ghost invariant = { λ d.
-        (1 ≤ d.capacity) × (d.capacity ≤ MAX_CACHED) × (d.capacity ≤ vec_capacity d.slots) };
+    ghost invariant = { λ d. (1 ≤ d.capacity) × (d.capacity ≤ MAX_CACHED)
+        × (d.capacity ≤ vec_capacity d.slots) × AreUpTo d.puzzle d.slots.items };
 }
 
 impl<W: LineBits> DeductionCache<W> {
-    /// Returns an empty cache for `capacity` deductions, 1 to 16,384, in the buffer `slots`. Fails
-    /// with `NoMemory` if an allocation fails.
-    fn in_buffer(
-        alloc: Global,
-        slots: Vec<Option<CachedDeduction<W>>>,
-        capacity: usize,
-    ) -> Result<DeductionCache<W>, NoMemory>
-        requires { (1 ≤ capacity) × (capacity ≤ MAX_CACHED) }
-        ensures { IfOk result (λ cache. cache ≡ []) }
+    /// Returns a cache for one deduction. Fails with `NoMemory` if an allocation fails.
+    pub fn new(alloc: Global) -> Result<DeductionCache<W>, NoMemory>
+        ensures { IfOk result HasNone }
     {
+        let mut slots = Vec::new(alloc);
+        slots.reserve(1)?;
         Ok(DeductionCache {
-            capacity,
-            slots: cleared_with_capacity(alloc, slots, capacity)?,
+            puzzle: 0,
+            capacity: 1,
+            is_enabled: false,
+            slots,
         })
     }
 
-    /// Returns a cache for one deduction. Fails with `NoMemory` if an allocation fails.
-    pub fn new(alloc: Global) -> Result<DeductionCache<W>, NoMemory>
-        ensures { IfOk result (λ cache. cache ≡ []) }
-    {
-        DeductionCache::in_buffer(alloc, Vec::new(alloc), 1)
-    }
-
-    /// Returns the cache, emptied, and with a buffer in proportion to the `cells` of a puzzle.
+    /// Turns to the next puzzle, which has `cells` cells, with slots in proportion to these.
     /// Nothing is cached before `enable` is called. Fails with `NoMemory` if an allocation fails.
-    pub fn reset(self, alloc: Global, cells: usize) -> Result<DeductionCache<W>, NoMemory>
+    pub fn reset(&mut self, alloc: Global, cells: usize) -> Result<(), NoMemory>
         requires { cells ≤ 65536 }
-        ensures { IfOk result (λ cache. cache ≡ []) }
+        ensures { OnOk result (HasNone self.new) }
     {
-        let DeductionCache { capacity: _, slots } = self;
-        DeductionCache::in_buffer(alloc, slots, capacity_for::<W>(cells))
+        let capacity = capacity_for::<W>(cells);
+        self.slots
+            .reserve(capacity.saturating_sub(self.slots.len()))?;
+        match self.puzzle.checked_add(1) {
+            Some(next) => self.puzzle = next,
+            None => {
+                self.slots.clear();
+                self.puzzle = 0;
+            }
+        }
+        self.capacity = capacity;
+        self.is_enabled = false;
+        Ok(())
     }
 
     /// Enables the cache, and has no effect if it is enabled. Allocates nothing.
     pub fn enable(&mut self)
-        ensures { HoldSame self.old self.new }
+        ensures { IsWithin self.old self.new }
     {
         add_slots(&mut self.slots, self.capacity);
+        self.is_enabled = true;
     }
 
     /// Reports whether the cache is enabled.
     pub fn is_enabled(&self) -> bool {
-        !self.slots.is_empty()
+        self.is_enabled
     }
 
     /// Returns the slot of a line with clue `k`.
@@ -158,24 +186,29 @@ impl<W: LineBits> DeductionCache<W> {
 
     /// Returns the deduction in `slot` if it is of a line with the cells of `line` and clue `k`.
     pub fn get(&self, slot: usize, k: u16, line: &BitLine<W>) -> Option<&CachedDeduction<W>>
-        ensures { IfSome result (λ d. (cached_in self.now slot ≡ Some d.now)
-            × (d.now.clue ≡ k) × (d.now.line ≡ line.now)) }
+        ensures { IfSome result (λ d.
+            IsCached self.now slot d.now × (d.now.clue ≡ k) × (d.now.line ≡ line.now)) }
     {
         let deduction = self.slots.get(slot)?.as_ref()?;
-        if deduction.is_of(k, line) {
+        if deduction.is_of(self.puzzle, k, line) {
             Some(deduction)
         } else {
             None
         }
     }
 
-    /// Puts `deduction` into `slot`, in place of the one that was there. Has no effect if the cache
-    /// isn't enabled.
-    pub fn insert(&mut self, slot: usize, deduction: CachedDeduction<W>)
-        ensures { IsInserted self.old deduction self.new }
+    /// Puts `answer`, deduced of a line with the cells of `line` and clue `k`, into `slot`, in
+    /// place of what was there. Has no effect if there is no such slot.
+    pub fn insert(&mut self, slot: usize, k: u16, line: &BitLine<W>, answer: &Option<BitLine<W>>)
+        ensures { IsInserted self.old k line.now answer.now self.new }
     {
         if let Some(old) = self.slots.get_mut(slot) {
-            *old = Some(deduction);
+            *old = Some(CachedDeduction {
+                puzzle: self.puzzle,
+                clue: k,
+                line: line.copy(),
+                answer: copy_answer(answer),
+            });
         }
     }
 }
