@@ -180,7 +180,8 @@ pub record RefusesText (number : ℕ) (body : List ℕ) (Refused : Fault → Typ
   pub too_long : IsSome (format_from_number number) → MAX_PUZZLE_LEN < length body →
       Refused (Text text.TooLong)
 
--- the same of a call that takes another setting too, which is `None` if it is out of its range
+-- The faults that a call with one more setting finds first, in the same way: `taken` is that
+-- setting, or `None` if its number is out of range.
 pub record RefusesSetting {A : Type 0} (taken : Option A) (number : ℕ) (body : List ℕ)
     (Refused : Fault → Type 0) : Type 0 where
   pub setting : taken ≡ None → Refused Setting
