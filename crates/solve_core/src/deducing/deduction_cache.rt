@@ -7,10 +7,10 @@ use line_core::{BitLine, LineBits};
 use std::alloc::Global;
 use std::marker::Model;
 
-/// How many deductions are cached at most, in sets of 64 indices; fewer in wider ones.
+/// How many deductions are cached at most.
 pub const MAX_CACHED: usize = 16384;
 
-/// How many deductions are cached for each cell of a puzzle, up to the most for the set width.
+/// How many deductions are cached for each cell of a puzzle, up to `MAX_CACHED`.
 const CACHED_PER_CELL: usize = 16;
 
 /// The number of a puzzle, the index of a line's clue, the line's cells, and the deduced line,
@@ -57,22 +57,14 @@ pub fn copy_answer<W: LineBits>(answer: &Option<BitLine<W>>) -> Option<BitLine<W
     }
 }
 
-/// Returns how many deductions are cached at most in sets of width `W::WIDTH`: the wider the sets,
-/// the fewer, so that the cache takes about the same memory.
-fn max_cached<W: LineBits>() -> usize
-    ensures { (1 ≤ result) × (result ≤ MAX_CACHED) }
-{
-    (MAX_CACHED * 64 / usize::from(W::WIDTH)).min(MAX_CACHED)
-}
-
 /// Returns how many deductions are cached for a puzzle of `cells` cells: a power of two.
-fn capacity_for<W: LineBits>(cells: usize) -> usize
+fn capacity_for(cells: usize) -> usize
     requires { cells ≤ 65536 }
     ensures { (1 ≤ result) × (result ≤ MAX_CACHED) }
 {
     (cells * CACHED_PER_CELL)
         .next_power_of_two()
-        .min(max_cached::<W>())
+        .min(MAX_CACHED)
 }
 
 /// Appends empty slots to `slots` until there are `count`, for which its capacity has to suffice.
@@ -147,7 +139,7 @@ impl<W: LineBits> DeductionCache<W> {
         requires { cells ≤ 65536 }
         ensures { OnOk result (HasNone self.new) }
     {
-        let capacity = capacity_for::<W>(cells);
+        let capacity = capacity_for(cells);
         self.slots
             .reserve(capacity.saturating_sub(self.slots.len()))?;
         match self.puzzle.checked_add(1) {
