@@ -1,17 +1,23 @@
 -- Lemmas on collections: text that is skipped since no entry begins in it, and the first stray line, found in one pass.
-use Rattle.puzzle_text.proofs.Names.{rules, ◌≡◌, ℕ, ◌<◌, ◌≤◌, Bool, true, false, not, eqb, List, [], ◌∷◌, ◌++◌, length, take, get_or, refl, append_assoc, arith, list_all, cond_both, not-true, and_parts, ne_eqb, get_or-take, get_or_default, length-take-le, list_all-from_AllPass, raw_lines, Entry, body_of, entries_of, is_marker, FollowsPlain, ends_line, nil_from_length, nat_tests, ◌+◌, cond, ◌&&◌, ◌||◌, sym, ◌∙◌, Option, Some, None, enumerate_from, find, list_any, option_map, or-false, take-append_seam, length-append, list_any-append, is_empty, trim, without_ending, first_stray, is_stray, name_of, are_named, begins_with_marker}
+use Rattle.puzzle_text.proofs.Names.{rules, ◌≡◌, ℕ, ◌<◌, ◌≤◌, Bool, true, false, not, eqb, List, [], ◌∷◌, ◌++◌, length, take, get_or, refl, append_assoc, arith, list_all, cond_both, not-true, and_parts, ne_eqb, get_or-take, get_or_default, length-take-le, list_all-from_AllPass, raw_lines, Entry, body_of, entries_of, is_marker, FollowsPlain, ends_line, nil_from_length, nat_tests, ◌+◌, cond, ◌&&◌, ◌||◌, sym, ◌∙◌, Option, Some, None, enumerate_from, find, list_any, option_map, or-false, take-append_seam, length-append, list_any-append, unwrap_or, is_empty, trim, without_ending, first_stray, is_stray, name_of, are_named, begins_with_marker}
+use Rattle.memchr.specs.Find.{IsFirstByte, is_byte}
 
 -- there is no `@` among `bytes`
 abbrev pub HasNoAt : List ℕ → Type 0
 HasNoAt bytes = list_all (λ byte. not (eqb byte 64)) bytes ≡ true
 
--- If no byte below the index `i` is `@`, the first `i` bytes have no `@`.
-pub no_at_before : (bytes : List ℕ) (i : ℕ) → i ≤ length bytes → ((k : ℕ) → 0 ≤ k → k < i → eqb (get_or bytes k 0) 64 ≡ true → ⊥)
+no_at_below : (bytes : List ℕ) (i : ℕ) → i ≤ length bytes → ((k : ℕ) → 0 ≤ k → k < i → eqb (get_or bytes k 0) 64 ≡ true → ⊥)
     → HasNoAt (take i bytes)
-no_at_before bytes i within none =
+no_at_below bytes i within none =
     list_all-from_AllPass _ (take i bytes) (λ k d lt.
     let same = get_or_default (take i bytes) k d 0 lt in
     grind (arith, nat_tests, none k, length-take-le i bytes, same, get_or-take i bytes k 0))
+
+-- The bytes before the first `@` have no `@`; without one, no byte is one.
+pub no_at_before : (bytes : List ℕ) (found : Option ℕ) → IsFirstByte (is_byte 64) bytes found
+    → HasNoAt (take (unwrap_or found (length bytes)) bytes)
+no_at_before bytes None none = no_at_below bytes (length bytes) (omega arith) none
+no_at_before bytes (Some i) first = no_at_below bytes i (omega (arith, first.0.high)) first.0.before
 
 -- what of the lines `raws` goes into the body: from the start of a line, or from within one that begins no entry
 abbrev body_in : Bool → List (List ℕ) → List ℕ

@@ -184,10 +184,8 @@ ok_of_gives P no_memory r answer gives f = search rules
 -- ---- `.non`
 
 -- No keyword line of a text has a line feed in it.
-pub kept_clean : (bytes : List ℕ) (kept : List TextLine) → length bytes ≤ 1048576 → kept ≡ filter is_keyword_line (lines bytes)
-    → HaveNoFeed kept
-kept_clean bytes kept short e =
-    rw e (clean_filter is_keyword_line (lines bytes) (lines_have_no_feed bytes (lines bytes) (short_lines bytes short)))
+pub kept_clean : (bytes : List ℕ) (kept : List TextLine) → kept ≡ filter is_keyword_line (lines bytes) → HaveNoFeed kept
+kept_clean bytes kept e = rw e (clean_filter is_keyword_line (lines bytes) (lines_have_no_feed bytes))
 
 -- The puzzle of the keyword lines and the sections is that of a `.non` text.
 pub non_parsed : (bytes : List ℕ) (kept : List TextLine) (p : Nonogram) → length bytes ≤ 1048576

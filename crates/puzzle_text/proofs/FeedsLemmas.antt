@@ -1,5 +1,5 @@
 -- What holds of a line's text holds of the text of its field: it has no line feed if the line has none, and is short if the line is.
-use Rattle.puzzle_text.proofs.Names.{All-cons, All-nil, rules, ◌≡◌, ℕ, ◌+◌, ◌-◌, ◌≤◌, Bool, true, false, cond, not, eqb, leb, ltb, List, [], ◌∷◌, length, drop, reverse, All, refl, arith, Option, Some, None, IfSome, Ok, map, option_and_then, slice_get, unwrap_or, filter, list_all, onto_first, AllByRecursion, option_map, cond_both, and_from, and_parts, le-leb, leb-true, ltb-false, get_or-reverse, length-drop, length-reverse, All-take, All-drop, All-filter, All-from_recursion, recursion_from_All, AllPass-from_list_all, list_all-from_AllPass, IsDescription, MAX_TEXT_LEN, text_lines, TextLine, numbered_from, raw_lines, strip_last, trim, trim_start, after_quote, first_with, quoted_text, shown_keyword, bad_line, least, least_of, number_of_line, texts_of, KeywordLine, HaveNoFeed, has_no_feed}
+use Rattle.puzzle_text.proofs.Names.{All-cons, All-nil, rules, ◌≡◌, ℕ, ◌+◌, ◌-◌, ◌≤◌, Bool, true, false, cond, not, eqb, leb, ltb, List, [], ◌∷◌, length, drop, reverse, All, refl, arith, Option, Some, None, IfSome, map, option_and_then, slice_get, unwrap_or, filter, list_all, onto_first, AllByRecursion, option_map, cond_both, and_from, and_parts, le-leb, leb-true, ltb-false, get_or-reverse, length-drop, length-reverse, All-take, All-drop, All-filter, All-from_recursion, recursion_from_All, AllPass-from_list_all, list_all-from_AllPass, IsDescription, MAX_TEXT_LEN, TextLine, lines, numbered_from, raw_lines, strip_last, trim, trim_start, after_quote, first_with, quoted_text, shown_keyword, bad_line, least, least_of, number_of_line, texts_of, KeywordLine, HaveNoFeed, has_no_feed}
 
 abbrev IsOther : ℕ → Type 0
 IsOther byte = not (eqb byte 10) ≡ true
@@ -58,9 +58,9 @@ clean_lines number [] h = tt
 clean_lines number (raw ∷ raws) h =
     search (rules, list_all-from_AllPass, of_trim IsClean (All-drop IsOther) clean_reverse, clean_strip, clean_lines (number + 1) raws)
 
--- No line of a text that isn't too long has a line feed in its text.
-pub lines_have_no_feed : (bytes : List ℕ) (text : List TextLine) → text_lines bytes ≡ Ok text → HaveNoFeed text
-lines_have_no_feed bytes text e = search (rules, clean_lines, all_raw)
+-- No line of a text has a line feed in it.
+pub lines_have_no_feed : (bytes : List ℕ) → HaveNoFeed (lines bytes)
+lines_have_no_feed bytes = clean_lines 1 (raw_lines bytes) (all_raw bytes)
 
 -- The lines that a filter keeps have no line feed in them either.
 pub clean_filter : (p : TextLine → Bool) (text : List TextLine) → HaveNoFeed text → HaveNoFeed (filter p text)

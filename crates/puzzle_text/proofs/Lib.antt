@@ -4,8 +4,6 @@ pub mod AllLemmas
 pub mod LinesLemmas
 pub mod NumbersLemmas
 pub mod SectionsLemmas
-pub mod CountsLemmas
-pub mod SecondLemmas
 pub mod ParsedLines
 pub mod ReadBack
 pub mod ReadMk

@@ -2,7 +2,7 @@
 pub use Rattle.std.proofs.Common.{All, Bool, Err, IfOk, IfSome, List, None, Ok, Option, Result, Some, [], ap, append-nil, append_assoc, arith, codes, cond, decimal, drop, eqb, false, filter, get_or, inl, inr, leb, length, ltb, map, not, option_and_then, option_map, refl, reverse, rules, slice_get, suc, sum, sym, take, take_while, true, unwrap_or, vec_capacity, vec_len, zero, ℕ, ◌&&◌, ◌*◌, ◌++◌, ◌+◌, ◌-◌, ◌<◌, ◌^◌, ◌||◌, ◌∙◌, ◌∷◌, ◌≡◌, ◌≤◌}
 pub use Rattle.std.proofs.Math.Bool.{and-false, or-false}
 pub use Rattle.std.proofs.Math.Seq.{drop-append_seam, take-append_seam}
-pub use Rattle.std.proofs.lemmas.Bool.{and_from, and_parts, cases_Bool, cond-false, cond_both, eq-eqb, eqb-true, false_from_ne_true, le-leb, le-ltb, leb-true, lt-leb, lt-ltb, ltb-false, ltb-true, ne_eqb, not-true, not_from_false}
+pub use Rattle.std.proofs.lemmas.Bool.{and_from, and_parts, cases_Bool, cond-false, cond_both, eq-eqb, eqb-true, false_from_ne_true, le-leb, le-ltb, leb-true, lt-leb, lt-ltb, ltb-false, ltb-true, ne_eqb, not-true}
 pub use Rattle.std.proofs.lemmas.Bool.Decides.{nat_tests}
 pub use Rattle.std.proofs.lemmas.Fmt.{decimal_is_IsNumeral, decimal_nonempty, length-decimal-le}
 pub use Rattle.std.proofs.lemmas.List.{drop-map, drop_all, drop_at, drop_more, get_or-append_right, get_or-reverse, get_or-take, get_or_append_left, get_or_at, get_or_default, length-append, length-drop, length-map, length-reverse, length-take-le, length_push, nil_from_length, reverse-append, reverse-reverse, take-append-drop, take-map, take-take, take_all, take_at, take_rest}
@@ -22,9 +22,9 @@ pub use Rattle.grid_core.specs.Description.{Description, IsDescription, is_field
 pub use Rattle.grid_core.specs.Nonogram.{IsNonogramWithin, Nonogram, is_goal, plain}
 pub use Rattle.grid_core.specs.declared.limits.TheConstants.{MAX_SIDE, MAX_TEXT_LEN}
 pub use Rattle.puzzle_text.specs.Answers.{Gives, each, each_some, or_fault, ◌>>=◌}
-pub use Rattle.puzzle_text.specs.ClueLines.{clue_of, clue_of_numbers, clues_of, numbers_within}
+pub use Rattle.puzzle_text.specs.ClueLines.{clue_of, clues_of, numbers_within}
 pub use Rattle.puzzle_text.specs.Collections.{Entry, body_of, entries_of, first_stray, is_marker, is_stray, name_of}
-pub use Rattle.puzzle_text.specs.Keywords.{after_quote, all_fields, before_quote, field_word, first_with, is_keyword_line, keyword, keyword_argument, quoted_text, with_keyword}
+pub use Rattle.puzzle_text.specs.Keywords.{after_quote, all_fields, before_quote, field_word, first_with, is_keyword_line, keyword, quoted_text, with_keyword}
 pub use Rattle.puzzle_text.specs.Lines.{TextLine, is_space_or_tab, is_blank_line, is_empty, is_non_blank, is_hash, lines, numbered_from, raw_lines, strip_last, trim, trim_end, trim_start, without_ending}
 pub use Rattle.puzzle_text.specs.Mk.{at_hash, before_hash, mk_of, or_else, puzzle_of, read_mk}
 pub use Rattle.puzzle_text.specs.Nin.{nin_of, read_nin}

@@ -1,5 +1,5 @@
 -- Lemmas on sections: their clue lines, and which lines belong to them, found in one pass from the top.
-use Rattle.puzzle_text.proofs.Names.{rules, ◌≡◌, ℕ, append-nil, ◌≤◌, Bool, true, cond, List, [], ◌∷◌, length, take, drop, map, refl, Some, None, count_by, filter, list_all, ne_eqb, eq-eqb, le-leb, take-map, drop-map, length-map, length-take-le, take-append-drop, filter-append, list_all-map, count_by-le-length, length-filter, TextLine, is_non_blank, is_blank_line, lines, section, all_pass, filter_none, section_lines, ◌+◌, ◌++◌, ap, append_assoc, Option, enumerate_from, last_or, take-append_seam, length-append, is_empty, keyword, is_content, last_keyword, placed, ◌<◌, get_or, false, eqb, sym, ◌∙◌, take_while, AllByRecursion, nat_tests, is_ascii_alphabetic, to_ascii_lowercase, str_to_ascii_lowercase, and-false, drop_more, SectionKind, Rows, Columns, Other, codes, find, number_of_line, is_hash, or_else, Sections, sections_of, IsSectionOfKeyword, with_line, shown_line}
+use Rattle.puzzle_text.proofs.Names.{arith, zero, suc, ◌-◌, slice_get, rules, ◌≡◌, ℕ, append-nil, ◌≤◌, Bool, true, cond, List, [], ◌∷◌, length, take, drop, map, refl, Some, None, count_by, filter, list_all, ne_eqb, eq-eqb, le-leb, take-map, drop-map, length-map, length-take-le, take-append-drop, filter-append, list_all-map, count_by-le-length, length-filter, TextLine, is_non_blank, is_blank_line, lines, section, all_pass, filter_none, section_lines, ◌+◌, ◌++◌, ap, append_assoc, Option, enumerate_from, last_or, take-append_seam, length-append, is_empty, keyword, is_content, last_keyword, placed, ◌<◌, get_or, false, eqb, sym, ◌∙◌, take_while, AllByRecursion, nat_tests, is_ascii_alphabetic, to_ascii_lowercase, str_to_ascii_lowercase, and-false, drop_more, SectionKind, Rows, Columns, Other, codes, find, number_of_line, is_hash, or_else, Sections, sections_of, IsSectionOfKeyword, with_line, shown_line}
 use Rattle.puzzle_text.specs.steps.Sections.{leading_lines}
 use Rattle.puzzle_text.specs.declared.lines.TextLine.{TextLine as KeptLine}
 
@@ -40,7 +40,12 @@ pub leading_lines_suffice : (count : ℕ) (lines found : List TextLine) → lead
     → section_lines count lines ≡ Some found
 leading_lines_suffice count lines found e = search (rules, leading_lines_kept)
 
-pub ruleset lengths = (length-map, length-filter)
+pub ruleset lengths = (length-map, length-filter, filter-map)
+
+-- Below the first element, an element's index is greater by one than in the rest of the list.
+pub slice_get_below : {X : Type 0} (x : X) (xs : List X) (i : ℕ) → 0 < i → slice_get (x ∷ xs) i ≡ slice_get xs (i - 1)
+slice_get_below x xs zero h = absurd (omega arith)
+slice_get_below x xs (suc i) h = ap (slice_get xs) (omega arith)
 
 -- the content lines, each beside the nearest keyword above it; under is the keyword before all
 abbrev pub walked : List ℕ → List TextLine → List (List ℕ × TextLine)

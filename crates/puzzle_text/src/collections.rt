@@ -28,11 +28,7 @@ pub struct Entry<'a> {
 fn is_marker(raw: &[u8]) -> bool
     ensures { result ≡ is_marker raw.now }
 {
-    match without_ending(raw) {
-        [first] => *first == b'@',
-        [first, second, ..] => *first == b'@' && (*second == b' ' || *second == b'\t'),
-        [] => false,
-    }
+    matches!(without_ending(raw), [b'@'] | [b'@', b' ' | b'\t', ..])
 }
 
 /// Returns the name in a marker line; empty if there is none.
@@ -46,24 +42,19 @@ fn name_of(raw: &[u8]) -> &[u8]
 }
 
 /// Returns how many bytes come before the first `@`; all bytes if there is none.
+#[tactic(auto, using(crate::proofs::CollectionLemmas::no_at_before))]
 fn position_of_at(bytes: &[u8]) -> usize
     ensures within { result ≤ length bytes.now }
     ensures other { list_all (λ byte. not (byte == 64)) (take result bytes.now) ≡ true }
 {
-    match memchr(b'@', bytes) {
-        Some(place) => place,
-        None => bytes.len(),
-    }
+    memchr(b'@', bytes).unwrap_or(bytes.len())
 }
 
 /// Reports whether a line may start after these bytes: they are empty or end with a line feed.
 fn ends_line(bytes: &[u8]) -> bool
     ensures { result ≡ ends_line bytes.now }
 {
-    match bytes {
-        [.., last] => *last == b'\n',
-        [] => true,
-    }
+    matches!(bytes, [] | [.., b'\n'])
 }
 
 /// Skips text in which no entry begins; `bytes` start at the start of a line. Returns the text from
@@ -125,11 +116,7 @@ fn entry_count(bytes: &[u8]) -> usize
 fn begins_with_marker(bytes: &[u8]) -> bool
     ensures { result ≡ begins_with_marker (raw_lines bytes.now) }
 {
-    if bytes.is_empty() {
-        return true;
-    }
-    let (raw, _) = split_line(bytes);
-    is_marker(raw)
+    bytes.is_empty() || is_marker(split_line(bytes).0)
 }
 
 /// Returns the entries of a collection, ignoring the lines above the first marker line. Returns
@@ -212,8 +199,5 @@ pub fn entries<'a>(alloc: Global, bytes: &'a [u8]) -> Result<Vec<Entry<'a>>, Col
     if entry_count(bytes) > MAX_ENTRIES {
         return Err(CollectionFault::TooMany);
     }
-    match named_entries(alloc, bytes) {
-        Some(found) => Ok(found),
-        None => Err(CollectionFault::NoMemory),
-    }
+    named_entries(alloc, bytes).ok_or(CollectionFault::NoMemory)
 }

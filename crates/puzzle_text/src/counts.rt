@@ -1,10 +1,7 @@
 //! Counts what a refused text has, and what it should have.
 
 ghost use Rattle.std.specs.Prelude.{◌≡◌, map, IfOk, OnOk};
-ghost use Rattle.std.specs.Option.{option_map};
-ghost use Rattle.std.specs.Result.{result_ok};
 ghost use Rattle.puzzle_text.specs.Counts.{counts_of, goal_count, mk_count, nin_count, non_count, section_count};
-ghost use Rattle.puzzle_text.specs.Sizes.{size_line};
 ghost use Rattle.puzzle_text.specs.steps.Shown.{shown_line};
 
 use crate::faults::TextFault;
@@ -12,7 +9,7 @@ use crate::formats::Format;
 use crate::keywords::{keyword_lines, nth_with_keyword, quoted_text};
 use crate::lines::TextLine;
 use crate::mk::{at_hash, before_hash};
-use crate::non::known_sizes;
+use crate::non::sizes_of;
 use crate::section_split::sections_of;
 use crate::sections::clue_line_count;
 use crate::sizes::size_line;
@@ -54,7 +51,7 @@ fn non_count(alloc: Global, lines: &[TextLine<'_>]) -> Result<Option<TextCounts>
     ensures { IfOk result (λ counts. counts ≡ non_count MAX_SIDE (map shown_line lines.now)) }
 {
     let keyword_lines = keyword_lines(alloc, lines)?;
-    let Some((width, height)) = known_sizes(&keyword_lines)? else {
+    let Ok((width, height)) = sizes_of(&keyword_lines) else {
         return Ok(None);
     };
     let sections = sections_of(alloc, lines)?;
@@ -69,7 +66,7 @@ fn goal_count(alloc: Global, lines: &[TextLine<'_>]) -> Result<Option<TextCounts
     ensures { IfOk result (λ counts. counts ≡ goal_count MAX_SIDE (map shown_line lines.now)) }
 {
     let keyword_lines = keyword_lines(alloc, lines)?;
-    let Some((width, height)) = known_sizes(&keyword_lines)? else {
+    let Ok((width, height)) = sizes_of(&keyword_lines) else {
         return Ok(None);
     };
     let Some(goal) = nth_with_keyword(b"goal", 0, &keyword_lines) else {
@@ -81,46 +78,25 @@ fn goal_count(alloc: Global, lines: &[TextLine<'_>]) -> Result<Option<TextCounts
     })))
 }
 
-/// Returns the two sizes of the size line in its order, and the lines after it; `None` if its
-/// reader finds a fault in it.
-pub(crate) fn known_size_line<'a, 'b>(
-    lines: &'b [TextLine<'a>],
-) -> Result<Option<((u16, u16), &'b [TextLine<'a>])>, NoMemory>
-    ensures { IfOk result (λ found. option_map (λ size. (size.0, map shown_line size.1.now)) found
-        ≡ result_ok (size_line MAX_SIDE (map shown_line lines.now))) }
-{
-    match size_line(lines) {
-        Ok(found) => Ok(Some(found)),
-        Err(TextFault::NoMemory) => Err(NoMemory),
-        Err(_) => Ok(None),
-    }
-}
-
 /// Counts the clue lines of an `.mk` text, if it has two sizes and two sections.
-fn mk_count(lines: &[TextLine<'_>]) -> Result<Option<TextCounts>, NoMemory>
-    ensures { IfOk result (λ counts. counts ≡ mk_count MAX_SIDE (map shown_line lines.now)) }
+fn mk_count(lines: &[TextLine<'_>]) -> Option<TextCounts>
+    ensures { result ≡ mk_count MAX_SIDE (map shown_line lines.now) }
 {
-    let Some(((height, width), section)) = known_size_line(lines)? else {
-        return Ok(None);
-    };
-    let Some((rows, after)) = at_hash(section) else {
-        return Ok(None);
-    };
-    Ok(Some(TextCounts::Sections {
+    let ((height, width), section) = size_line(lines).ok()?;
+    let (rows, after) = at_hash(section)?;
+    Some(TextCounts::Sections {
         rows: section_count(usize::from(height), rows),
         columns: section_count(usize::from(width), before_hash(after)),
-    }))
+    })
 }
 
 /// Counts the clue lines of a `.nin` text, if it has two sizes.
-fn nin_count(lines: &[TextLine<'_>]) -> Result<Option<TextCounts>, NoMemory>
-    ensures { IfOk result (λ counts. counts ≡ nin_count MAX_SIDE (map shown_line lines.now)) }
+fn nin_count(lines: &[TextLine<'_>]) -> Option<TextCounts>
+    ensures { result ≡ nin_count MAX_SIDE (map shown_line lines.now) }
 {
-    let Some(((a, b), section)) = known_size_line(lines)? else {
-        return Ok(None);
-    };
+    let ((a, b), section) = size_line(lines).ok()?;
     let wanted = usize::from(a) + usize::from(b);
-    Ok(Some(TextCounts::Together(section_count(wanted, section))))
+    Some(TextCounts::Together(section_count(wanted, section)))
 }
 
 /// Counts what a fault says there is a wrong number of; `None` for a fault that says nothing of
@@ -137,8 +113,8 @@ pub(crate) fn counts_of(
     match (format, fault) {
         (Format::Non, TextFault::BadCount) => non_count(alloc, lines),
         (Format::Non, TextFault::BadGoal(_)) => goal_count(alloc, lines),
-        (Format::Mk, TextFault::BadCount) => mk_count(lines),
-        (Format::Nin, TextFault::BadCount) => nin_count(lines),
+        (Format::Mk, TextFault::BadCount) => Ok(mk_count(lines)),
+        (Format::Nin, TextFault::BadCount) => Ok(nin_count(lines)),
         _ => Ok(None),
     }
 }

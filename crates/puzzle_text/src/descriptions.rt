@@ -2,7 +2,6 @@
 
 ghost use Rattle.std.specs.Prelude.{◌≡◌, length, map, nat_le, true, IfOk, OnOk};
 ghost use Rattle.std.specs.List.{list_all};
-ghost use Rattle.std.specs.Option.{option_map};
 ghost use Rattle.grid_core.specs.Description.{IsDescription, is_field};
 ghost use Rattle.puzzle_text.specs.Keywords.{field_word};
 ghost use Rattle.puzzle_text.specs.Non.{field_text, long_text, number_of_line, texts_of};
@@ -14,26 +13,13 @@ use crate::keywords::{FIELDS, field_word, nth_with_keyword, quoted_text};
 use grid_core::{Field, MAX_TEXT_LEN, NoMemory, Texts, TextsFault};
 use std::alloc::Global;
 
-/// Returns the first line of a text field, if its text is longer than `MAX_TEXT_LEN` bytes.
-fn long_text<'a, 'b>(lines: &'b [KeywordLine<'a>], field: Field) -> Option<&'b KeywordLine<'a>>
-    ensures { option_map (λ line. shown_keyword line.now) result
-        ≡ long_text (map shown_keyword lines.now) (field_word field) }
-{
-    match nth_with_keyword(field_word(field), 0, lines) {
-        Some(found) if quoted_text(found).len() > MAX_TEXT_LEN => Some(found),
-        _ => None,
-    }
-}
-
 /// Returns the number of the first line of a text field, if its text is longer than `MAX_TEXT_LEN`
 /// bytes.
 pub(crate) fn long_number(lines: &[KeywordLine<'_>], field: Field) -> Option<u32>
     ensures { result ≡ number_of_line (long_text (map shown_keyword lines.now) (field_word field)) }
 {
-    match long_text(lines, field) {
-        Some(found) => Some(found.line.number),
-        None => None,
-    }
+    let found = nth_with_keyword(field_word(field), 0, lines)?;
+    (quoted_text(found).len() > MAX_TEXT_LEN).then_some(found.line.number)
 }
 
 /// Reports whether no line is longer than `MAX_TEXT_LEN` bytes.

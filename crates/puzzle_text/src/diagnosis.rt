@@ -4,15 +4,18 @@ ghost use Rattle.std.specs.Prelude.{◌≡◌, map, IfOk};
 ghost use Rattle.std.specs.Option.{option_map};
 ghost use Rattle.puzzle_text.specs.Counts.{counts_of};
 ghost use Rattle.puzzle_text.specs.Diagnosis.{form_of, line_number, named_line, readable_lines, text_of_line};
+ghost use Rattle.puzzle_text.specs.LineForms.{form_of_lines};
 ghost use Rattle.puzzle_text.specs.steps.Shown.{shown_line};
 
 use crate::counts::{TextCounts, counts_of};
 use crate::faults::TextFault;
 use crate::formats::Format;
 use crate::forms::{TextForm, form_of_bytes};
+use crate::keyword_forms::form_of_keywords;
+use crate::keywords::keyword_lines;
 use crate::limits::MAX_PUZZLE_LEN;
-use crate::line_forms::form_of_lines;
 use crate::lines::{TextLine, all_lines};
+use crate::second_puzzles::{second_mk, second_nin};
 use grid_core::{MAX_SIDE, NoMemory};
 use std::alloc::Global;
 
@@ -80,6 +83,27 @@ fn named_line<'a>(fault: TextFault, lines: &[TextLine<'a>]) -> Option<&'a [u8]>
     ensures { option_map (λ text. text.now) result ≡ named_line fault (map shown_line lines.now) }
 {
     text_of_line(fault.line_number()?, lines)
+}
+
+/// Returns the form by which the lines of a text in `format` explain the fault, if they do.
+fn form_of_lines(
+    alloc: Global,
+    format: Format,
+    fault: TextFault,
+    lines: &[TextLine<'_>],
+) -> Result<Option<TextForm>, NoMemory>
+    ensures { IfOk result (λ form. form
+        ≡ form_of_lines MAX_SIDE format fault (map shown_line lines.now)) }
+{
+    match (format, fault) {
+        (Format::Non, _) => {
+            let keyword_lines = keyword_lines(alloc, lines)?;
+            Ok(form_of_keywords(fault, &keyword_lines))
+        }
+        (Format::Mk, TextFault::BadCount) => Ok(second_mk(lines)),
+        (Format::Nin, TextFault::BadCount) => Ok(second_nin(lines)),
+        (Format::Mk | Format::Nin, _) => Ok(None),
+    }
 }
 
 /// Returns the form of a text that explains its fault, if one is recognized.

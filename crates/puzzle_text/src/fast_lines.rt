@@ -13,10 +13,9 @@ use std::alloc::Global;
 fn digit(byte: u8) -> Option<u8>
     ensures { IfSome result (λ value. (is_ascii_digit byte ≡ true) × (value ≡ byte - 48)) }
 {
-    if byte.is_ascii_digit() {
-        Some(byte - b'0')
-    } else {
-        None
+    match byte {
+        b'0'..=b'9' => Some(byte - b'0'),
+        _ => None,
     }
 }
 
@@ -44,11 +43,7 @@ fn of_three(a: u8, b: u8, c: u8) -> Option<u16>
     ensures { IfSome result (IsNumeral (a ∷ b ∷ c ∷ [])) }
 {
     let number = u16::from(of_two(a, b)?) * 10 + u16::from(digit(c)?);
-    if number <= MAX_SIDE {
-        Some(number)
-    } else {
-        None
-    }
+    (number <= MAX_SIDE).then_some(number)
 }
 
 /// Parses a number from 1 to 256 at the start of a text, without leading zeros. Returns it, the

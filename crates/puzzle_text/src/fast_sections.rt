@@ -8,7 +8,7 @@ ghost use Rattle.puzzle_text.specs.steps.Fast.{HasFastSections, KeepsOthers, Rea
 use crate::fast_lines::read_clue_lines;
 use crate::keyword_line::KeywordLine;
 use crate::keywords::{keyword, keyword_argument, nth_with_keyword};
-use crate::lines::{TextLine, is_hash, next_line, trim};
+use crate::lines::{TextLine, is_hash, next_line};
 use crate::section_split::{SectionKind, section_of_keyword};
 use crate::sizes::size_of;
 use grid_core::Clue;
@@ -71,21 +71,10 @@ impl<'t> FastSections<'t> {
         ensures within { IfSome result (λ found. found.0 + length found.1.now ≤ length text.now) }
     {
         self.keyword_lines.push(line).ok()?;
+        let lines = &self.keyword_lines;
         match kind {
-            SectionKind::Rows => read_section(
-                alloc,
-                b"height",
-                &self.keyword_lines,
-                &mut self.rows,
-                text,
-            ),
-            SectionKind::Columns => read_section(
-                alloc,
-                b"width",
-                &self.keyword_lines,
-                &mut self.columns,
-                text,
-            ),
+            SectionKind::Rows => read_section(alloc, b"height", lines, &mut self.rows, text),
+            SectionKind::Columns => read_section(alloc, b"width", lines, &mut self.columns, text),
             SectionKind::Other => Some((0, text)),
         }
     }
@@ -108,13 +97,10 @@ pub(crate) fn fast_sections_of<'t>(alloc: Global, text: &'t [u8]) -> Option<Fast
     let mut number = 0u32;
     let mut below = text;
     'lines: while !below.is_empty() {
-        let (line, after) = next_line(below);
+        let (text, after) = next_line(below);
         number += 1;
         below = after;
-        let line = TextLine {
-            number,
-            text: trim(line),
-        };
+        let line = TextLine { number, text };
         let word = keyword(&line);
         if !word.is_empty() {
             let (count, after) = sections.add(

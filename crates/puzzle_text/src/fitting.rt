@@ -24,11 +24,7 @@ fn filled_within(len: u16, clue: &Clue) -> Option<u32>
     let cells = sum_of(numbers);
     // Runs have a blank cell between each two, one less than there are runs. That 1 is added on the
     // right instead, since for the empty clue the left side would be negative.
-    if cells + numbers.len() as u32 <= u32::from(len) + 1 {
-        Some(cells)
-    } else {
-        None
-    }
+    (cells + numbers.len() as u32 <= u32::from(len) + 1).then_some(cells)
 }
 
 /// Returns how many cells these clues fill together, if each of them fits a line of `len` cells.
@@ -40,10 +36,7 @@ pub(crate) fn filled_if_fitting(len: u16, clues: &[Clue]) -> Option<u32>
 {
     let mut sum = 0;
     for clue in clues {
-        let Some(cells) = filled_within(len, clue) else {
-            return None;
-        };
-        sum += cells;
+        sum += filled_within(len, clue)?;
     }
     Some(sum)
 }

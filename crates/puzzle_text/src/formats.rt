@@ -129,11 +129,6 @@ pub fn read_entry(alloc: Global, entry: &Entry<'_>) -> Result<Puzzle, EntryFault
         → MAX_PUZZLE_LEN < length (shown_entry entry.now).body
         → result ≡ Err (EntryFault.Text TextFault.TooLong) }
 {
-    let Some(format) = Format::from_name(entry.name) else {
-        return Err(EntryFault::UnknownFormat);
-    };
-    match format.read(alloc, entry.body) {
-        Ok(puzzle) => Ok(puzzle),
-        Err(fault) => Err(EntryFault::Text(fault)),
-    }
+    let format = Format::from_name(entry.name).ok_or(EntryFault::UnknownFormat)?;
+    format.read(alloc, entry.body).map_err(EntryFault::Text)
 }

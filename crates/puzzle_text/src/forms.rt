@@ -2,7 +2,7 @@
 
 ghost use Rattle.std.specs.Prelude.{◌≡◌, ◌==◌};
 ghost use Rattle.std.specs.List.{list_any};
-ghost use Rattle.puzzle_text.specs.Forms.{form_of_bytes, has_byte_order_mark, has_lone_returns, is_utf16};
+ghost use Rattle.puzzle_text.specs.Forms.{form_of_bytes};
 
 use crate::near_keywords::NeededKeyword;
 
@@ -29,41 +29,23 @@ pub enum TextForm {
     SecondPuzzle { line: u32 },
 }
 
-fn has_byte_order_mark(bytes: &[u8]) -> bool
-    ensures { result ≡ has_byte_order_mark bytes.now }
-{
-    bytes.starts_with(b"\xEF\xBB\xBF")
-}
-
-fn is_utf16(bytes: &[u8]) -> bool
-    ensures { result ≡ is_utf16 bytes.now }
-{
-    bytes.starts_with(b"\xFE\xFF") || bytes.starts_with(b"\xFF\xFE")
-}
-
 fn contains(bytes: &[u8], wanted: u8) -> bool
     ensures { result ≡ list_any (λ byte. byte == wanted) bytes.now }
 {
     bytes.iter().any(|byte| *byte == wanted)
 }
 
-fn has_lone_returns(bytes: &[u8]) -> bool
-    ensures { result ≡ has_lone_returns bytes.now }
-{
-    contains(bytes, b'\r') && !contains(bytes, b'\n')
-}
-
 /// Returns the form that a text's bytes have, if it is one of the first three of `TextForm`.
 pub(crate) fn form_of_bytes(bytes: &[u8]) -> Option<TextForm>
     ensures { result ≡ form_of_bytes bytes.now }
 {
-    if has_byte_order_mark(bytes) {
+    if bytes.starts_with(b"\xEF\xBB\xBF") {
         return Some(TextForm::ByteOrderMark);
     }
-    if is_utf16(bytes) {
+    if bytes.starts_with(b"\xFE\xFF") || bytes.starts_with(b"\xFF\xFE") {
         return Some(TextForm::Utf16);
     }
-    if has_lone_returns(bytes) {
+    if contains(bytes, b'\r') && !contains(bytes, b'\n') {
         return Some(TextForm::LoneReturns);
     }
     None

@@ -1,10 +1,10 @@
 //! Parses the `goal` line of a `.non` text.
 
 ghost use Rattle.std.specs.Prelude.{◌≡◌, ◌==◌, true, length, IfOk, IfSome};
-ghost use Rattle.std.specs.Option.{is_some, option_map};
+ghost use Rattle.std.specs.Option.{option_map};
 ghost use Rattle.grid_core.specs.Nonogram.{bools_of, is_goal};
 ghost use Rattle.puzzle_text.specs.Answers.{Gives};
-ghost use Rattle.puzzle_text.specs.Non.{cell_of, goal_cells, goal_of};
+ghost use Rattle.puzzle_text.specs.Non.{goal_cells, goal_of};
 ghost use Rattle.puzzle_text.specs.steps.Shown.{shown_keyword};
 
 use crate::clue_lines::vec_with_capacity;
@@ -13,13 +13,6 @@ use crate::keyword_line::KeywordLine;
 use crate::keywords::quoted_text;
 use grid_core::NoMemory;
 use std::alloc::Global;
-
-/// Reports whether a byte stands for a colour: `0` for blank or `1` for filled.
-fn is_colour(byte: u8) -> bool
-    ensures { result ≡ is_some (cell_of byte) }
-{
-    byte == b'0' || byte == b'1'
-}
 
 /// Returns the cells of a goal, `true` for filled, or `None` if `text` is not `count` bytes `0` or
 /// `1`.
@@ -35,7 +28,7 @@ fn goal_cells(alloc: Global, count: usize, text: &[u8]) -> Result<Option<Vec<boo
     // The loop has no early return, so that the compiler can handle several bytes at a time.
     let mut all = true;
     for byte in text {
-        all &= is_colour(*byte);
+        all &= *byte == b'0' || *byte == b'1';
         cells.push_reserved(*byte == b'1');
     }
     Ok(if all { Some(cells) } else { None })
@@ -55,8 +48,6 @@ pub(crate) fn goal_of(
     let Some(found) = line else {
         return Ok(None);
     };
-    match goal_cells(alloc, count, quoted_text(found))? {
-        Some(cells) => Ok(Some(cells)),
-        None => Err(TextFault::BadGoal(found.line.number)),
-    }
+    let cells = goal_cells(alloc, count, quoted_text(found))?;
+    Ok(Some(cells.ok_or(TextFault::BadGoal(found.line.number))?))
 }

@@ -54,8 +54,7 @@ fn letters(text: &[u8]) -> usize
 pub(crate) fn keyword<'a>(line: &TextLine<'a>) -> &'a [u8]
     ensures { str_to_ascii_lowercase result.now ≡ keyword (shown_line line.now) }
 {
-    let (word, _) = line.text.split_at(letters(line.text));
-    word
+    &line.text[..letters(line.text)]
 }
 
 /// Returns the keyword lines among these lines, in order.
@@ -81,8 +80,7 @@ pub(crate) fn keyword_lines<'a>(
 pub(crate) fn keyword_argument<'a>(found: &KeywordLine<'a>) -> &'a [u8]
     ensures { result.now ≡ keyword_argument (shown_keyword found.now) }
 {
-    let (_, rest) = found.line.text.split_at(found.word.len());
-    trim(rest)
+    trim(&found.line.text[found.word.len()..])
 }
 
 /// Reports whether two words are equal, ignoring the case of ASCII letters.
@@ -156,10 +154,7 @@ fn before_quote(bytes: &[u8]) -> Option<&[u8]>
 fn quoted(bytes: &[u8]) -> &[u8]
     ensures { result.now ≡ quoted bytes.now }
 {
-    let Some(after) = after_quote(bytes) else {
-        return bytes;
-    };
-    before_quote(after).unwrap_or(bytes)
+    after_quote(bytes).and_then(before_quote).unwrap_or(bytes)
 }
 
 /// Returns the text of a field's line: its argument, without double quotes around it.

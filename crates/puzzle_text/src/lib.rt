@@ -18,7 +18,6 @@ mod keyword_line;
 mod keywords;
 pub mod laws;
 mod limits;
-mod line_forms;
 mod lines;
 mod mk;
 mod near_keywords;

@@ -2,7 +2,7 @@
 
 ghost use Rattle.std.specs.Prelude.{ℕ, ◌≡◌, ◌==◌, ◌+◌, ◌^◌, ◌<◌, ◌≤◌, ◌∷◌, [], ◌++◌, reverse, length, map, IfOk};
 ghost use Rattle.std.specs.List.{position};
-ghost use Rattle.puzzle_text.specs.Lines.{is_space_or_tab, is_hash, lines, numbered_from, raw_lines, strip_last, trim, trim_end, trim_start, without_ending};
+ghost use Rattle.puzzle_text.specs.Lines.{is_hash, lines, numbered_from, raw_lines, strip_last, trim, trim_end, trim_start, without_ending};
 ghost use Rattle.puzzle_text.specs.steps.Shown.{shown_line};
 
 use grid_core::NoMemory;
@@ -38,19 +38,10 @@ pub(crate) fn split_line(bytes: &[u8]) -> (&[u8], &[u8])
     }
 }
 
-fn is_space_or_tab(byte: u8) -> bool
-    ensures { result ≡ is_space_or_tab byte }
-{
-    byte == b' ' || byte == b'\t'
-}
-
 fn trim_start(mut bytes: &[u8]) -> &[u8]
     ensures { result.now ≡ trim_start bytes.entry.now }
 {
-    while let [first, rest @ ..] = bytes {
-        if !is_space_or_tab(*first) {
-            break;
-        }
+    while let [b' ' | b'\t', rest @ ..] = bytes {
         bytes = rest;
     }
     bytes
@@ -59,10 +50,7 @@ fn trim_start(mut bytes: &[u8]) -> &[u8]
 fn trim_end(mut bytes: &[u8]) -> &[u8]
     ensures { result.now ≡ trim_end bytes.entry.now }
 {
-    while let [rest @ .., last] = bytes {
-        if !is_space_or_tab(*last) {
-            break;
-        }
+    while let [rest @ .., b' ' | b'\t'] = bytes {
         bytes = rest;
     }
     bytes
@@ -92,18 +80,19 @@ pub(crate) fn without_ending(raw: &[u8]) -> &[u8]
     strip_last(strip_last(raw, b'\n'), b'\r')
 }
 
-/// Splits a text after its first line. Returns that line without its line ending, and the rest.
+/// Splits a text after its first line. Returns that line's text, without spaces and tabs at both
+/// ends, and the rest.
 #[tactic(auto, using(crate::proofs::LinesLemmas::line_at_feed, crate::proofs::LinesLemmas::line_at_end, std::proofs::lemmas::List::take_rest))]
 pub(crate) fn next_line(bytes: &[u8]) -> (&[u8], &[u8])
     requires { 0 < length bytes.now }
     ensures first { (number : ℕ) → numbered_from number (raw_lines bytes.now)
-        ≡ record { number = number; text = trim result.0.now }
+        ≡ record { number = number; text = result.0.now }
         ∷ numbered_from (number + 1) (raw_lines result.1.now) }
     ensures shorter { length result.1.now < length bytes.now }
 {
     match first_line_feed(bytes) {
-        Some(end) => (strip_last(&bytes[..end], b'\r'), &bytes[end + 1..]),
-        None => (strip_last(bytes, b'\r'), &[]),
+        Some(end) => (trim(strip_last(&bytes[..end], b'\r')), &bytes[end + 1..]),
+        None => (trim(strip_last(bytes, b'\r')), &[]),
     }
 }
 
@@ -111,10 +100,7 @@ pub(crate) fn next_line(bytes: &[u8]) -> (&[u8], &[u8])
 pub(crate) fn is_hash(line: &TextLine<'_>) -> bool
     ensures { result ≡ is_hash (shown_line line.now) }
 {
-    match line.text {
-        [first, ..] => *first == b'#',
-        [] => false,
-    }
+    matches!(line.text, [b'#', ..])
 }
 
 /// Returns all lines of a text, numbered from 1.
@@ -127,12 +113,9 @@ pub(crate) fn all_lines(alloc: Global, bytes: &[u8]) -> Result<Vec<TextLine<'_>>
     let mut rest = bytes;
     let mut number = 0u32;
     while !rest.is_empty() {
-        let (line, after) = next_line(rest);
+        let (text, after) = next_line(rest);
         number += 1;
-        found.push(TextLine {
-            number,
-            text: trim(line),
-        })?;
+        found.push(TextLine { number, text })?;
         rest = after;
     }
     Ok(found)

@@ -12,11 +12,11 @@ ghost use Rattle.puzzle_text.specs.steps.Shown.{shown_section_lines, shown_line}
 use crate::clue_lines::both_clues;
 use crate::faults::TextFault;
 use crate::limits::MAX_PUZZLE_LEN;
-use crate::lines::{TextLine, is_hash};
+use crate::lines::{TextLine, all_lines, is_hash};
 use crate::parts::puzzle_from_parts;
 use crate::quick::quick_mk;
 use crate::sections::{SectionLines, section_lines};
-use crate::sizes::{size_line, text_lines};
+use crate::sizes::size_line;
 use grid_core::{MAX_SIDE, NoMemory, Puzzle, Texts};
 use std::alloc::Global;
 
@@ -35,10 +35,8 @@ pub(crate) fn at_hash<'a, 'b>(
     ensures { option_map (λ parts. (map shown_line parts.0.now, map shown_line parts.1.now)) result
         ≡ at_hash (map shown_line lines.now) }
 {
-    match hash_place(lines) {
-        Some(place) => Some((&lines[..place], &lines[place + 1..])),
-        None => None,
-    }
+    let place = hash_place(lines)?;
+    Some((&lines[..place], &lines[place + 1..]))
 }
 
 #[tactic(auto, using(crate::proofs::ParsedLines::before_hash_found, crate::proofs::ParsedLines::before_hash_none))]
@@ -103,9 +101,7 @@ fn mk_of(alloc: Global, lines: &[TextLine<'_>]) -> Result<Puzzle, TextFault>
     ensures { Gives TextFault.NoMemory (λ p. p) result (mk_of MAX_SIDE (map shown_line lines.now)) }
 {
     let ((a, b), section) = size_line(lines)?;
-    let Some((rows, after)) = at_hash(section) else {
-        return Err(TextFault::NoSection);
-    };
+    let (rows, after) = at_hash(section).ok_or(TextFault::NoSection)?;
     let columns = before_hash(after);
     // The first size is the height; the other order is for texts in which that doesn't fit.
     if let Some((row_lines, column_lines)) = section_lines_of_both(alloc, b, a, rows, columns)? {
@@ -127,9 +123,12 @@ pub fn read_mk(alloc: Global, bytes: &[u8]) -> Result<Puzzle, TextFault>
     // `NoMemory` is never returned in place of this fault.
     ensures too_long { MAX_PUZZLE_LEN < length bytes.now → result ≡ Err TextFault.TooLong }
 {
+    if bytes.len() > MAX_PUZZLE_LEN {
+        return Err(TextFault::TooLong);
+    }
     if let Some(puzzle) = quick_mk(alloc, bytes) {
         return Ok(puzzle);
     }
-    let lines = text_lines(alloc, bytes)?;
+    let lines = all_lines(alloc, bytes)?;
     mk_of(alloc, &lines)
 }

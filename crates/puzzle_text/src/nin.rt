@@ -8,11 +8,11 @@ ghost use Rattle.puzzle_text.specs.steps.Shown.{shown_line};
 use crate::clue_lines::section_clues;
 use crate::faults::TextFault;
 use crate::limits::MAX_PUZZLE_LEN;
-use crate::lines::TextLine;
+use crate::lines::{TextLine, all_lines};
 use crate::orientation::orient;
 use crate::quick::quick_nin;
 use crate::sections::section_lines;
-use crate::sizes::{size_line, text_lines};
+use crate::sizes::size_line;
 use grid_core::{MAX_SIDE, Puzzle};
 use std::alloc::Global;
 
@@ -22,9 +22,7 @@ fn nin_of(alloc: Global, lines: &[TextLine<'_>]) -> Result<Puzzle, TextFault>
 {
     let ((a, b), section) = size_line(lines)?;
     let count = usize::from(a) + usize::from(b);
-    let Some(clue_lines) = section_lines(alloc, count, section)? else {
-        return Err(TextFault::BadCount);
-    };
+    let clue_lines = section_lines(alloc, count, section)?.ok_or(TextFault::BadCount)?;
     let clues = section_clues(alloc, &clue_lines)?;
     Ok(orient(a, b, clues)?)
 }
@@ -38,9 +36,12 @@ pub fn read_nin(alloc: Global, bytes: &[u8]) -> Result<Puzzle, TextFault>
     // `NoMemory` is never returned in place of this fault.
     ensures too_long { MAX_PUZZLE_LEN < length bytes.now → result ≡ Err TextFault.TooLong }
 {
+    if bytes.len() > MAX_PUZZLE_LEN {
+        return Err(TextFault::TooLong);
+    }
     if let Some(puzzle) = quick_nin(alloc, bytes) {
         return Ok(puzzle);
     }
-    let lines = text_lines(alloc, bytes)?;
+    let lines = all_lines(alloc, bytes)?;
     nin_of(alloc, &lines)
 }

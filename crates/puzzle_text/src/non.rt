@@ -1,7 +1,6 @@
 //! The reader for the format `.non`.
 
 ghost use Rattle.std.specs.Prelude.{◌≡◌, ◌<◌, map, length, Err, IfOk, OnOk};
-ghost use Rattle.std.specs.Result.{result_ok};
 ghost use Rattle.std.specs.Str.{str_to_ascii_lowercase};
 ghost use Rattle.grid_core.specs.Description.{IsDescription};
 ghost use Rattle.grid_core.specs.Nonogram.{HasClueForEachLine};
@@ -19,12 +18,13 @@ use crate::goals::goal_of;
 use crate::keyword_line::KeywordLine;
 use crate::keywords::{FIELDS, keyword_argument, keyword_lines, nth_with_keyword};
 use crate::limits::MAX_PUZZLE_LEN;
-use crate::lines::TextLine;
+use crate::lines::{TextLine, all_lines};
 use crate::parts::puzzle_from_parts;
 use crate::quick::quick_non;
-use crate::section_split::{Sections, clue_lines_of, sections_of};
-use crate::sizes::{size_of, text_lines};
-use grid_core::{Clue, MAX_SIDE, NoMemory, Puzzle};
+use crate::section_split::{Sections, sections_of};
+use crate::sections::section_lines;
+use crate::sizes::size_of;
+use grid_core::{Clue, MAX_SIDE, Puzzle};
 use std::alloc::Global;
 
 /// Returns the lesser of two numbers, of which a missing one is ignored; `None` if both are
@@ -54,10 +54,7 @@ fn second_number(lines: &[KeywordLine<'_>], word: &[u8]) -> Option<u32>
     ensures { result ≡ number_of_line
         (second_with (str_to_ascii_lowercase word.now) (map shown_keyword lines.now)) }
 {
-    match nth_with_keyword(word, 1, lines) {
-        Some(found) => Some(found.line.number),
-        None => None,
-    }
+    Some(nth_with_keyword(word, 1, lines)?.line.number)
 }
 
 /// Returns the number that `BadLine` is to report: the least of `stray`, which is that of the first
@@ -92,8 +89,7 @@ fn repeated(lines: &[KeywordLine<'_>]) -> Option<u32>
 #[tactic(auto, using(crate::proofs::FeedsLemmas::lawful_texts))]
 fn check_lines(keyword_lines: &[KeywordLine<'_>], stray: Option<u32>) -> Result<(), TextFault>
     requires { HaveNoFeed (map shown_keyword keyword_lines.now) }
-    ensures answer { Gives TextFault.NoMemory (λ done. done) result
-        (check_lines stray (map shown_keyword keyword_lines.now)) }
+    ensures answer { result ≡ check_lines stray (map shown_keyword keyword_lines.now) }
     ensures texts { OnOk result (IsDescription (texts_of (map shown_keyword keyword_lines.now))) }
 {
     if let Some(number) = bad_line(keyword_lines, stray) {
@@ -107,17 +103,12 @@ fn check_lines(keyword_lines: &[KeywordLine<'_>], stray: Option<u32>) -> Result<
 
 /// Parses the width and the height. Fails with `NoSize` if one of the two lines is missing, and
 /// otherwise with `BadSize` if one of the sizes is out of range.
-fn sizes_of(lines: &[KeywordLine<'_>]) -> Result<(u16, u16), TextFault>
-    ensures sizes { Gives TextFault.NoMemory (λ sizes. sizes) result
-        (sizes_of MAX_SIDE (map shown_keyword lines.now)) }
+pub(crate) fn sizes_of(lines: &[KeywordLine<'_>]) -> Result<(u16, u16), TextFault>
+    ensures sizes { result ≡ sizes_of MAX_SIDE (map shown_keyword lines.now) }
     ensures range { IfOk result (λ sizes. IsSize sizes.0 sizes.1) }
 {
-    let Some(width) = nth_with_keyword(b"width", 0, lines) else {
-        return Err(TextFault::NoSize);
-    };
-    let Some(height) = nth_with_keyword(b"height", 0, lines) else {
-        return Err(TextFault::NoSize);
-    };
+    let width = nth_with_keyword(b"width", 0, lines).ok_or(TextFault::NoSize)?;
+    let height = nth_with_keyword(b"height", 0, lines).ok_or(TextFault::NoSize)?;
     Ok((
         size_of(keyword_argument(width))?,
         size_of(keyword_argument(height))?,
@@ -127,15 +118,10 @@ fn sizes_of(lines: &[KeywordLine<'_>]) -> Result<(u16, u16), TextFault>
 /// Reports whether the rows section is before the columns section. Fails with `NoSection` if one of
 /// them is missing.
 fn rows_first(lines: &[KeywordLine<'_>]) -> Result<bool, TextFault>
-    ensures { Gives TextFault.NoMemory (λ first. first) result
-        (rows_first (map shown_keyword lines.now)) }
+    ensures { result ≡ rows_first (map shown_keyword lines.now) }
 {
-    let Some(rows) = nth_with_keyword(b"rows", 0, lines) else {
-        return Err(TextFault::NoSection);
-    };
-    let Some(columns) = nth_with_keyword(b"columns", 0, lines) else {
-        return Err(TextFault::NoSection);
-    };
+    let rows = nth_with_keyword(b"rows", 0, lines).ok_or(TextFault::NoSection)?;
+    let columns = nth_with_keyword(b"columns", 0, lines).ok_or(TextFault::NoSection)?;
     Ok(rows.line.number < columns.line.number)
 }
 
@@ -146,8 +132,7 @@ pub(crate) fn outline_of(
     stray: Option<u32>,
 ) -> Result<((u16, u16), bool), TextFault>
     requires { HaveNoFeed (map shown_keyword keyword_lines.now) }
-    ensures answer { Gives TextFault.NoMemory (λ outline. outline) result
-        (outline_of MAX_SIDE stray (map shown_keyword keyword_lines.now)) }
+    ensures answer { result ≡ outline_of MAX_SIDE stray (map shown_keyword keyword_lines.now) }
     ensures range { IfOk result (λ outline. IsSize outline.0.0 outline.0.1) }
     ensures texts { OnOk result (IsDescription (texts_of (map shown_keyword keyword_lines.now))) }
 {
@@ -193,8 +178,12 @@ fn build_puzzle(
         (map shown_keyword keyword_lines.now)) }
 {
     let ((width, height), rows_first) = outline_of(keyword_lines, sections.stray)?;
-    let rows = clue_lines_of(alloc, height, &sections.rows)?;
-    let columns = clue_lines_of(alloc, width, &sections.columns)?;
+    let Some(rows) = section_lines(alloc, usize::from(height), &sections.rows)? else {
+        return Err(TextFault::BadCount);
+    };
+    let Some(columns) = section_lines(alloc, usize::from(width), &sections.columns)? else {
+        return Err(TextFault::BadCount);
+    };
     let (rows, columns) = both_clues(alloc, rows_first, &rows, &columns)?;
     puzzle_of_clues(alloc, keyword_lines, width, height, rows, columns)
 }
@@ -219,22 +208,12 @@ pub fn read_non(alloc: Global, bytes: &[u8]) -> Result<Puzzle, TextFault>
     // `NoMemory` is never returned in place of this fault.
     ensures too_long { MAX_PUZZLE_LEN < length bytes.now → result ≡ Err TextFault.TooLong }
 {
+    if bytes.len() > MAX_PUZZLE_LEN {
+        return Err(TextFault::TooLong);
+    }
     if let Some(puzzle) = quick_non(alloc, bytes) {
         return Ok(puzzle);
     }
-    let lines = text_lines(alloc, bytes)?;
+    let lines = all_lines(alloc, bytes)?;
     non_of(alloc, &lines)
-}
-
-/// Returns the width and the height that the keyword lines say; `None` if there is a fault in
-/// them.
-pub(crate) fn known_sizes(lines: &[KeywordLine<'_>]) -> Result<Option<(u16, u16)>, NoMemory>
-    ensures { IfOk result (λ sizes. sizes
-        ≡ result_ok (sizes_of MAX_SIDE (map shown_keyword lines.now))) }
-{
-    match sizes_of(lines) {
-        Ok(sizes) => Ok(Some(sizes)),
-        Err(TextFault::NoMemory) => Err(NoMemory),
-        Err(_) => Ok(None),
-    }
 }

@@ -43,10 +43,7 @@ pub(crate) fn skip_separators(mut text: &[u8]) -> &[u8]
     ensures first { 0 < length result.now → is_separator (slice_index result.now 0) ≡ false }
     ensures within { length result.now ≤ length text.entry.now }
 {
-    while let [first, rest @ ..] = text {
-        if !is_separator(*first) {
-            break;
-        }
+    while let [b',' | b' ' | b'\t', rest @ ..] = text {
         text = rest;
     }
     text

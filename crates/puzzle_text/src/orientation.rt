@@ -75,28 +75,13 @@ fn is_other_admissible(width: u16, height: u16, rows: &[Clue], columns: &[Clue])
     in_rows.is_some() && in_rows == in_columns
 }
 
-/// Reports whether the puzzle is admissible with its own sizes.
-fn is_own_admissible(puzzle: &Puzzle) -> bool
-    ensures { result ≡ is_admissible puzzle.now }
-{
-    are_admissible(
-        puzzle.width(),
-        puzzle.height(),
-        puzzle.rows(),
-        puzzle.columns(),
-    )
-}
-
 /// Reports whether the puzzle's text in `.nin` would be read with the sizes exchanged.
 pub(crate) fn is_ambiguous(puzzle: &Puzzle) -> bool
     ensures { result ≡ is_ambiguous puzzle.now }
 {
-    puzzle.width() != puzzle.height()
-        && !is_own_admissible(puzzle)
-        && is_other_admissible(
-            puzzle.width(),
-            puzzle.height(),
-            puzzle.rows(),
-            puzzle.columns(),
-        )
+    let (width, height) = (puzzle.width(), puzzle.height());
+    let (rows, columns) = (puzzle.rows(), puzzle.columns());
+    width != height
+        && !are_admissible(width, height, rows, columns)
+        && is_other_admissible(width, height, rows, columns)
 }

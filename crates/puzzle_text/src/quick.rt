@@ -49,12 +49,9 @@ fn fast_puzzle(alloc: Global, fast_sections: FastSections<'_>) -> Result<Puzzle,
 /// same.
 #[tactic(auto, using(crate::proofs::FastLines::kept_clean))]
 pub(crate) fn quick_non(alloc: Global, bytes: &[u8]) -> Option<Puzzle>
-    ensures answer { IfSome result (λ p. read_non MAX_SIDE bytes.now ≡ Ok p) }
-    ensures short { IsSome result → length bytes.now ≤ MAX_PUZZLE_LEN }
+    requires { length bytes.now ≤ MAX_PUZZLE_LEN }
+    ensures { IfSome result (λ p. read_non MAX_SIDE bytes.now ≡ Ok p) }
 {
-    if bytes.len() > MAX_PUZZLE_LEN {
-        return None;
-    }
     fast_puzzle(alloc, fast_sections_of(alloc, bytes)?).ok()
 }
 
@@ -62,12 +59,9 @@ pub(crate) fn quick_non(alloc: Global, bytes: &[u8]) -> Option<Puzzle>
 /// just `#`, and there is no other line than those of the sizes and the clues. If it returns a
 /// puzzle, `read_mk` returns the same.
 pub(crate) fn quick_mk(alloc: Global, bytes: &[u8]) -> Option<Puzzle>
-    ensures answer { IfSome result (λ p. read_mk MAX_SIDE bytes.now ≡ Ok p) }
-    ensures short { IsSome result → length bytes.now ≤ MAX_PUZZLE_LEN }
+    requires { length bytes.now ≤ MAX_PUZZLE_LEN }
+    ensures { IfSome result (λ p. read_mk MAX_SIDE bytes.now ≡ Ok p) }
 {
-    if bytes.len() > MAX_PUZZLE_LEN {
-        return None;
-    }
     let ((height, width), after) = read_sizes(bytes)?;
     let (rows, middle) = read_clue_lines(alloc, height, after)?;
     let (columns, rest) = read_clue_lines(alloc, width, hash_line(middle)?)?;
@@ -80,12 +74,9 @@ pub(crate) fn quick_mk(alloc: Global, bytes: &[u8]) -> Option<Puzzle>
 /// Reads a `.nin` text in its usual form: there is no other line than those of the sizes and the
 /// clues. If it returns a puzzle, `read_nin` returns the same.
 pub(crate) fn quick_nin(alloc: Global, bytes: &[u8]) -> Option<Puzzle>
-    ensures answer { IfSome result (λ p. read_nin MAX_SIDE bytes.now ≡ Ok p) }
-    ensures short { IsSome result → length bytes.now ≤ MAX_PUZZLE_LEN }
+    requires { length bytes.now ≤ MAX_PUZZLE_LEN }
+    ensures { IfSome result (λ p. read_nin MAX_SIDE bytes.now ≡ Ok p) }
 {
-    if bytes.len() > MAX_PUZZLE_LEN {
-        return None;
-    }
     let ((a, b), after) = read_sizes(bytes)?;
     let (clues, rest) = read_clue_lines(alloc, a + b, after)?;
     if !rest.is_empty() {

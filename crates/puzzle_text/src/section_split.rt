@@ -2,15 +2,12 @@
 
 ghost use Rattle.std.specs.Prelude.{◌≡◌, map, length, IfOk, OnOk};
 ghost use Rattle.std.specs.Str.{str_to_ascii_lowercase};
-ghost use Rattle.puzzle_text.specs.Answers.{Gives};
-ghost use Rattle.puzzle_text.specs.Non.{clue_lines_of, placed, sections_of};
+ghost use Rattle.puzzle_text.specs.Non.{placed, sections_of};
 ghost use Rattle.puzzle_text.specs.steps.SectionSplit.{IsSectionOfKeyword, with_line};
-ghost use Rattle.puzzle_text.specs.steps.Shown.{shown_section_lines, shown_line, shown_sections};
+ghost use Rattle.puzzle_text.specs.steps.Shown.{shown_line, shown_sections};
 
-use crate::faults::TextFault;
 use crate::keywords::{keyword, same_word};
 use crate::lines::{TextLine, is_hash};
-use crate::sections::{SectionLines, section_lines};
 use grid_core::NoMemory;
 use std::alloc::Global;
 
@@ -91,20 +88,4 @@ pub(crate) fn sections_of<'a>(
         }
     }
     Ok(sections)
-}
-
-/// Returns the `count` clue lines of a section. Fails with `BadCount` if it doesn't have as many.
-pub(crate) fn clue_lines_of<'a, 'b>(
-    alloc: Global,
-    count: u16,
-    section: &'b [TextLine<'a>],
-) -> Result<SectionLines<'a, 'b>, TextFault>
-    ensures answer { Gives TextFault.NoMemory (λ clue_lines. shown_section_lines clue_lines) result
-        (clue_lines_of count (map shown_line section.now)) }
-    ensures length { IfOk result (λ clue_lines. length (shown_section_lines clue_lines) ≡ count) }
-{
-    match section_lines(alloc, usize::from(count), section)? {
-        Some(clue_lines) => Ok(clue_lines),
-        None => Err(TextFault::BadCount),
-    }
 }

@@ -60,14 +60,8 @@ fn leading_lines<'a, 'b>(count: usize, section: &'b [TextLine<'a>]) -> Option<&'
     ensures { option_map (λ first. map shown_line first.now) result
         ≡ leading_lines count (map shown_line section.now) }
 {
-    if section.len() < count {
-        return None;
-    }
-    let (first, others) = section.split_at(count);
-    if !are_blank(others) {
-        return None;
-    }
-    Some(first)
+    let (first, others) = section.split_at_checked(count)?;
+    are_blank(others).then_some(first)
 }
 
 /// Returns the `count` clue lines of a section: its non-blank lines, if there are `count` of them;
@@ -97,7 +91,7 @@ pub(crate) fn section_lines<'a, 'b>(
 
 /// Returns how many clue lines a section has that should have `wanted`: as many if `section_lines`
 /// finds them, and otherwise the number of its non-blank lines.
-#[tactic(auto, using(crate::proofs::SectionsLemmas::leading_lines_suffice, crate::proofs::CountsLemmas::counted_non_blank))]
+#[tactic(auto, using(crate::proofs::SectionsLemmas::leading_lines_suffice, crate::proofs::SectionsLemmas::no_section_lines, crate::proofs::SectionsLemmas::lengths))]
 pub(crate) fn clue_line_count(wanted: usize, section: &[TextLine<'_>]) -> usize
     ensures { result ≡ clue_line_count wanted (map shown_line section.now) }
 {

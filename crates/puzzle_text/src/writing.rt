@@ -5,7 +5,7 @@ ghost use Rattle.std.specs.List.{flat_map};
 ghost use Rattle.std.specs.Option.{option_map};
 ghost use Rattle.grid_core.specs.Description.{text_of};
 ghost use Rattle.puzzle_text.specs.Keywords.{field_word};
-ghost use Rattle.puzzle_text.specs.Written.{clue_lines, clue_text, goal_byte, goal_lines, is_ambiguous, quoted_line, text_fields, text_mk, text_nin, text_non, two_numbers};
+ghost use Rattle.puzzle_text.specs.Written.{clue_lines, clue_text, goal_byte, goal_lines, is_ambiguous, quoted_line, text_mk, text_nin, text_non, two_numbers};
 
 use crate::faults::WriteFault;
 use crate::keywords::{FIELDS, field_word};
@@ -106,12 +106,6 @@ fn push_fields(out: &mut Vec<u8>, texts: &Texts, fields: &[Field]) -> Result<(),
     Ok(())
 }
 
-fn push_texts(out: &mut Vec<u8>, texts: &Texts) -> Result<(), NoMemory>
-    ensures { OnOk result (out.new.items ≡ out.old.items ++ text_fields texts.now) }
-{
-    push_fields(out, texts, &FIELDS)
-}
-
 /// Appends the cells of a goal: `1` for a filled one, `0` for a blank one.
 fn push_cells(out: &mut Vec<u8>, cells: &[bool]) -> Result<(), NoMemory>
     ensures { OnOk result (out.new.items ≡ out.old.items ++ map goal_byte cells.now) }
@@ -140,7 +134,7 @@ pub fn write_non(alloc: Global, puzzle: &Puzzle) -> Result<Vec<u8>, NoMemory>
     ensures { IfOk result (λ text. text.items ≡ text_non puzzle.now) }
 {
     let mut out = Vec::new(alloc);
-    push_texts(&mut out, puzzle.texts())?;
+    push_fields(&mut out, puzzle.texts(), &FIELDS)?;
     out.extend_from_slice(b"width ")?;
     push_number(&mut out, u64::from(puzzle.width()))?;
     out.extend_from_slice(b"\nheight ")?;

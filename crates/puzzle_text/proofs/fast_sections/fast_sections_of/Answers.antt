@@ -14,7 +14,7 @@ lines-preserved-then-not-is_empty c =
     let kind = c.section_of_keyword.result in
     let rows = c.add.new.self.rows.items in
     let columns = c.add.new.self.columns.items in
-    let first = rw (← c.trim.ensures) at (c.next_line.ensures.first (c.lines.number + 1)) in
+    let first = c.next_line.ensures.first (c.lines.number + 1) in
     let place : c.lines.number + 1 + c.in_ok-count.count + 1 ≡ c.lines.number + 1 + 1 + length (clues_of_kind kind rows columns) =
     omega (arith, c.in_ok-count.ensures.count) in
     let some = none_is c.keyword-word.result.now _ _ c.keyword-word.ensures (sym c.is_empty-in-lines.ensures ∙ c.if-not-is_empty.true) in
@@ -31,7 +31,7 @@ lines-preserved-then-not-is_empty c =
 
 pub lines-preserved : goal.lines-preserved
 lines-preserved c =
-    let first = rw (← c.trim.ensures) at (c.next_line.ensures.first (c.lines.number + 1)) in
+    let first = c.next_line.ensures.first (c.lines.number + 1) in
     let above = rw first at c.lines.invariant.walk.1 in
     let none = none_is c.keyword-word.result.now _ _ c.keyword-word.ensures (sym c.is_empty-in-lines.ensures ∙ c.if-not-is_empty.false) in
     record {

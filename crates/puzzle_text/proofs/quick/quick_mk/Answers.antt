@@ -3,8 +3,8 @@ use Rattle.puzzle_text.proofs.Names.{arith, rules}
 use Rattle.puzzle_text.proofs.FastLines.{mk_parsed}
 use Rattle.puzzle_text.proofs.quick.quick_mk.Goals as goal
 
-pub returns-clause-answer : goal.returns-clause-answer
-returns-clause-answer c =
+pub returns : goal.returns
+returns c =
     rw (rw c.none.ensures at c.puzzle_from_parts.ensures)
     (mk_parsed c.args.bytes.now c.in_ok-height.after.now c.in_ok-rows.middle.now c.in_ok-hash_line.field-0.now
     c.in_ok-columns.rest.now _ _ _
