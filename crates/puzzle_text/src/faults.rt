@@ -6,75 +6,52 @@ ghost use Rattle.puzzle_text.specs.declared.faults.CollectionFault.TheVariants.{
 ghost use Rattle.puzzle_text.specs.declared.faults.WriteFault.TheVariants.{NoMemory as write_memory};
 
 use grid_core::NoMemory;
-use std::{error, fmt};
 use thiserror::Error;
 
 /// Why a puzzle's text is refused. Of several faults in a text, the first in the order of this list
 /// is reported, wherever in the text it is. Lines are numbered from 1.
-#[derive(Clone, Copy, Debug, PartialEq, Eq)]
+#[derive(Clone, Copy, Debug, PartialEq, Eq, Error)]
 pub enum TextFault {
     /// The text is longer than `MAX_PUZZLE_LEN` bytes.
+    #[error("the text has more than 1048576 bytes")]
     TooLong,
     /// In `.non`, there is no `width` line or no `height` line. In the other formats, there is no
     /// size line, or it doesn't consist of exactly two pieces.
+    #[error("the size is missing")]
     NoSize,
     /// One of the two sizes is not a number from 1 to 256.
+    #[error("a side is from 1 to 256")]
     BadSize,
     /// In `.non`, there is no `rows` line or no `columns` line. In `.mk`, no line after the size
     /// line begins with `#`.
+    #[error("a section is missing")]
     NoSection,
     /// In `.non`, this line is stray (not blank, neither a keyword line nor a comment, and in no
     /// section), or it is the first line of a text field and its text is longer than 65,536 bytes.
     /// The number is that of the first such line.
+    #[error("line {0} belongs nowhere or is too long")]
     BadLine(u32),
     /// In `.non`, this line repeats `width`, `height`, `rows` or `columns`. The number is that of
     /// the first such line.
+    #[error("line {0} repeats a keyword")]
     Twice(u32),
     /// A section doesn't have as many clue lines as the sizes require; in `.mk`, this is so for
     /// both orders of the sizes.
+    #[error("the number of clue lines does not fit the size")]
     BadCount,
     /// This clue line is not a clue: a piece of it is not a number, a 0 stands beside other
     /// numbers, a number is over 256, or there are more than 128 numbers. The number is that of the
     /// first such line.
+    #[error("line {0} is no clue")]
     BadNumber(u32),
     /// In `.non`, this line is the first `goal` line, and its text is not one `0` or `1` for each
     /// cell.
+    #[error("the goal of line {0} does not fit the size")]
     BadGoal(u32),
     /// An allocation failed. May be returned in place of any result except `TooLong`.
+    #[error("out of memory")]
     NoMemory,
 }
-
-impl TextFault {
-    /// Returns the printed sentence in three parts: the text before the line number, the number of
-    /// the line that the fault is about, if any, and the text after it.
-    fn sentence(self) -> (&'static str, Option<u32>, &'static str) {
-        match self {
-            TextFault::TooLong => ("the text has more than 1048576 bytes", None, ""),
-            TextFault::NoSize => ("the size is missing", None, ""),
-            TextFault::BadSize => ("a side is from 1 to 256", None, ""),
-            TextFault::NoSection => ("a section is missing", None, ""),
-            TextFault::BadLine(line) => ("line ", Some(line), " belongs nowhere or is too long"),
-            TextFault::Twice(line) => ("line ", Some(line), " repeats a keyword"),
-            TextFault::BadCount => ("the number of clue lines does not fit the size", None, ""),
-            TextFault::BadNumber(line) => ("line ", Some(line), " is no clue"),
-            TextFault::BadGoal(line) => ("the goal of line ", Some(line), " does not fit the size"),
-            TextFault::NoMemory => ("out of memory", None, ""),
-        }
-    }
-}
-
-impl fmt::Display for TextFault {
-    fn fmt<W: fmt::Write>(&self, f: &mut fmt::Formatter<W>) -> fmt::Result {
-        let (before, line, after) = self.sentence();
-        f.write_str(before)?;
-        if let Some(number) = line {
-            write!(f, "{number}{after}")?;
-        }
-        Ok(())
-    }
-}
-
-impl error::Error for TextFault {}
 
 impl From<NoMemory> for TextFault {
     ghost from_gives = { λ _ e. e ≡ text_memory };
