@@ -92,10 +92,7 @@ fn the_greatest_grid_is_copied(rt: HostRuntime) -> Result<(), Fail> {
 
 /// Reports whether `fault` is displayed as `sentence`.
 fn is_told<F: Display>(alloc: Global, fault: &F, sentence: &str) -> bool {
-    match format!(in alloc; "{fault}") {
-        Ok(text) => text.as_str() == sentence,
-        Err(_) => false,
-    }
+    format!(in alloc; "{fault}").is_ok_and(|text| text.as_str() == sentence)
 }
 
 /// Each fault of a text, with its sentence.

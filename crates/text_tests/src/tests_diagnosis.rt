@@ -1,23 +1,21 @@
-//! Tests of what a diagnosis says of refused texts.
+//! Tests of what a diagnosis says of refused texts, beside those in `tests_refused_diagnosis`.
 
 use puzzle_text::*;
 use std::alloc::Global;
 use std::test::Fail;
 
-/// Returns the diagnosis of a text that the format's reader refuses, or `None` if it accepts it.
+/// Returns the diagnosis of a text, which the format's reader has to refuse.
 fn diagnosis_of<'a>(
     alloc: Global,
     format: Format,
     text: &'a [u8],
-) -> Result<Option<TextDiagnosis<'a>>, Fail> {
-    match format.read(alloc, text) {
-        Ok(_) => Ok(None),
-        Err(fault) => Ok(Some(diagnose_text(alloc, format, text, fault)?)),
-    }
+) -> Result<TextDiagnosis<'a>, Fail> {
+    let fault = format.read(alloc, text).err().ok_or("a text is accepted")?;
+    Ok(diagnose_text(alloc, format, text, fault)?)
 }
 
 /// Refused texts, each with its fault, the text of the line that this names, and its form.
-static REFUSED: [(Format, &[u8], TextFault, Option<&[u8]>, Option<TextForm>); 9] = [
+static REFUSED: [(Format, &[u8], TextFault, Option<&[u8]>, Option<TextForm>); 7] = [
     (
         Format::Mk,
         b"\xEF\xBB\xBF1 1\n1\n#\n1\n",
@@ -60,29 +58,13 @@ static REFUSED: [(Format, &[u8], TextFault, Option<&[u8]>, Option<TextForm>); 9]
         Some(b"7"),
         None,
     ),
-    (
-        Format::Non,
-        b"width 1\nheight 1\nrows\n1\ncolumns\n1\nWidth 2",
-        TextFault::Twice(7),
-        Some(b"Width 2"),
-        Some(TextForm::SecondPuzzle { line: 7 }),
-    ),
-    (
-        Format::Non,
-        b"width 1\nheight 1\nrows\n1\ncolumns\n1\ngoal x\n",
-        TextFault::BadGoal(7),
-        Some(b"goal x"),
-        None,
-    ),
     (Format::Nin, b"1 1\n1\n", TextFault::BadCount, None, None),
 ];
 
 #[test]
 fn a_diagnosis_has_the_named_line_and_the_form(rt: HostRuntime) -> Result<(), Fail> {
     for (format, text, fault, line, form) in REFUSED {
-        let Some(found) = diagnosis_of(rt.alloc(), format, text)? else {
-            panic!(rt; "{fault} is not reported");
-        };
+        let found = diagnosis_of(rt.alloc(), format, text)?;
         assert_eq!(rt; found.fault, fault);
         assert_eq!(rt; found.line, line);
         assert_eq!(rt; found.form, form);
@@ -91,7 +73,7 @@ fn a_diagnosis_has_the_named_line_and_the_form(rt: HostRuntime) -> Result<(), Fa
 }
 
 /// Refused texts, each with its fault, and what it has and should have.
-static COUNTED: [(Format, &[u8], TextFault, Option<TextCounts>); 9] = [
+static COUNTED: [(Format, &[u8], TextFault, Option<TextCounts>); 6] = [
     // The blank line is no clue line, since two lines come below it.
     (
         Format::Non,
@@ -125,39 +107,6 @@ static COUNTED: [(Format, &[u8], TextFault, Option<TextCounts>); 9] = [
         }),
     ),
     (
-        Format::Mk,
-        b"2 3\n1\n1\n#\n1\n1\n#\n1\n",
-        TextFault::BadCount,
-        Some(TextCounts::Sections {
-            rows: Count {
-                found: 2,
-                wanted: 2,
-            },
-            columns: Count {
-                found: 2,
-                wanted: 3,
-            },
-        }),
-    ),
-    (
-        Format::Nin,
-        b"2 3\n1\n1\n1\n1\n",
-        TextFault::BadCount,
-        Some(TextCounts::Together(Count {
-            found: 4,
-            wanted: 5,
-        })),
-    ),
-    (
-        Format::Non,
-        b"width 2\nheight 1\nrows\n1\ncolumns\n1\n0\ngoal \"101\"\n",
-        TextFault::BadGoal(8),
-        Some(TextCounts::Goal(Count {
-            found: 3,
-            wanted: 2,
-        })),
-    ),
-    (
         Format::Non,
         b"width 1\nheight 1\nrows\n1\ncolumns\n1\ngoal x\n",
         TextFault::BadGoal(7),
@@ -174,9 +123,7 @@ static COUNTED: [(Format, &[u8], TextFault, Option<TextCounts>); 9] = [
 #[test]
 fn a_diagnosis_counts_what_is_found_and_wanted(rt: HostRuntime) -> Result<(), Fail> {
     for (format, text, fault, counts) in COUNTED {
-        let Some(found) = diagnosis_of(rt.alloc(), format, text)? else {
-            panic!(rt; "{fault} is not reported");
-        };
+        let found = diagnosis_of(rt.alloc(), format, text)?;
         assert_eq!(rt; found.fault, fault);
         assert_eq!(rt; found.counts, counts);
     }
@@ -184,21 +131,13 @@ fn a_diagnosis_counts_what_is_found_and_wanted(rt: HostRuntime) -> Result<(), Fa
 }
 
 /// Refused `.non` texts, each with its fault and the form by which the keyword lines explain it.
-static KEYWORDS: [(&[u8], TextFault, Option<TextForm>); 8] = [
+static KEYWORDS: [(&[u8], TextFault, Option<TextForm>); 7] = [
     (
         b"Widht 3\nheight 1\n",
         TextFault::NoSize,
         Some(TextForm::Misspelt {
             line: 1,
             keyword: NeededKeyword::Width,
-        }),
-    ),
-    (
-        b"width 3\nhight 1\nheigth 2\n",
-        TextFault::NoSize,
-        Some(TextForm::Misspelt {
-            line: 2,
-            keyword: NeededKeyword::Height,
         }),
     ),
     (
@@ -236,9 +175,7 @@ static KEYWORDS: [(&[u8], TextFault, Option<TextForm>); 8] = [
 #[test]
 fn keyword_lines_explain_a_fault(rt: HostRuntime) -> Result<(), Fail> {
     for (text, fault, form) in KEYWORDS {
-        let Some(found) = diagnosis_of(rt.alloc(), Format::Non, text)? else {
-            panic!(rt; "{fault} is not reported");
-        };
+        let found = diagnosis_of(rt.alloc(), Format::Non, text)?;
         assert_eq!(rt; found.fault, fault);
         assert_eq!(rt; found.form, form);
     }
@@ -268,9 +205,7 @@ static SECOND: [(Format, &[u8], Option<u32>); 11] = [
 #[test]
 fn lines_below_a_puzzle_begin_a_second_one(rt: HostRuntime) -> Result<(), Fail> {
     for (format, text, line) in SECOND {
-        let Some(found) = diagnosis_of(rt.alloc(), format, text)? else {
-            panic!(rt; "a text is accepted");
-        };
+        let found = diagnosis_of(rt.alloc(), format, text)?;
         assert_eq!(rt; found.fault, TextFault::BadCount);
         assert_eq!(rt;
             found.form,

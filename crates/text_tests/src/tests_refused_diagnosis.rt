@@ -43,7 +43,7 @@ static DIAGNOSES: [(Format, &[u8], TextDiagnosis<'static>); 7] = [
     ),
     (
         Format::Non,
-        b"width 3\nhight 1\n",
+        b"width 3\nhight 1\nheigth 2\n",
         TextDiagnosis {
             fault: TextFault::NoSize,
             line: None,
@@ -66,7 +66,7 @@ static DIAGNOSES: [(Format, &[u8], TextDiagnosis<'static>); 7] = [
     ),
     (
         Format::Mk,
-        b"2 3\n1\n1\n#\n1\n1\n",
+        b"2 3\n1\n1\n#\n1\n1\n#\n1\n",
         TextDiagnosis {
             fault: TextFault::BadCount,
             line: None,
@@ -129,6 +129,7 @@ fn is_diagnosed_or_refused(
 #[test]
 fn texts_are_diagnosed_or_refused(rt: HostRuntime) -> Result<(), Fail> {
     for (format, text, wanted) in &DIAGNOSES {
+        assert!(rt; format.read(rt.alloc(), text).err() == Some(wanted.fault));
         is_diagnosed_or_refused(rt.alloc(), *format, text, wanted)?;
     }
     Ok(())
