@@ -4,7 +4,8 @@
 Usage: texts_test.py [--program PROGRAM] [--library FOLDER], at least one of both
 
 The texts are: variants of five short texts, each byte of them replaced by each byte among these; random texts; made
-puzzles; and tables of texts whose meaning was worked out by hand from docs/formats.md. Each is read in the three formats.
+puzzles, and these with a few changes; and tables of texts whose meaning was worked out by hand from docs/formats.md. Each
+is read in the three formats, but made puzzles in their own.
 The last line printed is `N passed, M failed`; a line `FAILED ...` stands above it for each comparison that failed, and the
 test stops after 20 of them.
 """
@@ -19,6 +20,7 @@ from readers import MAX_COLLECTION, MAX_ENTRIES, MAX_TEXT, Fault, Puzzle
 
 RANDOM_TEXTS = 10_000
 MADE_PUZZLES = 2_000
+CHANGED_TEXTS = 2_000  # in each format
 
 VERDICTS = (b"none", b"one", b"several", b"unsettled")
 GRADES = (b"line", b"trials", b"search")
@@ -673,6 +675,40 @@ def random_texts():
         yield bytes([RANDOM_BYTES[draw(len(RANDOM_BYTES))] for _ in range(length)])
 
 
+def changed(source, text):
+    """Returns a text with a byte replaced, inserted or dropped, or with a line repeated, dropped or moved."""
+    lines = text.splitlines(keepends=True) or [b""]
+    index, place = source.randrange(len(text) + 1), source.randrange(len(lines))
+    new = bytes([source.choice(RANDOM_BYTES)])
+    match source.randrange(6):
+        case 0:
+            return text[:index] + new + text[index + 1 :]
+        case 1:
+            return text[:index] + new + text[index:]
+        case 2:
+            return text[:index] + text[index + 1 :]
+        case 3:
+            return b"".join(lines[:place] + lines[place : place + 1] + lines[place:])
+        case 4:
+            return b"".join(lines[:place] + lines[place + 1 :])
+        case _:
+            line = lines.pop(place)
+            lines.insert(source.randrange(len(lines) + 1), line)
+            return b"".join(lines)
+
+
+def changed_texts(made):
+    """Yields pairs of a format and a text: texts of puzzles in that format, with one to four changes."""
+    source = random.Random(2)
+    for format in FORMATS:
+        texts = [text for its_format, text in made if its_format == format]
+        for _ in range(CHANGED_TEXTS):
+            text = source.choice(texts)
+            for _ in range(source.randint(1, 4)):
+                text = changed(source, text)
+            yield format, text
+
+
 def runs(cells):
     """Returns the clue of a line whose cells are bytes, b"1" for filled and b"0" for blank."""
     return tuple(map(len, cells.replace(b"0", b" ").split()))
@@ -883,6 +919,7 @@ def test(results, program, library):
     source = random.Random(1)
     test_readers(results)
     made = test_made_puzzles(results, [made_puzzle(source) for _ in range(MADE_PUZZLES)])
+    made.extend(changed_texts(list(made)))
     if library:
         test_with_library(results, library, made)
     if program:
