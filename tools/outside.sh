@@ -673,8 +673,8 @@ try wakes:60 - surveyed_300 survey --lanes 1 $(lines 300 heart.non)
 try parks:20 - surveyed_singles survey --lanes 1 singles.nin
 
 # Little room for addresses.
-try_little_room 12000 closed_full lines full.non
-try_little_room 12000 solved_full solve full.non
+try_little_room 10000 closed_full lines full.non
+try_little_room 10000 solved_full solve full.non
 try_little_room 10000 written_ones convert --to non ones.non
 try_little_room 100000 survey survey
 try_little_room 100000 shown_full survey --show full.non full.non full.non

@@ -2,7 +2,7 @@
 //! with the parsers of `fast_lines` for clue lines. What a fast reader doesn't accept, be it a
 //! fault or an unusual line, the general reader reads from the start.
 
-ghost use Rattle.std.specs.Prelude.{◌≡◌, ◌≤◌, length, map, IfOk, IfSome, IsSome, Ok};
+ghost use Rattle.std.specs.Prelude.{◌≡◌, ◌≤◌, length, map, IfOk, IfSome, Ok};
 ghost use Rattle.puzzle_text.specs.Mk.{read_mk};
 ghost use Rattle.puzzle_text.specs.Nin.{read_nin};
 ghost use Rattle.puzzle_text.specs.Non.{build_puzzle, read_non, Sections};

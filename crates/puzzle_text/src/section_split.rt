@@ -1,6 +1,6 @@
 //! Splits the lines of a `.non` text into its sections.
 
-ghost use Rattle.std.specs.Prelude.{◌≡◌, map, length, IfOk, OnOk};
+ghost use Rattle.std.specs.Prelude.{◌≡◌, map, IfOk, OnOk};
 ghost use Rattle.std.specs.Str.{str_to_ascii_lowercase};
 ghost use Rattle.puzzle_text.specs.Non.{placed, sections_of};
 ghost use Rattle.puzzle_text.specs.steps.SectionSplit.{IsSectionOfKeyword, with_line};

@@ -59,7 +59,8 @@ fn first_non_blank<'a, 'b>(lines: &'b [TextLine<'a>]) -> Option<(TextLine<'a>, &
 pub(crate) fn size_line<'a, 'b>(
     lines: &'b [TextLine<'a>],
 ) -> Result<((u16, u16), &'b [TextLine<'a>]), TextFault>
-    ensures answer { result_map_both (λ found. (found.0, map shown_line found.1.now)) (λ fault. fault) result
+    ensures answer { result_map_both
+        (λ found. (found.0, map shown_line found.1.now)) (λ fault. fault) result
         ≡ size_line MAX_SIDE (map shown_line lines.now) }
     ensures range { IfOk result (λ found. IsSize found.0.0 found.0.1) }
 {

@@ -6,7 +6,7 @@ ghost use Rattle.grid_core.specs.PartialGrid.{IsSize};
 ghost use Rattle.line_core.specs.Deduction.{deduced};
 ghost use Rattle.line_core.specs.Lookahead.{AreInert};
 
-use crate::deducing::deduction_cache::{DeductionCache, copy_answer};
+use crate::deducing::deduction_cache::{CachedDeduction, DeductionCache};
 use crate::deducing::lookahead_tables::LookaheadTables;
 use grid_core::{Clue, MAX_SIDE, NoMemory};
 use line_core::{BitLine, LineBits, Tables};
@@ -44,6 +44,16 @@ impl<W: LineBits> Model for Deducer<W> {
     ghost view = { λ d. d.clues.items };
 
     ghost invariant = { λ d. AreDeductionsOf W.WIDTH d.clues.items d.cache d.lookahead };
+}
+
+/// Returns a copy of `answer`.
+fn copy_answer<W: LineBits>(answer: &Option<BitLine<W>>) -> Option<BitLine<W>>
+    ensures { result ≡ answer.now }
+{
+    match answer {
+        None => None,
+        Some(line) => Some(line.copy()),
+    }
 }
 
 /// Appends copies of `clues` to `list`. Fails with `NoMemory` if an allocation fails.
@@ -89,14 +99,14 @@ impl<W: LineBits> Deducer<W> {
         let Deducer {
             mut clues,
             tables,
-            mut cache,
+            cache,
             mut lookahead,
         } = self;
         clues.clear();
         append_clues(alloc, &mut clues, rows)?;
         append_clues(alloc, &mut clues, columns)?;
         let (width, height) = (columns.len(), rows.len());
-        cache.reset(alloc, width * height)?;
+        let cache = cache.reset(alloc, width * height)?;
         lookahead.reset(alloc, width as u16, height as u16)?;
         Ok(Deducer {
             clues,
@@ -153,7 +163,14 @@ impl<W: LineBits> Deducer<W> {
             return copy_answer(&deduction.answer);
         }
         let answer = W::deduce(&mut self.tables, line, self.clues[usize::from(k)].numbers());
-        self.cache.insert(slot, k, line, &answer);
+        self.cache.insert(
+            slot,
+            CachedDeduction {
+                clue: k,
+                line: line.copy(),
+                answer: copy_answer(&answer),
+            },
+        );
         answer
     }
 }

@@ -1,25 +1,28 @@
 //! A cache of deduced lines.
-ghost use Rattle.std.specs.Prelude.{◌≡◌, ◌≤◌, vec_capacity, IsTrue, IfOk, IfSome, OnOk};
-ghost use Rattle.solve_core.specs.steps.DeductionCache.{HasNone, HoldSame, IsCached, IsInserted, IsWithin};
+ghost use Rattle.std.specs.Prelude.{[], ◌≡◌, ◌≤◌, vec_capacity, IsTrue, IfOk, IfSome, All};
+ghost use Rattle.std.specs.List.{Contains};
+ghost use Rattle.solve_core.specs.steps.DeductionCache.{IsInsertedInto};
 
+use crate::buffers::cleared_with_capacity;
 use grid_core::NoMemory;
 use line_core::{BitLine, LineBits};
 use std::alloc::Global;
 use std::marker::Model;
 
-/// How many deductions are cached at most.
+/// How many deductions are cached at most, in sets of 64 indices; fewer in wider ones.
 pub const MAX_CACHED: usize = 16384;
 
-/// How many deductions are cached for each cell of a puzzle, up to `MAX_CACHED`.
+/// How many deductions are cached for each cell of a puzzle, up to the most for the set width.
 const CACHED_PER_CELL: usize = 16;
 
-/// The number of a puzzle, the index of a line's clue, the line's cells, and the deduced line,
-/// which is `None` if the line is dead.
+/// The content of an empty slot, which is no deduction's index.
+const EMPTY_SLOT: u16 = u16::MAX;
+
+/// The cells of a line, the index of its clue, and its deduced line; `None` if it is dead.
 #[derive(Drop)]
 pub struct CachedDeduction<W: LineBits> {
-    puzzle: u32,
-    clue: u16,
-    line: BitLine<W>,
+    pub clue: u16,
+    pub line: BitLine<W>,
     pub answer: Option<BitLine<W>>,
 }
 
@@ -28,68 +31,65 @@ impl<W: LineBits> Model for CachedDeduction<W> {
 
     ghost Value = { CachedLine };
 
-    ghost view = { λ d. record {
-      puzzle = d.puzzle;
-      clue = d.clue;
-      line = d.line;
-      answer = d.answer;
-    } };
+    ghost view = { λ d. record { clue = d.clue; line = d.line; answer = d.answer } };
 }
 
 impl<W: LineBits> CachedDeduction<W> {
-    /// Reports whether this is the deduction of a line with the cells of `line` and clue `k` of the
-    /// puzzle with number `puzzle`.
-    fn is_of(&self, puzzle: u32, k: u16, line: &BitLine<W>) -> bool
-        ensures { IsTrue result
-            → (self.now.puzzle ≡ puzzle) × (self.now.clue ≡ k) × (self.now.line ≡ line.now) }
+    /// Reports whether this is the deduction of a line with the cells of `line` and clue `k`.
+    fn is_of(&self, k: u16, line: &BitLine<W>) -> bool
+        ensures { IsTrue result → (self.now.clue ≡ k) × (self.now.line ≡ line.now) }
     {
-        self.puzzle == puzzle && self.clue == k && self.line.is_same(line)
+        self.clue == k && self.line.is_same(line)
     }
 }
 
-/// Returns a copy of `answer`.
-pub fn copy_answer<W: LineBits>(answer: &Option<BitLine<W>>) -> Option<BitLine<W>>
-    ensures { result ≡ answer.now }
+/// Returns how many deductions are cached at most in sets of width `W::WIDTH`: the wider the sets,
+/// the fewer, so that the cache takes about the same memory.
+fn max_cached<W: LineBits>() -> usize
+    ensures { (1 ≤ result) × (result ≤ MAX_CACHED) }
 {
-    match answer {
-        None => None,
-        Some(line) => Some(line.copy()),
-    }
+    (MAX_CACHED * 64 / usize::from(W::WIDTH)).min(MAX_CACHED)
 }
 
 /// Returns how many deductions are cached for a puzzle of `cells` cells: a power of two.
-fn capacity_for(cells: usize) -> usize
+fn capacity_for<W: LineBits>(cells: usize) -> usize
     requires { cells ≤ 65536 }
     ensures { (1 ≤ result) × (result ≤ MAX_CACHED) }
 {
     (cells * CACHED_PER_CELL)
         .next_power_of_two()
-        .min(MAX_CACHED)
+        .min(max_cached::<W>())
 }
 
-/// Appends empty slots to `slots` until there are `count`, for which its capacity has to suffice.
-fn add_slots<W: LineBits>(slots: &mut Vec<Option<CachedDeduction<W>>>, count: usize)
-    requires { count ≤ vec_capacity slots.old }
-    ensures same { HoldSame slots.old.items slots.new.items }
-    ensures capacity { vec_capacity slots.new ≡ vec_capacity slots.old }
+/// Replaces the deduction with number `index` by `deduction`. If there is none, appends `deduction`
+/// and writes its number to `index`, unless there are `capacity` deductions already.
+fn insert_entry<W: LineBits>(
+    entries: &mut Vec<CachedDeduction<W>>,
+    index: &mut u16,
+    capacity: usize,
+    deduction: CachedDeduction<W>,
+)
+    requires fits { capacity ≤ vec_capacity entries.old }
+    requires few { capacity ≤ MAX_CACHED }
+    ensures entries { All (IsInsertedInto entries.old.items deduction) entries.new.items }
+    ensures fits { vec_capacity entries.new ≡ vec_capacity entries.old }
 {
-    while slots.len() < count {
-        slots.push_reserved(None);
+    let count = entries.len();
+    let place = usize::from(*index);
+    if place < count {
+        entries[place] = deduction;
+    } else if count < capacity {
+        *index = count as u16;
+        entries.push_reserved(deduction);
     }
 }
 
 /// Deductions that are kept once the cache is enabled. A line with its clue's index hashes to one
-/// slot, and a new deduction replaces the one in its slot. Those of earlier puzzles stay until they
-/// are replaced, since clearing all slots for each puzzle takes longer than solving a small one.
+/// slot, and a new deduction replaces the one in its slot.
 pub struct DeductionCache<W: LineBits> {
-    /// The number of the puzzle, greater than those of earlier puzzles in the slots.
-    puzzle: u32,
-    /// How many slots are used for this puzzle: a power of two.
     capacity: usize,
-    /// Whether deductions of this puzzle are kept.
-    is_enabled: bool,
-    /// The slots, at least as many as are used once the cache is enabled.
-    slots: Vec<Option<CachedDeduction<W>>>,
+    slots: Vec<u16>,
+    entries: Vec<CachedDeduction<W>>,
 }
 
 /// Written by hand so that callers' proofs see one call: a derived drop is expanded at each exit of
@@ -97,74 +97,77 @@ pub struct DeductionCache<W: LineBits> {
 impl<W: LineBits> Drop for DeductionCache<W> {
     fn drop(self) {
         let DeductionCache {
-            puzzle: _,
             capacity: _,
-            is_enabled: _,
             slots: _,
+            entries: _,
         } = self;
     }
 }
 
 impl<W: LineBits> Model for DeductionCache<W> {
-    ghost use Rattle.std.specs.Prelude.{◌≤◌, vec_capacity};
-    ghost use Rattle.solve_core.specs.steps.DeductionCache.{AreUpTo, Cache};
+    ghost use Rattle.std.specs.Prelude.{◌≤◌, List, vec_capacity};
+    ghost use Rattle.solve_core.specs.steps.DeductionCache.{CachedLine};
     ghost use Rattle.solve_core.specs.declared.deducing.deduction_cache.TheConstants.{MAX_CACHED};
 
-    ghost Value = { Cache };
+    ghost Value = { List CachedLine };
 
-    ghost view = { λ d. record { puzzle = d.puzzle; slots = d.slots.items } };
+    ghost view = { λ d. d.entries.items };
 
-    ghost invariant = { λ d. (1 ≤ d.capacity) × (d.capacity ≤ MAX_CACHED)
-        × (d.capacity ≤ vec_capacity d.slots) × AreUpTo d.puzzle d.slots.items };
+    ghost invariant = { λ d.
+        (1 ≤ d.capacity) × (d.capacity ≤ MAX_CACHED) × (d.capacity ≤ vec_capacity d.entries) };
 }
 
 impl<W: LineBits> DeductionCache<W> {
-    /// Returns a cache for one deduction. Fails with `NoMemory` if an allocation fails.
-    pub fn new(alloc: Global) -> Result<DeductionCache<W>, NoMemory>
-        ensures { IfOk result HasNone }
+    /// Returns an empty cache for `capacity` deductions, 1 to 16,384, in the buffers `slots` and
+    /// `entries`. Fails with `NoMemory` if an allocation fails.
+    fn in_buffers(
+        alloc: Global,
+        slots: Vec<u16>,
+        entries: Vec<CachedDeduction<W>>,
+        capacity: usize,
+    ) -> Result<DeductionCache<W>, NoMemory>
+        requires { (1 ≤ capacity) × (capacity ≤ MAX_CACHED) }
+        ensures { IfOk result (λ cache. cache ≡ []) }
     {
-        let mut slots = Vec::new(alloc);
-        slots.reserve(1)?;
         Ok(DeductionCache {
-            puzzle: 0,
-            capacity: 1,
-            is_enabled: false,
-            slots,
+            capacity,
+            slots: cleared_with_capacity(alloc, slots, capacity)?,
+            entries: cleared_with_capacity(alloc, entries, capacity)?,
         })
     }
 
-    /// Turns to the next puzzle, which has `cells` cells, with slots in proportion to these.
-    /// Nothing is cached before `enable` is called. Fails with `NoMemory` if an allocation fails.
-    pub fn reset(&mut self, alloc: Global, cells: usize) -> Result<(), NoMemory>
-        requires { cells ≤ 65536 }
-        ensures { OnOk result (HasNone self.new) }
+    /// Returns a cache for one deduction. Fails with `NoMemory` if an allocation fails.
+    pub fn new(alloc: Global) -> Result<DeductionCache<W>, NoMemory>
+        ensures { IfOk result (λ cache. cache ≡ []) }
     {
-        let capacity = capacity_for(cells);
-        self.slots
-            .reserve(capacity.saturating_sub(self.slots.len()))?;
-        match self.puzzle.checked_add(1) {
-            Some(next) => self.puzzle = next,
-            None => {
-                self.slots.clear();
-                self.puzzle = 0;
-            }
-        }
-        self.capacity = capacity;
-        self.is_enabled = false;
-        Ok(())
+        DeductionCache::in_buffers(alloc, Vec::new(alloc), Vec::new(alloc), 1)
+    }
+
+    /// Returns the cache, emptied, and with buffers in proportion to the `cells` of a puzzle.
+    /// Nothing is cached before `enable` is called. Fails with `NoMemory` if an allocation fails.
+    pub fn reset(self, alloc: Global, cells: usize) -> Result<DeductionCache<W>, NoMemory>
+        requires { cells ≤ 65536 }
+        ensures { IfOk result (λ cache. cache ≡ []) }
+    {
+        let DeductionCache {
+            capacity: _,
+            slots,
+            entries,
+        } = self;
+        DeductionCache::in_buffers(alloc, slots, entries, capacity_for::<W>(cells))
     }
 
     /// Enables the cache, and has no effect if it is enabled. Allocates nothing.
     pub fn enable(&mut self)
-        ensures { IsWithin self.old self.new }
+        ensures { self.new ≡ self.old }
     {
-        add_slots(&mut self.slots, self.capacity);
-        self.is_enabled = true;
+        // This can't fail, since the capacity suffices.
+        let _ = self.slots.resize(self.capacity, EMPTY_SLOT);
     }
 
     /// Reports whether the cache is enabled.
     pub fn is_enabled(&self) -> bool {
-        self.is_enabled
+        !self.slots.is_empty()
     }
 
     /// Returns the slot of a line with clue `k`.
@@ -179,28 +182,24 @@ impl<W: LineBits> DeductionCache<W> {
     /// Returns the deduction in `slot` if it is of a line with the cells of `line` and clue `k`.
     pub fn get(&self, slot: usize, k: u16, line: &BitLine<W>) -> Option<&CachedDeduction<W>>
         ensures { IfSome result (λ d.
-            IsCached self.now slot d.now × (d.now.clue ≡ k) × (d.now.line ≡ line.now)) }
+            Contains self.now d.now × (d.now.clue ≡ k) × (d.now.line ≡ line.now)) }
     {
-        let deduction = self.slots.get(slot)?.as_ref()?;
-        if deduction.is_of(self.puzzle, k, line) {
+        let index = self.slots.get(slot)?;
+        let deduction = self.entries.get(usize::from(*index))?;
+        if deduction.is_of(k, line) {
             Some(deduction)
         } else {
             None
         }
     }
 
-    /// Puts `answer`, deduced of a line with the cells of `line` and clue `k`, into `slot`, in
-    /// place of what was there. Has no effect if there is no such slot.
-    pub fn insert(&mut self, slot: usize, k: u16, line: &BitLine<W>, answer: &Option<BitLine<W>>)
-        ensures { IsInserted self.old k line.now answer.now self.new }
+    /// Puts `deduction` into `slot`, in place of the one that was there. Has no effect if the cache
+    /// isn't enabled.
+    pub fn insert(&mut self, slot: usize, deduction: CachedDeduction<W>)
+        ensures { All (IsInsertedInto self.old deduction) self.new }
     {
-        if let Some(old) = self.slots.get_mut(slot) {
-            *old = Some(CachedDeduction {
-                puzzle: self.puzzle,
-                clue: k,
-                line: line.copy(),
-                answer: copy_answer(answer),
-            });
+        if let Some(index) = self.slots.get_mut(slot) {
+            insert_entry(&mut self.entries, index, self.capacity, deduction);
         }
     }
 }

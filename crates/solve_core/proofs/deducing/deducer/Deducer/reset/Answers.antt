@@ -12,4 +12,4 @@ reset-requires g c = few_cells _ _ c.requires.size
 pub invariant_of-result : goal.invariant_of-result
 invariant_of-result g c =
     none_deduced _ _ _ _ (rw (c.in_ok-append_clues-2.ensures, c.in_ok-append_clues.ensures, c.clear.ensures.items) c.requires.clues)
-    c.in_ok-reset.ensures c.reset-2.ensures
+    c.in_ok-cache.ensures c.reset-2.ensures
