@@ -1,5 +1,5 @@
 //! Workspaces in the narrowest sets that fit their puzzles. Nothing else knows the set widths.
-ghost use Rattle.std.specs.Prelude.{◌≡◌, IfOk};
+ghost use Rattle.std.specs.Prelude.{◌≡◌, IfOk, OnOk};
 ghost use Rattle.grid_core.specs.Nonogram.{lines_of};
 ghost use Rattle.solve_core.specs.Closure.{closure, if_alive};
 ghost use Rattle.solve_core.specs.Extensions.{extensions_of};
@@ -52,33 +52,33 @@ impl AnyWorkspace {
         })
     }
 
-    /// Returns a workspace for `puzzle`: this one, prepared for it, or a new one if the puzzle
-    /// takes sets of another width. Fails with `NoMemory` if an allocation fails.
-    pub fn reset(self, alloc: Global, puzzle: &Puzzle) -> Result<AnyWorkspace, NoMemory>
-        ensures { IfOk result (IsPreparedFor puzzle.now) }
+    /// Prepares the workspace for `puzzle`, or replaces it by a new one if the puzzle takes sets of
+    /// another width. Fails with `NoMemory` if an allocation fails; the workspace has the puzzle it
+    /// had then.
+    pub fn reset(&mut self, alloc: Global, puzzle: &Puzzle) -> Result<(), NoMemory>
+        ensures { OnOk result (IsPreparedFor puzzle.now self.new) }
     {
-        let AnyWorkspace { sized } = self;
-        let sized = match (width_for(puzzle.rows(), puzzle.columns()), sized) {
-            (SetWidth::Narrow, SizedWorkspace::Narrow(workspace)) => {
-                SizedWorkspace::Narrow(workspace.reset(alloc, puzzle)?)
+        match width_for(puzzle.rows(), puzzle.columns()) {
+            SetWidth::Narrow => {
+                if let SizedWorkspace::Narrow(workspace) = &mut self.sized {
+                    return workspace.reset(alloc, puzzle);
+                }
+                self.sized = SizedWorkspace::Narrow(Workspace::prepared(alloc, puzzle)?);
             }
-            (SetWidth::Middle, SizedWorkspace::Middle(workspace)) => {
-                SizedWorkspace::Middle(workspace.reset(alloc, puzzle)?)
+            SetWidth::Middle => {
+                if let SizedWorkspace::Middle(workspace) = &mut self.sized {
+                    return workspace.reset(alloc, puzzle);
+                }
+                self.sized = SizedWorkspace::Middle(Workspace::prepared(alloc, puzzle)?);
             }
-            (SetWidth::Wide, SizedWorkspace::Wide(workspace)) => {
-                SizedWorkspace::Wide(workspace.reset(alloc, puzzle)?)
+            SetWidth::Wide => {
+                if let SizedWorkspace::Wide(workspace) = &mut self.sized {
+                    return workspace.reset(alloc, puzzle);
+                }
+                self.sized = SizedWorkspace::Wide(Workspace::prepared(alloc, puzzle)?);
             }
-            (SetWidth::Narrow, _) => {
-                SizedWorkspace::Narrow(Workspace::new(alloc)?.reset(alloc, puzzle)?)
-            }
-            (SetWidth::Middle, _) => {
-                SizedWorkspace::Middle(Workspace::new(alloc)?.reset(alloc, puzzle)?)
-            }
-            (SetWidth::Wide, _) => {
-                SizedWorkspace::Wide(Workspace::new(alloc)?.reset(alloc, puzzle)?)
-            }
-        };
-        Ok(AnyWorkspace { sized })
+        }
+        Ok(())
     }
 
     /// Closes `grid`, which has the puzzle's size, under line deduction. Returns whether it is

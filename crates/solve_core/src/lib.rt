@@ -15,7 +15,6 @@
 #![tactic(auto)]
 
 mod any_workspaces;
-mod buffers;
 mod deducing;
 mod extensions;
 mod findings;

@@ -18,6 +18,28 @@ struct ReportBuffers {
     branches: Vec<Branch>,
 }
 
+impl ReportBuffers {
+    /// Returns the report on `puzzle`, as the function `report` does. Fails with `NoMemory` if an
+    /// allocation fails.
+    fn report(
+        &mut self,
+        alloc: Global,
+        puzzle: &Puzzle,
+        guesses: u32,
+        pick: Pick,
+    ) -> Result<Findings, NoMemory>
+        ensures findings { IfOk result (λ findings.
+            findings ≡ findings_of pick puzzle.now guesses) }
+        ensures holds { IfOk result (λ findings.
+            Holds (picked pick puzzle.now.width) puzzle.now guesses findings.verdict) }
+        ensures spent { IfOk result (λ findings. findings.spent ≤ guesses) }
+    {
+        self.workspace.reset(alloc, puzzle)?;
+        self.workspace
+            .report(alloc, &mut self.branches, guesses, pick)
+    }
+}
+
 /// A reporter on one puzzle after another. It keeps its buffers for puzzles of the same set width.
 #[derive(Drop)]
 pub struct Reporter {
@@ -45,21 +67,15 @@ impl Reporter {
             Holds (picked pick puzzle.now.width) puzzle.now guesses findings.verdict) }
         ensures spent { IfOk result (λ findings. findings.spent ≤ guesses) }
     {
-        let (workspace, mut branches) = match self.kept.take() {
-            Some(
-                ReportBuffers {
-                    workspace,
-                    branches,
-                },
-            ) => { (workspace, branches) }
-            None => (AnyWorkspace::new(alloc)?, Vec::new(alloc)),
+        if let Some(buffers) = &mut self.kept {
+            return buffers.report(alloc, puzzle, guesses, pick);
+        }
+        let mut buffers = ReportBuffers {
+            workspace: AnyWorkspace::new(alloc)?,
+            branches: Vec::new(alloc),
         };
-        let mut workspace = workspace.reset(alloc, puzzle)?;
-        let findings = workspace.report(alloc, &mut branches, guesses, pick)?;
-        self.kept = Some(ReportBuffers {
-            workspace,
-            branches,
-        });
+        let findings = buffers.report(alloc, puzzle, guesses, pick)?;
+        self.kept = Some(buffers);
         Ok(findings)
     }
 }

@@ -48,10 +48,9 @@ impl<'p> Solver<'p> {
     pub fn new(alloc: Global, puzzle: &'p Puzzle) -> Result<Solver<'p>, NoMemory>
         ensures { IfOk result (λ solver. solver ≡ puzzle.now) }
     {
-        Ok(Solver {
-            puzzle,
-            workspace: AnyWorkspace::new(alloc)?.reset(alloc, puzzle)?,
-        })
+        let mut workspace = AnyWorkspace::new(alloc)?;
+        workspace.reset(alloc, puzzle)?;
+        Ok(Solver { puzzle, workspace })
     }
 
     /// Closes `grid`, which has the puzzle's size, under line deduction. Returns whether it is

@@ -1,5 +1,5 @@
 -- A grid as its rows and its columns.
-use Rattle.std.specs.Prelude.{◌≡◌, ℕ, ◌*◌, ◌<◌, List, [], length, true, slice_index_or}
+use Rattle.std.specs.Prelude.{◌≡◌, ℕ, ◌*◌, ◌<◌, List, [], length, replicate, true, slice_index_or}
 use Rattle.bit_sets.specs.Masks.{Has}
 use Rattle.grid_core.specs.Cells.{is_known}
 use Rattle.grid_core.specs.declared.cells.Cell.{Cell}
@@ -19,6 +19,11 @@ pub record AreLinesOf (cells : List Cell) (rows columns : List (List Cell)) : Ty
       cells_at Unknown cells (line_indices Rows (length columns) (length rows) y)
   pub columns_are : (x : ℕ) → x < length columns → slice_index_or columns x [] ≡
       cells_at Unknown cells (line_indices Columns (length columns) (length rows) x)
+
+-- the unknown grid of this size
+abbrev pub unknown_lines : ℕ → ℕ → PartialGrid
+unknown_lines width height =
+    record { width = width; height = height; cells = replicate (width * height) Unknown }
 
 -- the cells of line `i` of an axis
 abbrev pub line_in : PartialGrid → Axis → ℕ → List Cell

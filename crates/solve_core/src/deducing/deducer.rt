@@ -12,6 +12,7 @@ use grid_core::{Clue, MAX_SIDE, NoMemory};
 use line_core::{BitLine, LineBits, Tables};
 use std::alloc::Global;
 use std::marker::Model;
+use std::mem::swap;
 
 /// The clues of a puzzle's lines, and all that is kept of deducing these: a cache, once it is
 /// enabled, and lookahead tables. Each line is given by the index of its clue and by its cells.
@@ -57,11 +58,12 @@ fn copy_answer<W: LineBits>(answer: &Option<BitLine<W>>) -> Option<BitLine<W>>
 }
 
 /// Appends copies of `clues` to `list`. Fails with `NoMemory` if an allocation fails.
-fn append_clues(alloc: Global, list: &mut Vec<Clue>, clues: &[Clue]) -> Result<(), NoMemory>
+pub fn append_clues(alloc: Global, list: &mut Vec<Clue>, clues: &[Clue]) -> Result<(), NoMemory>
     ensures { OnOk result (list.new.items ≡ list.old.items ++ clues.now) }
 {
+    list.reserve(clues.len())?;
     for clue in clues {
-        list.push(clue.copy(alloc)?)?;
+        list.push_reserved(clue.copy(alloc)?);
     }
     Ok(())
 }
@@ -83,37 +85,25 @@ impl<W: LineBits> Deducer<W> {
         })
     }
 
-    /// Returns the deducer, prepared for the lines of the puzzle with the clues `rows` and
-    /// `columns`. Fails with `NoMemory` if an allocation fails.
-    pub fn reset(
-        self,
-        alloc: Global,
-        rows: &[Clue],
-        columns: &[Clue],
-    ) -> Result<Deducer<W>, NoMemory>
-        requires size { IsSize (length columns.now) (length rows.now) }
-        requires clues { AllByRecursion (λ clue. is_clue W.WIDTH clue ≡ true)
-            (rows.now ++ columns.now) }
-        ensures { IfOk result (λ deducer. deducer ≡ rows.now ++ columns.now) }
+    /// Reserves room for the deductions of a puzzle with `width` columns and `height` rows, and
+    /// forgets all so far. Fails with `NoMemory` if an allocation fails.
+    pub fn reserve(&mut self, alloc: Global, width: u16, height: u16) -> Result<(), NoMemory>
+        requires { IsSize width height }
+        ensures { self.new ≡ self.old }
     {
-        let Deducer {
-            mut clues,
-            tables,
-            cache,
-            mut lookahead,
-        } = self;
-        clues.clear();
-        append_clues(alloc, &mut clues, rows)?;
-        append_clues(alloc, &mut clues, columns)?;
-        let (width, height) = (columns.len(), rows.len());
-        let cache = cache.reset(alloc, width * height)?;
-        lookahead.reset(alloc, width as u16, height as u16)?;
-        Ok(Deducer {
-            clues,
-            tables,
-            cache,
-            lookahead,
-        })
+        self.cache.reset(usize::from(width) * usize::from(height))?;
+        self.lookahead.reset(alloc, width, height)
+    }
+
+    /// Swaps the clues with `clues`, those of another puzzle, for which room has been reserved, and
+    /// forgets all deductions. Allocates nothing.
+    pub fn swap_clues(&mut self, clues: &mut Vec<Clue>)
+        requires { AllByRecursion (λ clue. is_clue W.WIDTH clue ≡ true) clues.old.items }
+        ensures { self.new ≡ clues.old.items }
+    {
+        self.cache.clear();
+        self.lookahead.clear();
+        swap(&mut self.clues, clues);
     }
 
     /// Enables the cache, which pays once trials deduce lines again and again. Allocates nothing.

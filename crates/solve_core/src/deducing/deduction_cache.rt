@@ -3,7 +3,6 @@ ghost use Rattle.std.specs.Prelude.{[], ◌≡◌, ◌≤◌, vec_capacity, IsTr
 ghost use Rattle.std.specs.List.{Contains};
 ghost use Rattle.solve_core.specs.steps.DeductionCache.{IsInsertedInto};
 
-use crate::buffers::cleared_with_capacity;
 use grid_core::NoMemory;
 use line_core::{BitLine, LineBits};
 use std::alloc::Global;
@@ -118,43 +117,37 @@ impl<W: LineBits> Model for DeductionCache<W> {
 }
 
 impl<W: LineBits> DeductionCache<W> {
-    /// Returns an empty cache for `capacity` deductions, 1 to 16,384, in the buffers `slots` and
-    /// `entries`. Fails with `NoMemory` if an allocation fails.
-    fn in_buffers(
-        alloc: Global,
-        slots: Vec<u16>,
-        entries: Vec<CachedDeduction<W>>,
-        capacity: usize,
-    ) -> Result<DeductionCache<W>, NoMemory>
-        requires { (1 ≤ capacity) × (capacity ≤ MAX_CACHED) }
-        ensures { IfOk result (λ cache. cache ≡ []) }
-    {
-        Ok(DeductionCache {
-            capacity,
-            slots: cleared_with_capacity(alloc, slots, capacity)?,
-            entries: cleared_with_capacity(alloc, entries, capacity)?,
-        })
-    }
-
     /// Returns a cache for one deduction. Fails with `NoMemory` if an allocation fails.
     pub fn new(alloc: Global) -> Result<DeductionCache<W>, NoMemory>
         ensures { IfOk result (λ cache. cache ≡ []) }
     {
-        DeductionCache::in_buffers(alloc, Vec::new(alloc), Vec::new(alloc), 1)
+        Ok(DeductionCache {
+            capacity: 1,
+            slots: Vec::with_capacity(alloc, 1)?,
+            entries: Vec::with_capacity(alloc, 1)?,
+        })
     }
 
-    /// Returns the cache, emptied, and with buffers in proportion to the `cells` of a puzzle.
-    /// Nothing is cached before `enable` is called. Fails with `NoMemory` if an allocation fails.
-    pub fn reset(self, alloc: Global, cells: usize) -> Result<DeductionCache<W>, NoMemory>
+    /// Clears the cache, and reserves room in proportion to the `cells` of a puzzle. Nothing is
+    /// cached before `enable` is called. Fails with `NoMemory` if an allocation fails.
+    pub fn reset(&mut self, cells: usize) -> Result<(), NoMemory>
         requires { cells ≤ 65536 }
-        ensures { IfOk result (λ cache. cache ≡ []) }
+        ensures { self.new ≡ [] }
     {
-        let DeductionCache {
-            capacity: _,
-            slots,
-            entries,
-        } = self;
-        DeductionCache::in_buffers(alloc, slots, entries, capacity_for::<W>(cells))
+        self.clear();
+        let capacity = capacity_for::<W>(cells);
+        self.slots.reserve(capacity)?;
+        self.entries.reserve(capacity)?;
+        self.capacity = capacity;
+        Ok(())
+    }
+
+    /// Removes all deductions. Nothing is cached before `enable` is called.
+    pub fn clear(&mut self)
+        ensures { self.new ≡ [] }
+    {
+        self.slots.clear();
+        self.entries.clear();
     }
 
     /// Enables the cache, and has no effect if it is enabled. Allocates nothing.

@@ -1,5 +1,5 @@
 //! The board of a search: a grid as rows and columns, with a trail by which assignments are undone.
-ghost use Rattle.std.specs.Prelude.{◌≡◌, ℕ, ◌+◌, ◌-◌, ◌*◌, ◌<◌, ◌≤◌, length, replicate, take, slice_index_or, slice_set, true, IfOk};
+ghost use Rattle.std.specs.Prelude.{◌≡◌, ℕ, ◌+◌, ◌-◌, ◌*◌, ◌<◌, ◌≤◌, length, take, slice_index_or, slice_set, true, IfOk, OnErr, OnOk};
 ghost use Rattle.grid_core.specs.Cells.{is_known};
 ghost use Rattle.grid_core.specs.Nonogram.{line_indices};
 ghost use Rattle.grid_core.specs.steps.Axes.{line_count};
@@ -11,7 +11,6 @@ ghost use Rattle.solve_core.specs.steps.Boards.{board_without_trail, cells_along
 ghost use Rattle.solve_core.specs.steps.Branches.{cells_before};
 ghost use Rattle.solve_core.specs.steps.Trails.{IsTrailed, unknown_count};
 
-use crate::buffers::cleared_with_capacity;
 use crate::grids::grid_lines::GridLines;
 use crate::grids::trails::TrailEntry;
 use bit_sets::BitSet;
@@ -48,40 +47,29 @@ impl<W: LineBits> Model for Board<W> {
 }
 
 impl<W: LineBits> Board<W> {
-    /// Returns the board of `lines`, an unknown grid of `width` columns and `height` rows, with an
-    /// empty trail in the buffer of `trail`. Fails with `NoMemory` if an allocation fails.
-    fn with_trail(
-        alloc: Global,
-        lines: GridLines<W>,
-        trail: Vec<TrailEntry<W>>,
-    ) -> Result<Board<W>, NoMemory>
-        requires fits { (lines.width ≤ W.WIDTH) × (lines.height ≤ W.WIDTH) }
-        requires unknown { lines.cells ≡ replicate (lines.width * lines.height) Unknown }
-        ensures { IfOk result (λ board. board ≡ unknown_board lines.width lines.height) }
-    {
-        let trail = cleared_with_capacity(alloc, trail, lines.count())?;
-        Ok(Board { lines, trail })
-    }
-
     /// Returns a board of one unknown cell. Fails with `NoMemory` if an allocation fails.
     pub fn new(alloc: Global) -> Result<Board<W>, NoMemory>
         ensures { IfOk result (λ board. board ≡ unknown_board 1 1) }
     {
-        let lines = GridLines::unknown(alloc, Vec::new(alloc), Vec::new(alloc), 1, 1)?;
-        Board::with_trail(alloc, lines, Vec::new(alloc))
+        Ok(Board {
+            lines: GridLines::new(alloc)?,
+            trail: Vec::with_capacity(alloc, 1)?,
+        })
     }
 
-    /// Returns the board with `width` columns and `height` rows, whose cells are all unknown, and
-    /// an empty trail. Fails with `NoMemory` if an allocation fails.
-    pub fn reset(self, alloc: Global, width: u16, height: u16) -> Result<Board<W>, NoMemory>
+    /// Replaces the board by one of `width` columns and `height` rows, whose cells are all unknown,
+    /// with an empty trail. Fails with `NoMemory` if an allocation fails, and changes nothing then.
+    pub fn reset(&mut self, width: u16, height: u16) -> Result<(), NoMemory>
         requires size { IsSize width height }
         requires fits { (width ≤ W.WIDTH) × (height ≤ W.WIDTH) }
-        ensures { IfOk result (λ board. board ≡ unknown_board width height) }
+        ensures ok { OnOk result (self.new ≡ unknown_board width height) }
+        ensures err { OnErr result (self.new ≡ self.old) }
     {
-        let Board { lines, trail } = self;
-        let (rows, columns) = lines.into_lists();
-        let lines = GridLines::unknown(alloc, rows, columns, width, height)?;
-        Board::with_trail(alloc, lines, trail)
+        let cells = usize::from(width) * usize::from(height);
+        self.trail.reserve(cells.saturating_sub(self.trail.len()))?;
+        self.trail.clear();
+        self.lines.reset(width, height);
+        Ok(())
     }
 
     /// Returns the board's rows and columns.

@@ -7,12 +7,11 @@ ghost use Rattle.grid_core.specs.Rows.{cells_of_rows, row_of};
 ghost use Rattle.grid_core.specs.declared.cells.Cell.TheVariants.{Unknown};
 ghost use Rattle.grid_core.specs.declared.axes.Axis.TheVariants.{Rows, Columns};
 ghost use Rattle.grid_core.specs.Lines.{IsUnknownCell, IsUnknownFrom};
-ghost use Rattle.solve_core.specs.steps.GridLines.{with_line, AreLinesOf, CanReplace};
+ghost use Rattle.solve_core.specs.steps.GridLines.{unknown_lines, with_line, AreLinesOf, CanReplace};
 ghost use Rattle.bit_sets.specs.Masks.{Has};
 ghost use Rattle.solve_core.specs.steps.Boards.{board_without_trail, cells_along, IsWhole};
 ghost use Rattle.solve_core.specs.Picks.{most_known};
 
-use crate::buffers::cleared_with_capacity;
 use crate::grids::crossing_writes::write_changes;
 use crate::picks::{RowSets, in_at_least, known_across, known_beside, most_known};
 use bit_sets::next_index;
@@ -22,10 +21,12 @@ use std::alloc::Global;
 use std::marker::Model;
 
 /// A grid that stores each row and each column as a line, so that no line has to be gathered cell
-/// by cell. Each cell stands in its row and in its column.
+/// by cell. Each cell stands in its row and in its column. The capacities suffice for all grids
+/// whose lines the sets fit.
 pub struct GridLines<W: LineBits> {
     rows: Vec<BitLine<W>>,
     columns: Vec<BitLine<W>>,
+    ghost capacity: { (W.WIDTH ≤ vec_capacity rows) × (W.WIDTH ≤ vec_capacity columns) },
 }
 
 /// Written by hand so that callers' proofs see one call: a derived drop is expanded at each exit of
@@ -56,19 +57,18 @@ impl<W: LineBits> Model for GridLines<W> {
     ghost invariant = { λ g. AreLinesOf (cells_of_rows g.rows.items) g.rows.items g.columns.items };
 }
 
-/// Returns `count` unknown lines of `len` cells each, in the buffer of `list`, which is empty.
-/// Allocates nothing: its capacity has to be at least `count`.
-fn unknown_lines<W: LineBits>(list: Vec<BitLine<W>>, len: u16, count: u16) -> Vec<BitLine<W>>
+/// Replaces the contents of `lines` by `count` unknown lines of `len` cells each. Allocates nothing:
+/// the capacity has to be at least `count`.
+fn fill_with_unknown<W: LineBits>(lines: &mut Vec<BitLine<W>>, len: u16, count: u16)
     requires len { (1 ≤ len) × (len ≤ W.WIDTH) }
-    requires empty { list.items ≡ [] }
-    requires capacity { count ≤ vec_capacity list }
-    ensures { result.items ≡ replicate count (replicate len Unknown) }
+    requires capacity { count ≤ vec_capacity lines.old }
+    ensures lines { lines.new.items ≡ replicate count (replicate len Unknown) }
+    ensures capacity { vec_capacity lines.new ≡ vec_capacity lines.old }
 {
-    let mut lines = list;
+    lines.clear();
     for _ in 0..count {
         lines.push_reserved(BitLine::unknown(len));
     }
-    lines
 }
 
 /// Loads the rows of `grid`, a whole row at a time.
@@ -167,35 +167,25 @@ fn known_in<W: LineBits>(line: &BitLine<W>) -> u32
 }
 
 impl<W: LineBits> GridLines<W> {
-    /// Returns the rows and the columns.
-    pub fn into_lists(self) -> (Vec<BitLine<W>>, Vec<BitLine<W>>) {
-        let GridLines { rows, columns } = self;
-        (rows, columns)
+    /// Returns a grid of one unknown cell. Fails with `NoMemory` if an allocation fails.
+    pub fn new(alloc: Global) -> Result<GridLines<W>, NoMemory>
+        ensures { IfOk result (λ lines. lines ≡ unknown_lines 1 1) }
+    {
+        let mut rows = Vec::with_capacity(alloc, usize::from(W::WIDTH))?;
+        let mut columns = Vec::with_capacity(alloc, usize::from(W::WIDTH))?;
+        fill_with_unknown(&mut rows, 1, 1);
+        fill_with_unknown(&mut columns, 1, 1);
+        Ok(GridLines { rows, columns })
     }
 
-    /// Returns an unknown grid of `width` columns and `height` rows, in the buffers of `rows` and
-    /// `columns` if their capacities suffice. Fails with `NoMemory` if an allocation fails.
-    pub fn unknown(
-        alloc: Global,
-        rows: Vec<BitLine<W>>,
-        columns: Vec<BitLine<W>>,
-        width: u16,
-        height: u16,
-    ) -> Result<GridLines<W>, NoMemory>
+    /// Replaces the grid by an unknown one of `width` columns and `height` rows. Allocates nothing.
+    pub fn reset(&mut self, width: u16, height: u16)
         requires size { IsSize width height }
         requires fits { (width ≤ W.WIDTH) × (height ≤ W.WIDTH) }
-        ensures { IfOk result (λ lines. lines ≡ record {
-          width = width;
-          height = height;
-          cells = replicate (width * height) Unknown;
-        }) }
+        ensures { self.new ≡ unknown_lines width height }
     {
-        let rows = cleared_with_capacity(alloc, rows, usize::from(height))?;
-        let columns = cleared_with_capacity(alloc, columns, usize::from(width))?;
-        Ok(GridLines {
-            rows: unknown_lines(rows, width, height),
-            columns: unknown_lines(columns, height, width),
-        })
+        fill_with_unknown(&mut self.rows, width, height);
+        fill_with_unknown(&mut self.columns, height, width);
     }
 
     /// Returns how many cells a row has.

@@ -1,16 +1,14 @@
 //! Sets of indices along a line, one for each colour.
 
-ghost use Rattle.std.specs.Prelude.{◌≡◌, ◌<◌, ◌≤◌, ◌⊎◌, ℕ, length, replicate, slice_index_or, vec_capacity, IfOk};
+ghost use Rattle.std.specs.Prelude.{◌≡◌, ◌<◌, ◌≤◌, ◌⊎◌, ℕ, length, replicate, slice_index_or, vec_capacity};
 ghost use Rattle.grid_core.specs.declared.cells.Cell.{Cell as CellValue};
 ghost use Rattle.grid_core.specs.declared.cells.Cell.TheVariants.{Unknown};
 ghost use Rattle.bit_sets.specs.Masks.{Has, has, IsMaskOf};
 ghost use Rattle.solve_core.specs.steps.ColourMasks.{mask_of, no_colours};
 
-use crate::buffers::cleared_with_capacity;
 use bit_sets::BitSet;
-use grid_core::{Cell, NoMemory};
+use grid_core::Cell;
 use line_core::BitLine;
-use std::alloc::Global;
 use std::marker::Model;
 
 /// A set of indices for filled, and one for blank.
@@ -102,24 +100,11 @@ pub fn join_each<W: BitSet>(sets: &mut [ColourSets<W>], others: &[ColourSets<W>]
 /// capacity has to be at least `count`.
 pub fn fill_with_none<W: BitSet>(sets: &mut Vec<ColourSets<W>>, count: usize)
     requires { count ≤ vec_capacity sets.old }
-    ensures { sets.new.items ≡ replicate count no_colours }
+    ensures sets { sets.new.items ≡ replicate count no_colours }
+    ensures capacity { vec_capacity sets.new ≡ vec_capacity sets.old }
 {
     sets.clear();
     for _ in 0..count {
         sets.push_reserved(ColourSets::none());
     }
-}
-
-/// Returns a list of `count` pairs of empty sets, reusing the buffer of `sets` if its capacity
-/// suffices. Fails with `NoMemory` if an allocation fails.
-pub fn with_sets<W: BitSet>(
-    alloc: Global,
-    sets: Vec<ColourSets<W>>,
-    count: usize,
-) -> Result<Vec<ColourSets<W>>, NoMemory>
-    ensures { IfOk result (λ sets. sets.items ≡ replicate count no_colours) }
-{
-    let mut sets = cleared_with_capacity(alloc, sets, count)?;
-    fill_with_none(&mut sets, count);
-    Ok(sets)
 }

@@ -43,7 +43,7 @@ impl<W: LineBits> ConflictHints<W> {
     /// Removes all conflict lines, and allocates the buffer for a puzzle of `cells` cells; none is
     /// needed if the sets are wider than `MAX_HINTED_WIDTH`. Fails with `NoMemory` if an allocation
     /// fails.
-    pub fn reset(&mut self, alloc: Global, cells: usize) -> Result<(), NoMemory> {
+    pub fn reset(&mut self, cells: usize) -> Result<(), NoMemory> {
         self.conflicts.clear();
         if W::WIDTH <= MAX_HINTED_WIDTH {
             self.conflicts.reserve(cells)?;

@@ -1,5 +1,5 @@
 //! Consistent colours of a grid's cells: those that are known not to be refuted, and need no trial.
-ghost use Rattle.std.specs.Prelude.{◌≡◌, ◌+◌, ◌*◌, ◌/◌, ◌%◌, ◌<◌, ◌≤◌, ◌↔◌, ℕ, List, Some, false, length, IsTrue, IfOk, IfSome};
+ghost use Rattle.std.specs.Prelude.{◌≡◌, ◌+◌, ◌*◌, ◌/◌, ◌%◌, ◌<◌, ◌≤◌, ◌↔◌, ℕ, List, Some, false, length, vec_capacity, IsTrue, IfOk, IfSome};
 ghost use Rattle.grid_core.specs.declared.cells.Cell.{Cell as CellValue};
 ghost use Rattle.grid_core.specs.Cells.{Extends};
 ghost use Rattle.grid_core.specs.Lines.{IsUnknownCell};
@@ -10,7 +10,7 @@ ghost use Rattle.solve_core.specs.Trials.{is_refuted};
 ghost use Rattle.solve_core.specs.steps.ConsistentColours.{AreBothRecorded, AreConsistent, AreRecordedFrom, IsRecorded};
 
 use crate::grids::grid_lines::GridLines;
-use crate::records::colour_sets::{ColourSets, fill_with_none, join_each, with_sets};
+use crate::records::colour_sets::{ColourSets, fill_with_none, join_each};
 use bit_sets::next_index;
 use grid_core::{Axis, Cell, NoMemory};
 use line_core::LineBits;
@@ -25,6 +25,7 @@ pub struct ConsistentColours<W: LineBits> {
     /// For each row, the colours that were recorded before more cells became known. Most of these
     /// still aren't refuted, so trials of them are postponed.
     postponed: Vec<ColourSets<W>>,
+    ghost capacity: { (W.WIDTH ≤ vec_capacity rows) × (W.WIDTH ≤ vec_capacity postponed) },
 }
 
 impl<W: LineBits> Model for ConsistentColours<W> {
@@ -41,22 +42,21 @@ impl<W: LineBits> ConsistentColours<W> {
     pub fn new(alloc: Global) -> Result<ConsistentColours<W>, NoMemory>
         ensures { IfOk result (λ colours. length colours ≡ 1) }
     {
-        Ok(ConsistentColours {
-            rows: with_sets(alloc, Vec::new(alloc), 1)?,
-            postponed: with_sets(alloc, Vec::new(alloc), 1)?,
-        })
+        let mut colours = ConsistentColours {
+            rows: Vec::with_capacity(alloc, usize::from(W::WIDTH))?,
+            postponed: Vec::with_capacity(alloc, usize::from(W::WIDTH))?,
+        };
+        colours.reset(1);
+        Ok(colours)
     }
 
-    /// Returns the record, emptied, for a grid of `height` rows. Fails with `NoMemory` if an
-    /// allocation fails.
-    pub fn reset(self, alloc: Global, height: u16) -> Result<ConsistentColours<W>, NoMemory>
-        ensures { IfOk result (λ colours. length colours ≡ height) }
+    /// Replaces the record by an empty one for a grid of `height` rows. Allocates nothing.
+    pub fn reset(&mut self, height: u16)
+        requires { height ≤ W.WIDTH }
+        ensures { length self.new ≡ height }
     {
-        let ConsistentColours { rows, postponed } = self;
-        Ok(ConsistentColours {
-            rows: with_sets(alloc, rows, usize::from(height))?,
-            postponed: with_sets(alloc, postponed, usize::from(height))?,
-        })
+        fill_with_none(&mut self.rows, usize::from(height));
+        fill_with_none(&mut self.postponed, usize::from(height));
     }
 
     /// Clears the record, which is then correct for any grid. No colour is postponed.

@@ -1,5 +1,5 @@
 //! A puzzle that is being solved, in sets of one width.
-ghost use Rattle.std.specs.Prelude.{◌≡◌, ◌+◌, ◌*◌, ◌<◌, length, IfOk};
+ghost use Rattle.std.specs.Prelude.{◌≡◌, ◌+◌, ◌*◌, ◌<◌, length, IfOk, OnOk};
 ghost use Rattle.grid_core.specs.Nonogram.{lines_of};
 ghost use Rattle.grid_core.specs.steps.Axes.{line_count};
 ghost use Rattle.solve_core.specs.Closure.{closure, if_alive};
@@ -8,12 +8,12 @@ ghost use Rattle.solve_core.specs.Trials.{trials};
 ghost use Rattle.solve_core.specs.steps.Widths.{FitsIn};
 ghost use Rattle.solve_core.specs.steps.Workspaces.{clue_index, IsPreparedFor};
 
-use crate::deducing::deducer::Deducer;
+use crate::deducing::deducer::{Deducer, append_clues};
 use crate::grids::boards::Board;
 use crate::grids::line_mask::LineMask;
 use crate::records::conflict_hints::ConflictHints;
 use crate::records::consistent::ConsistentColours;
-use grid_core::{Axis, Grid, NoMemory, Puzzle};
+use grid_core::{Axis, Clue, Grid, NoMemory, Puzzle};
 use line_core::LineBits;
 use std::alloc::Global;
 use std::marker::Model;
@@ -22,6 +22,8 @@ use std::marker::Model;
 /// All memory is allocated before the first line is deduced, and is used again for the next puzzle.
 pub struct Workspace<W: LineBits> {
     pub(crate) deducer: Deducer<W>,
+    /// The clues of the next puzzle, while the workspace is prepared for it.
+    next_clues: Vec<Clue>,
     pub(crate) board: Board<W>,
     /// The dirty lines, which may deduce more than their cells show.
     pub(crate) dirty: LineMask<W>,
@@ -37,6 +39,7 @@ impl<W: LineBits> Drop for Workspace<W> {
     fn drop(self) {
         let Workspace {
             deducer: _,
+            next_clues: _,
             board: _,
             dirty: _,
             conflict_hints: _,
@@ -63,6 +66,7 @@ impl<W: LineBits> Workspace<W> {
     pub fn new(alloc: Global) -> Result<Workspace<W>, NoMemory> {
         Ok(Workspace {
             deducer: Deducer::new(alloc)?,
+            next_clues: Vec::new(alloc),
             board: Board::new(alloc)?,
             dirty: LineMask::none(),
             conflict_hints: ConflictHints::new(alloc),
@@ -71,30 +75,37 @@ impl<W: LineBits> Workspace<W> {
         })
     }
 
-    /// Returns the workspace, prepared for `puzzle`, with a board whose cells are all unknown.
-    /// Fails with `NoMemory` if an allocation fails.
-    pub fn reset(self, alloc: Global, puzzle: &Puzzle) -> Result<Workspace<W>, NoMemory>
+    /// Prepares the workspace for `puzzle`, with a board whose cells are all unknown. Fails with
+    /// `NoMemory` if an allocation fails; the workspace has the puzzle it had then.
+    pub fn reset(&mut self, alloc: Global, puzzle: &Puzzle) -> Result<(), NoMemory>
+        requires { FitsIn W.WIDTH puzzle.now.rows puzzle.now.columns }
+        ensures { OnOk result (IsPreparedFor puzzle.now self.new) }
+    {
+        let (width, height) = (puzzle.width(), puzzle.height());
+        // All that can fail comes before the first part that is of `puzzle`.
+        self.next_clues.clear();
+        append_clues(alloc, &mut self.next_clues, puzzle.rows())?;
+        append_clues(alloc, &mut self.next_clues, puzzle.columns())?;
+        self.conflict_hints
+            .reset(usize::from(width) * usize::from(height))?;
+        self.deducer.reserve(alloc, width, height)?;
+        self.board.reset(width, height)?;
+        self.deducer.swap_clues(&mut self.next_clues);
+        self.consistent.reset(height);
+        self.dirty = LineMask::none();
+        self.live_streak = 0;
+        Ok(())
+    }
+
+    /// Returns a workspace that is prepared for `puzzle`. Fails with `NoMemory` if an allocation
+    /// fails.
+    pub fn prepared(alloc: Global, puzzle: &Puzzle) -> Result<Workspace<W>, NoMemory>
         requires { FitsIn W.WIDTH puzzle.now.rows puzzle.now.columns }
         ensures { IfOk result (IsPreparedFor puzzle.now) }
     {
-        let Workspace {
-            deducer,
-            board,
-            dirty: _,
-            mut conflict_hints,
-            consistent,
-            live_streak: _,
-        } = self;
-        let (width, height) = (puzzle.width(), puzzle.height());
-        conflict_hints.reset(alloc, usize::from(width) * usize::from(height))?;
-        Ok(Workspace {
-            deducer: deducer.reset(alloc, puzzle.rows(), puzzle.columns())?,
-            board: board.reset(alloc, width, height)?,
-            dirty: LineMask::none(),
-            conflict_hints,
-            consistent: consistent.reset(alloc, height)?,
-            live_streak: 0,
-        })
+        let mut workspace = Workspace::new(alloc)?;
+        workspace.reset(alloc, puzzle)?;
+        Ok(workspace)
     }
 
     /// Returns the index of the clue of line `i` of an axis.

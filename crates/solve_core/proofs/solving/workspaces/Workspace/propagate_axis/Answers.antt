@@ -1,12 +1,21 @@
 -- `Workspace::propagate_axis`: deducing a line removes it from the worklist, and adds no line of the same axis.
-use Rattle.solve_core.proofs.Names.{true≢false, arith, bit_at-zero, cases_eq}
+use Rattle.solve_core.proofs.Names.{true≢false, arith, bit_at-zero, cases_eq, rules}
 use Rattle.line_core.proofs.GapRows.{mask_less}
-use Rattle.solve_core.proofs.WorkspaceSteps.{on-then}
+use Rattle.solve_core.proofs.WorkspaceSteps.{later_refl, on-then}
 use Rattle.solve_core.proofs.solving.workspaces.Workspace.propagate_axis.Goals as goal
 use Rattle.solve_core.proofs.solving.workspaces.Workspace.propagate_axis.Goals.{in-Unchanged, in-Changed}
 
 pub loop-axis-smaller : goal.loop-axis-smaller
 loop-axis-smaller g c = mask_less _ _ _ c.first_index-i.ensures.in_mask c.with_bit-left.ensures
+
+pub loop-axis-init : goal.loop-axis-init
+loop-axis-init g c = record {
+  step = search (rules, later_refl);
+  worklist = c.requires;
+  alive = λ e. cc;
+  left = grind (arith, c.on.ensures, c.intersection-left.ensures);
+  within = grind (arith, c.requires.within, c.on.ensures, c.intersection-left.ensures);
+}
 
 pub returns-in-Dead-clause-step : goal.returns-in-Dead-clause-step
 returns-in-Dead-clause-step g c =

@@ -30,24 +30,38 @@ module _ (p : Nonogram) (is : IsNonogram p) (clues : List (List ℕ)) (board : T
         rows = rw board_is long;
       }
 
-pub reset-requires-2-clause-size : goal.reset-requires-2-clause-size
-reset-requires-2-clause-size g c =
-    let is = c.width-width.ensures.puzzle in
-    rw (c.rows.ensures.rows, c.columns.ensures.columns, is.clues.0, is.clues.1) is.size
+pub swap_clues-requires : goal.swap_clues-requires
+swap_clues-requires g c =
+    rw (c.in_ok-append_clues-2.ensures, c.in_ok-append_clues.ensures, c.clear.ensures.items, c.rows.ensures.rows, c.columns.ensures.columns)
+    (clues_fit _ c.args.puzzle.now c.width-width.ensures.puzzle c.requires)
 
-pub reset-requires-2-clause-clues : goal.reset-requires-2-clause-clues
-reset-requires-2-clause-clues g c =
-    rw (c.rows.ensures.rows, c.columns.ensures.columns) (clues_fit _ c.args.puzzle.now c.width-width.ensures.puzzle c.requires)
-
-pub invariant_of-result : goal.invariant_of-result
-invariant_of-result g c =
+pub invariant_of-self-2 : goal.invariant_of-self-2
+invariant_of-self-2 g c =
     let p = c.args.puzzle.now in
-    workspace p c.width-width.ensures.puzzle _ _ _ _ (search (rules, c.in_ok-reset-2.ensures))
-    (search (rules, c.in_ok-reset-3.ensures, c.width-width.ensures.width, c.height-height.ensures))
+    workspace p c.width-width.ensures.puzzle _ _ _ _
+    (search (
+      rules,
+      c.swap_clues.ensures,
+      c.in_ok-append_clues-2.ensures,
+      c.in_ok-append_clues.ensures,
+      c.clear.ensures.items,
+      c.rows.ensures,
+      c.columns.ensures,
+    ))
+    (search (rules, c.in_ok-reset-2.ensures.ok, c.width-width.ensures.width, c.height-height.ensures))
     _ (rw c.width-width.ensures.puzzle.clues.1 at c.requires.width_fits)
-    (rw c.width-width.ensures.puzzle.clues.0 at c.requires.height_fits) (search (rules, c.in_ok-reset-4.ensures, c.height-height.ensures))
+    (rw c.width-width.ensures.puzzle.clues.0 at c.requires.height_fits) (search (rules, c.reset-3.ensures, c.height-height.ensures))
 
 pub returns : goal.returns
 returns g c =
-    prepared c.args.puzzle.now c.width-width.ensures.puzzle _ _ _ _ (search (rules, c.in_ok-reset-2.ensures))
-    (search (rules, c.in_ok-reset-3.ensures, c.width-width.ensures.width, c.height-height.ensures))
+    prepared c.args.puzzle.now c.width-width.ensures.puzzle _ _ _ _
+    (search (
+      rules,
+      c.swap_clues.ensures,
+      c.in_ok-append_clues-2.ensures,
+      c.in_ok-append_clues.ensures,
+      c.clear.ensures.items,
+      c.rows.ensures,
+      c.columns.ensures,
+    ))
+    (search (rules, c.in_ok-reset-2.ensures.ok, c.width-width.ensures.width, c.height-height.ensures))
