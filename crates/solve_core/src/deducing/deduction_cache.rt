@@ -12,7 +12,7 @@ use std::marker::Model;
 pub const MAX_CACHED: usize = 16384;
 
 /// How many deductions are cached for each cell of a puzzle, up to the most for the set width.
-const CACHED_PER_CELL: usize = 16;
+const CACHED_PER_CELL: usize = 8;
 
 /// The content of an empty slot, which is no deduction's index.
 const EMPTY_SLOT: u16 = u16::MAX;
