@@ -28,10 +28,12 @@ pub enum SizedWorkspace {
     Wide(Workspace<Bits256>),
 }
 
-/// A workspace in the narrowest sets that fit its puzzle.
+/// A workspace in the narrowest sets that fit its puzzle, with a buffer for the branches of the
+/// searches of its reports.
 #[derive(Drop)]
 pub struct AnyWorkspace {
     sized: SizedWorkspace,
+    branches: Vec<Branch>,
 }
 
 impl Model for AnyWorkspace {
@@ -49,6 +51,7 @@ impl AnyWorkspace {
     pub fn new(alloc: Global) -> Result<AnyWorkspace, NoMemory> {
         Ok(AnyWorkspace {
             sized: SizedWorkspace::Narrow(Workspace::new(alloc)?),
+            branches: Vec::new(alloc),
         })
     }
 
@@ -63,19 +66,25 @@ impl AnyWorkspace {
                 if let SizedWorkspace::Narrow(workspace) = &mut self.sized {
                     return workspace.reset(alloc, puzzle);
                 }
-                self.sized = SizedWorkspace::Narrow(Workspace::prepared(alloc, puzzle)?);
+                let mut workspace = Workspace::new(alloc)?;
+                workspace.reset(alloc, puzzle)?;
+                self.sized = SizedWorkspace::Narrow(workspace);
             }
             SetWidth::Middle => {
                 if let SizedWorkspace::Middle(workspace) = &mut self.sized {
                     return workspace.reset(alloc, puzzle);
                 }
-                self.sized = SizedWorkspace::Middle(Workspace::prepared(alloc, puzzle)?);
+                let mut workspace = Workspace::new(alloc)?;
+                workspace.reset(alloc, puzzle)?;
+                self.sized = SizedWorkspace::Middle(workspace);
             }
             SetWidth::Wide => {
                 if let SizedWorkspace::Wide(workspace) = &mut self.sized {
                     return workspace.reset(alloc, puzzle);
                 }
-                self.sized = SizedWorkspace::Wide(Workspace::prepared(alloc, puzzle)?);
+                let mut workspace = Workspace::new(alloc)?;
+                workspace.reset(alloc, puzzle)?;
+                self.sized = SizedWorkspace::Wide(workspace);
             }
         }
         Ok(())
@@ -113,19 +122,14 @@ impl AnyWorkspace {
         }
     }
 
-    /// Returns the report on the puzzle, by a board whose cells are all unknown. `branches` is a
-    /// buffer for the branches of the search. Fails with `NoMemory` if an allocation fails.
-    pub fn report(
-        &mut self,
-        alloc: Global,
-        branches: &mut Vec<Branch>,
-        guesses: u32,
-        pick: Pick,
-    ) -> Result<Findings, NoMemory>
+    /// Returns the report on the puzzle, by a board whose cells are all unknown. Fails with
+    /// `NoMemory` if an allocation fails.
+    pub fn report(&mut self, alloc: Global, guesses: u32, pick: Pick) -> Result<Findings, NoMemory>
         requires { self.old.board.cells ≡ unknown_grid self.old.puzzle }
         ensures { IfOk result (λ findings.
             findings ≡ findings_of pick self.old.puzzle guesses) }
     {
+        let branches = &mut self.branches;
         match &mut self.sized {
             SizedWorkspace::Narrow(workspace) => workspace.report(alloc, branches, guesses, pick),
             SizedWorkspace::Middle(workspace) => workspace.report(alloc, branches, guesses, pick),

@@ -7,43 +7,13 @@ ghost use Rattle.solve_core.specs.Verdicts.{Holds};
 use crate::any_workspaces::AnyWorkspace;
 use crate::findings::Findings;
 use crate::picks::Pick;
-use crate::searching::branches::Branch;
 use grid_core::{NoMemory, Puzzle};
 use std::alloc::Global;
-
-/// The buffers of a reporter.
-#[derive(Drop)]
-struct ReportBuffers {
-    workspace: AnyWorkspace,
-    branches: Vec<Branch>,
-}
-
-impl ReportBuffers {
-    /// Returns the report on `puzzle`, as the function `report` does. Fails with `NoMemory` if an
-    /// allocation fails.
-    fn report(
-        &mut self,
-        alloc: Global,
-        puzzle: &Puzzle,
-        guesses: u32,
-        pick: Pick,
-    ) -> Result<Findings, NoMemory>
-        ensures findings { IfOk result (λ findings.
-            findings ≡ findings_of pick puzzle.now guesses) }
-        ensures holds { IfOk result (λ findings.
-            Holds (picked pick puzzle.now.width) puzzle.now guesses findings.verdict) }
-        ensures spent { IfOk result (λ findings. findings.spent ≤ guesses) }
-    {
-        self.workspace.reset(alloc, puzzle)?;
-        self.workspace
-            .report(alloc, &mut self.branches, guesses, pick)
-    }
-}
 
 /// A reporter on one puzzle after another. It keeps its buffers for puzzles of the same set width.
 #[derive(Drop)]
 pub struct Reporter {
-    kept: Option<ReportBuffers>,
+    kept: Option<AnyWorkspace>,
 }
 
 impl Reporter {
@@ -67,15 +37,14 @@ impl Reporter {
             Holds (picked pick puzzle.now.width) puzzle.now guesses findings.verdict) }
         ensures spent { IfOk result (λ findings. findings.spent ≤ guesses) }
     {
-        if let Some(buffers) = &mut self.kept {
-            return buffers.report(alloc, puzzle, guesses, pick);
+        if let Some(workspace) = &mut self.kept {
+            workspace.reset(alloc, puzzle)?;
+            return workspace.report(alloc, guesses, pick);
         }
-        let mut buffers = ReportBuffers {
-            workspace: AnyWorkspace::new(alloc)?,
-            branches: Vec::new(alloc),
-        };
-        let findings = buffers.report(alloc, puzzle, guesses, pick)?;
-        self.kept = Some(buffers);
+        let mut workspace = AnyWorkspace::new(alloc)?;
+        workspace.reset(alloc, puzzle)?;
+        let findings = workspace.report(alloc, guesses, pick)?;
+        self.kept = Some(workspace);
         Ok(findings)
     }
 }

@@ -97,17 +97,6 @@ impl<W: LineBits> Workspace<W> {
         Ok(())
     }
 
-    /// Returns a workspace that is prepared for `puzzle`. Fails with `NoMemory` if an allocation
-    /// fails.
-    pub fn prepared(alloc: Global, puzzle: &Puzzle) -> Result<Workspace<W>, NoMemory>
-        requires { FitsIn W.WIDTH puzzle.now.rows puzzle.now.columns }
-        ensures { IfOk result (IsPreparedFor puzzle.now) }
-    {
-        let mut workspace = Workspace::new(alloc)?;
-        workspace.reset(alloc, puzzle)?;
-        Ok(workspace)
-    }
-
     /// Returns the index of the clue of line `i` of an axis.
     #[inline(always)]
     pub fn clue_index(&self, axis: Axis, i: u16) -> u16
