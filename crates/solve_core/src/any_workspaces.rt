@@ -1,5 +1,5 @@
 //! Workspaces in the narrowest sets that fit their puzzles. Nothing else knows the set widths.
-ghost use Rattle.std.specs.Prelude.{◌≡◌, IfOk, OnOk};
+ghost use Rattle.std.specs.Prelude.{◌≡◌, IfOk, OnErr, OnOk};
 ghost use Rattle.grid_core.specs.Nonogram.{lines_of};
 ghost use Rattle.solve_core.specs.Closure.{closure, if_alive};
 ghost use Rattle.solve_core.specs.Extensions.{extensions_of};
@@ -56,10 +56,10 @@ impl AnyWorkspace {
     }
 
     /// Prepares the workspace for `puzzle`, or replaces it by a new one if the puzzle takes sets of
-    /// another width. Fails with `NoMemory` if an allocation fails; the workspace has the puzzle it
-    /// had then.
+    /// another width. Fails with `NoMemory` if an allocation fails; the workspace is as it was then.
     pub fn reset(&mut self, alloc: Global, puzzle: &Puzzle) -> Result<(), NoMemory>
-        ensures { OnOk result (IsPreparedFor puzzle.now self.new) }
+        ensures ok { OnOk result (IsPreparedFor puzzle.now self.new) }
+        ensures err { OnErr result (self.new ≡ self.old) }
     {
         match width_for(puzzle.rows(), puzzle.columns()) {
             SetWidth::Narrow => {

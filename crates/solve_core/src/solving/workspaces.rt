@@ -1,5 +1,5 @@
 //! A puzzle that is being solved, in sets of one width.
-ghost use Rattle.std.specs.Prelude.{◌≡◌, ◌+◌, ◌*◌, ◌<◌, length, IfOk, OnOk};
+ghost use Rattle.std.specs.Prelude.{◌≡◌, ◌+◌, ◌*◌, ◌<◌, length, OnErr, OnOk};
 ghost use Rattle.grid_core.specs.Nonogram.{lines_of};
 ghost use Rattle.grid_core.specs.steps.Axes.{line_count};
 ghost use Rattle.solve_core.specs.Closure.{closure, if_alive};
@@ -76,10 +76,11 @@ impl<W: LineBits> Workspace<W> {
     }
 
     /// Prepares the workspace for `puzzle`, with a board whose cells are all unknown. Fails with
-    /// `NoMemory` if an allocation fails; the workspace has the puzzle it had then.
+    /// `NoMemory` if an allocation fails; the workspace is as it was then.
     pub fn reset(&mut self, alloc: Global, puzzle: &Puzzle) -> Result<(), NoMemory>
         requires { FitsIn W.WIDTH puzzle.now.rows puzzle.now.columns }
-        ensures { OnOk result (IsPreparedFor puzzle.now self.new) }
+        ensures ok { OnOk result (IsPreparedFor puzzle.now self.new) }
+        ensures err { OnErr result (self.new ≡ self.old) }
     {
         let (width, height) = (puzzle.width(), puzzle.height());
         // All that can fail comes before the first part that is of `puzzle`.

@@ -17,23 +17,23 @@ reported pick p guesses (Ok findings) is same =
 reported pick p guesses (Err e) is same = (same, same)
 
 pub returns-in-Some-clause-findings : goal.returns-in-Some-clause-findings
-returns-in-Some-clause-findings c = rw c.in_ok-reset.ensures.puzzle at c.report.ensures
+returns-in-Some-clause-findings c = rw c.in_ok-reset.ensures.ok.puzzle at c.report.ensures
 
 pub returns-in-Some-clause-holds : goal.returns-in-Some-clause-holds
 returns-in-Some-clause-holds c =
-    (reported c.args.pick c.args.puzzle.now c.args.guesses _ c.in_ok-reset.ensures.nonogram (returns-in-Some-clause-findings c)).0
+    (reported c.args.pick c.args.puzzle.now c.args.guesses _ c.in_ok-reset.ensures.ok.nonogram (returns-in-Some-clause-findings c)).0
 
 pub returns-in-Some-clause-spent : goal.returns-in-Some-clause-spent
 returns-in-Some-clause-spent c =
-    (reported c.args.pick c.args.puzzle.now c.args.guesses _ c.in_ok-reset.ensures.nonogram (returns-in-Some-clause-findings c)).1
+    (reported c.args.pick c.args.puzzle.now c.args.guesses _ c.in_ok-reset.ensures.ok.nonogram (returns-in-Some-clause-findings c)).1
 
 pub returns-clause-findings : goal.returns-clause-findings
-returns-clause-findings c = rw c.in_ok-reset-2.ensures.puzzle at c.in_ok-findings.ensures
+returns-clause-findings c = rw c.in_ok-reset-2.ensures.ok.puzzle at c.in_ok-findings.ensures
 
 pub returns-clause-holds : goal.returns-clause-holds
 returns-clause-holds c =
     rw (returns-clause-findings c) (verdict-Holds (picked c.args.pick c.args.puzzle.now.width) (picked-IsPick _ _) c.args.puzzle.now
-    c.in_ok-reset-2.ensures.nonogram c.args.guesses)
+    c.in_ok-reset-2.ensures.ok.nonogram c.args.guesses)
 
 pub returns-clause-spent : goal.returns-clause-spent
 returns-clause-spent c = search (rules, guesses-within, returns-clause-findings c)

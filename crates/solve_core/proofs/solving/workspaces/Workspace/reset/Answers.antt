@@ -52,8 +52,8 @@ invariant_of-self-2 g c =
     _ (rw c.width-width.ensures.puzzle.clues.1 at c.requires.width_fits)
     (rw c.width-width.ensures.puzzle.clues.0 at c.requires.height_fits) (search (rules, c.reset-3.ensures, c.height-height.ensures))
 
-pub returns : goal.returns
-returns g c =
+pub returns-clause-ok : goal.returns-clause-ok
+returns-clause-ok g c =
     prepared c.args.puzzle.now c.width-width.ensures.puzzle _ _ _ _
     (search (
       rules,
