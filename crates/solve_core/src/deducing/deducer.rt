@@ -57,6 +57,11 @@ fn copy_answer<W: LineBits>(answer: &Option<BitLine<W>>) -> Option<BitLine<W>>
     }
 }
 
+/// Returns how many clues a puzzle has at most whose lines the sets fit.
+pub fn max_clues<W: LineBits>() -> usize {
+    2 * usize::from(W::WIDTH)
+}
+
 /// Appends copies of `clues` to `list`. Fails with `NoMemory` if an allocation fails.
 pub fn append_clues(alloc: Global, list: &mut Vec<Clue>, clues: &[Clue]) -> Result<(), NoMemory>
     ensures { OnOk result (list.new.items ≡ list.old.items ++ clues.now) }
@@ -74,7 +79,7 @@ impl<W: LineBits> Deducer<W> {
     pub fn new(alloc: Global) -> Result<Deducer<W>, NoMemory>
         ensures { IfOk result (λ deducer. deducer ≡ [] ∷ [] ∷ []) }
     {
-        let mut clues = Vec::new(alloc);
+        let mut clues = Vec::with_capacity(alloc, max_clues::<W>())?;
         clues.push(Clue::empty(alloc))?;
         clues.push(Clue::empty(alloc))?;
         Ok(Deducer {

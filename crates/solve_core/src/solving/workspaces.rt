@@ -8,7 +8,7 @@ ghost use Rattle.solve_core.specs.Trials.{trials};
 ghost use Rattle.solve_core.specs.steps.Widths.{FitsIn};
 ghost use Rattle.solve_core.specs.steps.Workspaces.{clue_index, IsPreparedFor};
 
-use crate::deducing::deducer::{Deducer, append_clues};
+use crate::deducing::deducer::{Deducer, append_clues, max_clues};
 use crate::grids::boards::Board;
 use crate::grids::line_mask::LineMask;
 use crate::records::conflict_hints::ConflictHints;
@@ -66,7 +66,7 @@ impl<W: LineBits> Workspace<W> {
     pub fn new(alloc: Global) -> Result<Workspace<W>, NoMemory> {
         Ok(Workspace {
             deducer: Deducer::new(alloc)?,
-            next_clues: Vec::new(alloc),
+            next_clues: Vec::with_capacity(alloc, max_clues::<W>())?,
             board: Board::new(alloc)?,
             dirty: LineMask::none(),
             conflict_hints: ConflictHints::new(alloc),
